@@ -1,0 +1,6 @@
+-- Document 01's cases, shown of the definitions by computation.
+pub mod Board
+pub mod Papers
+pub mod Swaps
+pub mod Readings
+pub mod Status

@@ -1,0 +1,176 @@
+-- 01, "The SCB": status is written at every turn that raises an event or changes a unit's state. The definition writes it where an event is
+-- raised; here is why that is all: a turn that raises nothing leaves both units' states as they were. Assumes nothing.
+use mathlib.Core.Path.{_≡_, refl, sym, ap, _∙_}
+use mathlib.Core.Bool.{Bool, true, false, not, _||_, true≢false, false≢true}
+use mathlib.Core.List.{List, [], _∷_, _++_}
+use Prim.Native.Nat.{ℕ}
+use Rattle.memory.specs.Address.{place, offsetAt}
+use Rattle.memory.specs.Memory.{Write, wordTo, apply}
+use Rattle.memory.specs.declared.Offset.{Offset}
+use Rattle.scb.specs.Words.{anyOf}
+use Rattle.scb.specs.declared.CuState.{CuState}
+use Rattle.scb.specs.declared.CuState.the-variants as cus
+use Rattle.scb.specs.declared.RuState.{RuState}
+use Rattle.scb.specs.declared.RuState.the-variants as rus
+use Rattle.device.specs.Answers.{isStored}
+use Rattle.device.specs.State.{cuState, ruState, isActive, isReady, isHolding}
+use Rattle.device.specs.declared.Begun.{Begun}
+use Rattle.device.specs.declared.Cu.{Cu}
+use Rattle.device.specs.declared.Cu.the-variants as cu
+use Rattle.device.specs.declared.Fate.{Fate}
+use Rattle.device.specs.declared.Ru.{Ru}
+use Rattle.device.specs.declared.Ru.the-variants as ru
+use Rattle.device.specs.declared.Storing.{Storing}
+use Rattle.device.specs.declared.Walk.{Walk}
+use Rattle.command.specs.Part as command
+use Rattle.command.specs.Actions.{Acted, act, sent, notSent}
+use Rattle.command.specs.Begin as command-begin
+use Rattle.command.specs.Buffer as command-buffer
+use Rattle.command.specs.End.{end, afterEnd, linkOf}
+use Rattle.command.specs.Service as command-service
+use Rattle.receive.specs.Part as receive
+use Rattle.receive.specs.Begin as receive-begin
+use Rattle.receive.specs.Buffer as receive-buffer
+use Rattle.receive.specs.End.{fateOf, settles, endAt, before, goesOn, close, lack}
+use Rattle.receive.specs.Service as receive-service
+use Rattle.device.proofs.Laws.{held-ready}
+use Rattle.chip.specs.Turn.{servedBy, commandPart, commandTurn, receivePart, receiveTurn, turnBy, turnOf}
+use Rattle.chip.specs.World.{World, Ran}
+
+-- the only state that is Active, or Ready, is Active, or Ready
+active : (s : CuState) → isActive s ≡ true → s ≡ cus.Active
+active cus.Idle h = absurd (false≢true h)
+active cus.Suspended h = absurd (false≢true h)
+active cus.Active h = refl
+
+ready : (s : RuState) → isReady s ≡ true → s ≡ rus.Ready
+ready rus.Idle h = absurd (false≢true h)
+ready rus.Suspended h = absurd (false≢true h)
+ready rus.NoResources h = absurd (false≢true h)
+ready rus.Ready h = refl
+
+-- ---- the command unit
+
+begun-active : (none : Bool) (b : Begun) (o : Offset) → cuState (command-begin.toFirst none b o) ≡ cus.Active
+begun-active true b o = refl
+begun-active false b o = refl
+
+to-begun-active : (t : Bool) (p : command.Part) (b : Begun) (word : ℕ) (m : List ℕ) → cuState (command-begin.toBegun t p b word m .unit) ≡ cus.Active
+to-begun-active true p b word m = rw begun-active
+to-begun-active false p b word m = refl
+
+buffer-active : (fits eof none last : Bool) (b : Begun) (w : Walk) → cuState (command-buffer.afterBuffer fits eof none last b w) ≡ cus.Active
+buffer-active false eof none last b w = refl
+buffer-active true true none last b w = refl
+buffer-active true false true last b w = refl
+buffer-active true false false true b w = refl
+buffer-active true false false false b w = refl
+
+-- an end that raises neither CX nor CNA leaves the unit Active
+not-left : (x y : Bool) → (x || false || not y || false) ≡ false → y ≡ true
+not-left x true h = refl
+not-left true false h = absurd (true≢false h)
+not-left false false h = absurd (true≢false h)
+
+end-active : (p : command.Part) (b : Begun) (a : Acted) (m : List ℕ) → anyOf (end p b a m .raised) ≡ false → cuState (end p b a m .part .unit) ≡ cus.Active
+unfolding anyOf end
+end-active p b a m h =
+    let next = afterEnd (b .el) (b .suspend || b .pausing) (linkOf p b a m) in
+    active (cuState next) (not-left (b .interrupt) (isActive (cuState next)) h)
+
+pub cu-stays : (u : Cu) (p : command.Part) (m : List ℕ) (report : ℕ) → cuState u ≡ cus.Active
+    → anyOf (command-service.serviceBy u p m report .raised) ≡ false → cuState (command-service.serviceBy u p m report .part .unit) ≡ cus.Active
+unfolding command-begin.begin command-buffer.buffer
+cu-stays cu.Idle p m r a h = absurd (false≢true (ap isActive a))
+cu-stays (cu.Suspended o) p m r a h = absurd (false≢true (ap isActive a))
+cu-stays (cu.Waiting o) p m r a h = rw to-begun-active
+cu-stays (cu.Acting b x) p m r a h = end-active p b (act x p (b .block) m) m h
+cu-stays (cu.Sending b w) p m r a h = rw buffer-active
+cu-stays (cu.Ending b n) p m r a h = end-active p b (sent p n r) m h
+cu-stays (cu.Failing b) p m r a h = end-active p b (notSent p) m h
+
+-- ---- the receive unit
+
+first-ready : (bare none : Bool) (s : Storing) (o : Offset) → ruState (receive-begin.toFirst bare none s o) ≡ rus.Ready
+first-ready true none s o = refl
+first-ready false true s o = refl
+first-ready false false s o = refl
+
+buffer-ready : (done el none last : Bool) (s : Storing) (w : Walk) → ruState (receive-buffer.afterBuffer done el none last s w) ≡ rus.Ready
+buffer-ready true el none last s w = refl
+buffer-ready false true none last s w = refl
+buffer-ready false false true last s w = refl
+buffer-ready false false false true s w = refl
+buffer-ready false false false false s w = refl
+
+-- an end that raises neither FR nor RNR leaves the unit Ready
+not-left-ready : (x y : Bool) → (false || x || false || not y) ≡ false → y ≡ true
+not-left-ready x true h = refl
+not-left-ready true false h = absurd (true≢false h)
+not-left-ready false false h = absurd (true≢false h)
+
+at-ready : (f : Fate) (next : Ru) (ws : List Write) → anyOf (endAt f next ws .raised) ≡ false → ruState (endAt f next ws .unit) ≡ rus.Ready
+unfolding anyOf
+at-ready f next ws h = ready (ruState next) (not-left-ready (isStored f) (isReady (ruState next)) h)
+
+goes-ready : (x : Bool) (p : receive.Part) (s : Storing) (free : Offset) (f : Fate) (ws : List Write) (m : List ℕ)
+    → anyOf (goesOn x p s free f ws m .raised) ≡ false → ruState (goesOn x p s free f ws m .unit) ≡ rus.Ready
+goes-ready true p s free f ws m h = at-ready f ru.NoResources ws h
+goes-ready false p s free f ws m h =
+    let link = offsetAt (apply ws m) (place (p .base) (s .fd) receive.linkAt) in
+    at-ready f (before (s .suspend || s .pausing) link) (ws ++ (wordTo (place (p .base) link receive.firstAt) (free .0) ∷ [])) h
+
+close-ready : (p : receive.Part) (s : Storing) (free : Offset) (full : Bool) (m : List ℕ)
+    → anyOf (close p s free full m .raised) ≡ false → ruState (close p s free full m .unit) ≡ rus.Ready
+unfolding close
+close-ready p s free full m h = goes-ready (s .el || full) p s free (fateOf false (s .frame)) (settles false p s m) m h
+
+lack-ready : (p : receive.Part) (s : Storing) (m : List ℕ) → anyOf (lack p s m .raised) ≡ false → ruState (lack p s m .unit) ≡ rus.Ready
+unfolding lack
+lack-ready p s m h = at-ready (fateOf true (s .frame)) ru.NoResources (settles true p s m) h
+
+pub ru-stays : (u : Ru) (p : receive.Part) (m : List ℕ) → isHolding u ≡ true → anyOf (receive-service.serviceBy u p m .raised) ≡ false
+    → ruState (receive-service.serviceBy u p m .unit) ≡ rus.Ready
+unfolding receive-begin.begin receive-buffer.buffer
+ru-stays ru.Idle p m a h = absurd (false≢true a)
+ru-stays ru.NoResources p m a h = absurd (false≢true a)
+ru-stays (ru.Suspended o) p m a h = absurd (false≢true a)
+ru-stays (ru.Ready o) p m a h = absurd (false≢true a)
+ru-stays (ru.Held o f q) p m a h = rw first-ready
+ru-stays (ru.Filling s w) p m a h = rw buffer-ready
+ru-stays (ru.Closing s free full) p m a h = close-ready p s free full m h
+ru-stays (ru.Lacking s) p m a h = lack-ready p s m h
+
+-- ---- a turn
+
+-- the units' states are as they were
+pub record StatesKept (w : World) (r : Ran) : Type 0 where
+  pub cu : cuState (r .outcome .device .units .cu) ≡ cuState (w .device .units .cu)
+  pub ru : ruState (r .outcome .device .units .ru) ≡ ruState (w .device .units .ru)
+
+command-keeps : (w : World) (report : ℕ) → isActive (cuState (w .device .units .cu)) ≡ true
+    → commandTurn w report .outcome .answer .edge ≡ false → StatesKept w (commandTurn w report)
+unfolding commandTurn command-service.service
+command-keeps w report a h =
+    let was = active (cuState (w .device .units .cu)) a in
+    record { cu = cu-stays (w .device .units .cu) (commandPart w) (w .memory) report was h ∙ sym was; ru = refl }
+
+receive-keeps : (w : World) → isHolding (w .device .units .ru) ≡ true → receiveTurn w .outcome .answer .edge ≡ false → StatesKept w (receiveTurn w)
+unfolding receiveTurn receive-service.service
+receive-keeps w a h =
+    let was = ready (ruState (w .device .units .ru)) (held-ready (w .device .units .ru) a) in
+    record { cu = refl; ru = ru-stays (w .device .units .ru) (receivePart w) (w .memory) a h ∙ sym was }
+
+kept-by : (c r l : Bool) (w : World) (report : ℕ) → isActive (cuState (w .device .units .cu)) ≡ c → isHolding (w .device .units .ru) ≡ r
+    → turnBy (servedBy c r l) w report .outcome .answer .edge ≡ false → StatesKept w (turnBy (servedBy c r l) w report)
+kept-by false false l w report a b h = record { cu = refl; ru = refl }
+kept-by true false l w report a b h = command-keeps w report a h
+kept-by false true l w report a b h = receive-keeps w b h
+kept-by true true true w report a b h = command-keeps w report a h
+kept-by true true false w report a b h = receive-keeps w b h
+
+-- a turn that reports no edge, and so writes no status, changes no unit's state
+pub quiet-turn : (w : World) (report : ℕ) → turnOf w report .outcome .answer .edge ≡ false → StatesKept w (turnOf w report)
+unfolding turnOf
+quiet-turn w report h =
+    kept-by (isActive (cuState (w .device .units .cu))) (isHolding (w .device .units .ru)) (w .device .units .rulast) w report refl refl h

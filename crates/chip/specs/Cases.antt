@@ -1,0 +1,138 @@
+-- Worked cases of the definitions: words given, then steps. A step is a call with the answer that it must give, and the words that memory and
+-- the outgoing area must hold after it, changed or unchanged. Assumes nothing.
+use mathlib.Core.Bool.{Bool, true, false, not, cond, _&&_}
+use mathlib.Core.List.{List, [], _∷_}
+use Prim.Native.Nat.{ℕ, _+_, _*_}
+use lib.Dec.{eqb}
+use lib.ListN.{replicate}
+use Rattle.memory.specs.Memory.{byteAt, putByte, bytesAt, putBytes, value, digits, fieldAt, wordAt, wordTo, apply}
+use Rattle.memory.specs.Address.{place, beyond}
+use Rattle.scb.specs.Control.{cuNext, ruNext}
+use Rattle.scb.specs.Words.{field, joined, acknowledged, anyOf, eventBits, statusWord}
+use Rattle.device.specs.Answers.{counts}
+use Rattle.device.specs.Limits.{areaSize}
+use Rattle.device.specs.Numbers.{actionOf, verdictOf, refusalNumber}
+use Rattle.device.specs.State.{fresh}
+use Rattle.device.specs.declared.Answer.{Answer}
+use Rattle.filter.specs.Match.{agree, isListed, matches}
+use Rattle.command.specs.Begin as command-begin
+use Rattle.command.specs.Buffer as command-buffer
+use Rattle.command.specs.Actions.{settingsBy, listing, act, reported, isSent, sent}
+use Rattle.command.specs.End.{results, linkOf, end}
+use Rattle.command.specs.Service as command-service
+use Rattle.receive.specs.Arrival.{judged, fateOf}
+use Rattle.receive.specs.Begin as receive-begin
+use Rattle.receive.specs.Buffer as receive-buffer
+use Rattle.receive.specs.End.{frameStatus, settles, close, lack}
+use Rattle.receive.specs.Service as receive-service
+use Rattle.chip.specs.World.{World, Ran, afterwards, statusTo, resetOf}
+use Rattle.chip.specs.Attention.{iscpOf, initialise, resetBy, obeyCuc, obeyRuc, obey, attend, attentionOf}
+use Rattle.chip.specs.Arrival.{arrivalOf}
+use Rattle.chip.specs.Turn.{commandTurn, receiveTurn, turnOf}
+
+-- an address and the word there
+pub record Word : Type 0 where
+  pub place : ℕ
+  pub value : ℕ
+
+abbrev pub _is_ : ℕ → ℕ → Word
+_is_ a w = record { place = a; value = w }
+
+infix 80 _is_
+-- the four calls: a frame with its verdict, a line report
+pub data Call : Type 0 where
+  reset : Call
+  attention : Call
+  arrive : List ℕ → ℕ → Call
+  turn : ℕ → Call
+
+-- the interrupt's level, where a case speaks of it
+pub data Level : Type 0 where
+  unsaid : Level
+  high : Level
+  low : Level
+
+-- an answer: number, length, edge
+pub record Said : Type 0 where
+  pub number : ℕ
+  pub length : ℕ
+  pub edge : Bool
+
+pub record Step : Type 0 where
+  -- words that the host writes before the call
+  pub host : List Word
+  pub call : Call
+  pub answer : Said
+  pub words : List Word
+  -- words of the outgoing area, by index
+  pub outgoing : List Word
+  pub level : Level
+
+pub record Case : Type 0 where
+  pub given : List Word
+  pub steps : List Step
+
+-- ---- running a case
+
+abbrev pub put : List Word → List ℕ → List ℕ
+put [] m = m
+put (w ∷ ws) m = put ws (apply (wordTo (w .place) (w .value) ∷ []) m)
+
+abbrev pub withWords : World → List Word → World
+withWords w ws =
+    record { device = w .device; memory = put ws (w .memory); holding = w .holding; outgoing = w .outgoing }
+
+-- 8,192 bytes of memory, zero but for the words given; a fresh device
+abbrev pub start : List Word → World
+start ws =
+    record {
+      device = fresh;
+      memory = put ws (replicate 8192 0);
+      holding = replicate areaSize 0;
+      outgoing = replicate areaSize 0;
+    }
+
+abbrev pub ran : Call → World → Ran
+ran reset w = record { outcome = resetOf; memory = w .memory; holding = w .holding; outgoing = w .outgoing }
+ran attention w = attentionOf w
+ran (arrive f v) w = arrivalOf w f v
+ran (turn report) w = turnOf w report
+
+-- ---- what must be so after a step
+
+abbrev pub same : Bool → Bool → Bool
+same true b = b
+same false b = not b
+
+abbrev pub answers : Answer → Said → Bool
+answers a s = eqb (refusalNumber (a .number)) (s .number) && eqb (a .length) (s .length) && same (a .edge) (s .edge)
+
+abbrev pub holds : List Word → List ℕ → Bool
+holds [] m = true
+holds (w ∷ ws) m = eqb (wordAt m (w .place)) (w .value) && holds ws m
+
+-- 01, "The SCB": interrupt is high when bits 15-12 are not all zero
+abbrev pub levelIs : Level → Bool → Bool
+levelIs unsaid b = true
+levelIs high b = b
+levelIs low b = not b
+
+abbrev pub stepPasses : Step → Ran → Bool
+stepPasses s r =
+    answers (r .outcome .answer) (s .answer)
+    && holds (s .words) (r .memory)
+    && holds (s .outgoing) (r .outgoing)
+    && levelIs (s .level) (anyOf (r .outcome .device .units .events))
+
+abbrev pub walk : List Step → World → Bool
+walk [] w = true
+walk (s ∷ ss) w =
+    let r = ran (s .call) (withWords w (s .host)) in stepPasses s r && walk ss (afterwards r)
+
+unfoldable pub passes : Case → Bool
+unfolding byteAt putByte bytesAt putBytes value digits fieldAt place beyond cuNext ruNext field joined acknowledged anyOf eventBits statusWord counts actionOf verdictOf agree isListed matches command-begin.begunBy command-begin.headerOf command-begin.begin command-buffer.descriptorAt command-buffer.buffer settingsBy listing act reported isSent sent results linkOf end command-service.service judged fateOf receive-begin.begunBy receive-begin.begin receive-buffer.descriptorAt receive-buffer.buffer frameStatus settles close lack receive-service.service statusTo resetOf iscpOf initialise resetBy obeyCuc obeyRuc obey attend attentionOf arrivalOf commandTurn receiveTurn turnOf
+passes c = walk (c .steps) (start (c .given))
+
+abbrev pub allPass : List Case → Bool
+allPass [] = true
+allPass (c ∷ cs) = passes c && allPass cs

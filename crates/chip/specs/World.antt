@@ -1,0 +1,55 @@
+-- What a call is given and what it leaves. Assumes nothing.
+use mathlib.Core.Path.{_≡_}
+use mathlib.Core.List.{List, [], _∷_}
+use Prim.Native.Nat.{ℕ}
+use Rattle.memory.specs.Memory.{Write, wordTo, apply}
+use Rattle.memory.specs.Address.{place}
+use Rattle.scb.specs.Words.{statusWord, statusAt}
+use Rattle.device.specs.State.{cuState, ruState, fresh}
+use Rattle.device.specs.Answers.{answered, outcomeOf}
+use Rattle.device.specs.declared.Answer.{Answer}
+use Rattle.device.specs.declared.Device.{Device}
+use Rattle.device.specs.declared.Fate.{Fate}
+use Rattle.device.specs.declared.Fate.the-variants as fate
+use Rattle.device.specs.declared.Outcome.{Outcome}
+use Rattle.device.specs.declared.Units.{Units}
+use mathlib.Core.Bool.{false}
+
+-- a device, and the three areas that are lent with it
+pub record World : Type 0 where
+  pub device : Device
+  pub memory : List ℕ
+  pub holding : List ℕ
+  pub outgoing : List ℕ
+
+-- what a call leaves: its outcome and the three areas
+pub record Ran : Type 0 where
+  pub outcome : Outcome
+  pub memory : List ℕ
+  pub holding : List ℕ
+  pub outgoing : List ℕ
+
+-- an outcome and three areas are what is said: the shape of every call's promise
+pub record Does (said : Ran) (o : Outcome) (m h out : List ℕ) : Type 0 where
+  pub outcome : o ≡ said .outcome
+  pub memory : m ≡ said .memory
+  pub holding : h ≡ said .holding
+  pub outgoing : out ≡ said .outgoing
+
+-- a call that only writes memory
+abbrev pub writing : World → List Write → Outcome → Ran
+writing w writes o =
+    record { outcome = o; memory = apply writes (w .memory); holding = w .holding; outgoing = w .outgoing }
+
+-- the world as a call left it
+abbrev pub afterwards : Ran → World
+afterwards r =
+    record { device = r .outcome .device; memory = r .memory; holding = r .holding; outgoing = r .outgoing }
+
+-- 01, "The SCB": status is kept in the record, and so written
+unfoldable pub statusTo : Units → Write
+statusTo u = wordTo (place (u .base) (u .scb) statusAt) (statusWord (u .events) (cuState (u .cu)) (ruState (u .ru)))
+
+-- 01, "Calls, lent areas, refusals": reset takes the record alone, ignores its content and writes a fresh one
+unfoldable pub resetOf : Outcome
+resetOf = outcomeOf fresh (answered 0 false) fate.Nothing

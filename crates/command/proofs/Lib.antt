@@ -1,0 +1,2 @@
+-- What the command unit's definitions say where another reading would swap the columns.
+pub mod Swaps

@@ -1,0 +1,48 @@
+-- Begin: 01, "Turns": read the command word, which holds to the end; write status 4000h. A Transmit's +6 is read, and its header goes to the
+-- outgoing area. Assumes nothing.
+use mathlib.Core.Bool.{Bool, true, false}
+use mathlib.Core.List.{List, [], _∷_, _++_}
+use Prim.Native.Nat.{ℕ}
+use lib.Dec.{eqb}
+use lib.Seq.{sets}
+use Rattle.memory.specs.Memory.{wordAt, bytesAt, wordTo}
+use Rattle.memory.specs.Address.{place, offsetAt, isNone}
+use Rattle.memory.specs.declared.Offset.{Offset}
+use Rattle.scb.specs.Words.{field, bit}
+use Rattle.device.specs.Limits.{addressLength, typeLength, header}
+use Rattle.device.specs.Numbers.{transmit, actionOf}
+use Rattle.device.specs.declared.Begun.{Begun}
+use Rattle.device.specs.declared.Cu.{Cu}
+use Rattle.device.specs.declared.Cu.the-variants as cu
+use Rattle.command.specs.Part.{Part, Service, withUnit, withOutgoing, quietly, statusAt, commandAt, argumentAt, destinationAt, typeAt}
+
+-- +2 command: 15 EL, 14 S, 13 I, 2-0 CMD
+abbrev pub cmd : ℕ → ℕ
+cmd word = field word 0 3
+
+-- the command word holds to the end; no SUSPEND waits yet
+unfoldable pub begunBy : Offset → ℕ → Begun
+begunBy block word =
+    record { block = block; el = bit word 15; suspend = bit word 14; interrupt = bit word 13; pausing = false }
+
+-- Transmit: +6, offset of a buffer descriptor, FFFFh none
+abbrev pub toFirst : (none : Bool) → Begun → Offset → Cu
+toFirst true b first = cu.Ending b header
+toFirst false b first = cu.Sending b (record { next = first; used = 0; filled = header })
+
+-- Frame: destination, own address, type
+unfoldable pub headerOf : Part → Offset → List ℕ → List ℕ
+headerOf p block m =
+    bytesAt m (place (p .base) block destinationAt) addressLength ++ p .own ++ bytesAt m (place (p .base) block typeAt) typeLength
+
+-- the begun unit: a Transmit at its first descriptor with the header in the outgoing area, any other command before its end
+abbrev pub toBegun : (transmits : Bool) → Part → Begun → ℕ → List ℕ → Part
+toBegun true p b word m =
+    let first = offsetAt m (place (p .base) (b .block) argumentAt) in
+    withOutgoing (withUnit p (toFirst (isNone first) b first)) (sets (p .outgoing) 0 (headerOf p (b .block) m))
+toBegun false p b word m = withUnit p (cu.Acting b (actionOf (cmd word)))
+
+unfoldable pub begin : Part → Offset → List ℕ → Service
+begin p block m =
+    let word = wordAt m (place (p .base) block commandAt) in
+    quietly (toBegun (eqb (cmd word) transmit) p (begunBy block word) word m) (wordTo (place (p .base) block statusAt) 0x4000 ∷ [])

@@ -1,0 +1,52 @@
+-- End: 01, "Turns": do the action, write status; I raises CX; EL makes CU Idle, else S or a waiting SUSPEND makes it Suspended; the link, read
+-- now, is next. Assumes nothing.
+use mathlib.Core.Bool.{Bool, true, false, not, _||_}
+use mathlib.Core.List.{List, [], _∷_, _++_}
+use Prim.Native.Nat.{ℕ}
+use Rattle.memory.specs.Memory.{Write, wordTo, apply}
+use Rattle.memory.specs.Address.{place, offsetAt}
+use Rattle.memory.specs.declared.Offset.{Offset}
+use Rattle.scb.specs.declared.Events.{Events}
+use Rattle.device.specs.State.{cuState, isActive}
+use Rattle.device.specs.declared.Begun.{Begun}
+use Rattle.device.specs.declared.Cu.{Cu}
+use Rattle.device.specs.declared.Cu.the-variants as cu
+use Rattle.command.specs.Part.{Part, Service, statusAt, linkAt}
+use Rattle.command.specs.Actions.{Acted}
+
+-- EL wins over S
+abbrev pub afterEnd : (el suspends : Bool) → Offset → Cu
+afterEnd true suspends link = cu.Idle
+afterEnd false true link = cu.Suspended link
+afterEnd false false link = cu.Waiting link
+
+-- I raises CX; leaving Active raises CNA
+abbrev pub raisedBy : Begun → Cu → Events
+raisedBy b next = record { cx = b .interrupt; fr = false; cna = not (isActive (cuState next)); rnr = false }
+
+-- the action's writes, then the status
+unfoldable pub results : Part → Begun → Acted → List Write
+results p b a = a .writes ++ (wordTo (place (p .base) (b .block) statusAt) (a .status) ∷ [])
+
+-- the part after the action, with the unit as said
+abbrev pub ended : Part → Acted → Cu → Part
+ended p a next =
+    record {
+      base = p .base;
+      unit = next;
+      settings = a .settings;
+      own = a .own;
+      listed = a .listed;
+      outgoing = p .outgoing;
+    }
+
+abbrev pub endAt : Part → Begun → Acted → Cu → Service
+endAt p b a next =
+    record { part = ended p a next; writes = results p b a; raised = raisedBy b next; length = a .length }
+
+-- the link is read after the action and the status
+unfoldable pub linkOf : Part → Begun → Acted → List ℕ → Offset
+linkOf p b a m = offsetAt (apply (results p b a) m) (place (p .base) (b .block) linkAt)
+
+unfoldable pub end : Part → Begun → Acted → List ℕ → Service
+end p b a m = endAt p b a (afterEnd (b .el) (b .suspend || b .pausing) (linkOf p b a m))

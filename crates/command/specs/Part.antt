@@ -1,0 +1,63 @@
+-- What the command unit works with besides memory, what a service of it comes to, and the command block: 01, "Turns". Assumes nothing.
+use mathlib.Core.Bool.{Bool}
+use mathlib.Core.List.{List, []}
+use Prim.Native.Nat.{ℕ}
+use Rattle.memory.specs.Memory.{Write}
+use Rattle.memory.specs.Address.{place}
+use Rattle.memory.specs.declared.Offset.{Offset}
+use Rattle.memory.specs.declared.RealAddress.{RealAddress}
+use Rattle.scb.specs.Words.{noEvents}
+use Rattle.scb.specs.declared.Events.{Events}
+use Rattle.device.specs.declared.Cu.{Cu}
+use Rattle.device.specs.declared.Settings.{Settings}
+
+-- ---- the command block: +0 status, +2 command, +4 link offset; the commands' own fields from +6 on
+
+abbrev pub statusAt : ℕ
+statusAt = 0
+
+abbrev pub commandAt : ℕ
+commandAt = 2
+
+abbrev pub linkAt : ℕ
+linkAt = 4
+
+abbrev pub argumentAt : ℕ
+argumentAt = 6
+
+-- a Transmit's destination and type; an MC-Setup's first address
+abbrev pub destinationAt : ℕ
+destinationAt = 8
+
+abbrev pub typeAt : ℕ
+typeAt = 14
+
+-- ---- the unit's part of the world
+
+pub record Part : Type 0 where
+  pub base : RealAddress
+  pub unit : Cu
+  pub settings : Settings
+  pub own : List ℕ
+  pub listed : List ℕ
+  pub outgoing : List ℕ
+
+abbrev pub withUnit : Part → Cu → Part
+withUnit p unit =
+    record { base = p .base; unit = unit; settings = p .settings; own = p .own; listed = p .listed; outgoing = p .outgoing }
+
+abbrev pub withOutgoing : Part → List ℕ → Part
+withOutgoing p outgoing =
+    record { base = p .base; unit = p .unit; settings = p .settings; own = p .own; listed = p .listed; outgoing = outgoing }
+
+-- ---- what a service comes to: the part afterwards, the writes in their order, the events raised, the length sent
+
+pub record Service : Type 0 where
+  pub part : Part
+  pub writes : List Write
+  pub raised : Events
+  pub length : ℕ
+
+-- a service that raises nothing and sends nothing
+abbrev pub quietly : Part → List Write → Service
+quietly p writes = record { part = p; writes = writes; raised = noEvents; length = 0 }

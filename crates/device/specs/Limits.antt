@@ -1,0 +1,44 @@
+-- The sizes that document 01 names, each once. Assumes nothing.
+use mathlib.Core.Bool.{Bool}
+use Prim.Native.Nat.{ℕ, _+_}
+use lib.Dec.{leb, ltb}
+
+-- a frame's header: destination, source, type. Nothing else says 14, nor six bytes of address, nor two of type
+abbrev pub addressLength : ℕ
+addressLength = 6
+
+abbrev pub typeLength : ℕ
+typeLength = 2
+
+abbrev pub header : ℕ
+header = addressLength + addressLength + typeLength
+
+-- where in the holding area a held frame begins
+abbrev pub heldFrom : ℕ
+heldFrom = 0
+
+-- 01, "Calls, lent areas, refusals": holding and outgoing area have 2,048 bytes, the record 256
+abbrev pub areaSize : ℕ
+areaSize = 2048
+
+abbrev pub recordSize : ℕ
+recordSize = 256
+
+-- no frame exceeds 2,048 bytes
+abbrev pub longest : ℕ
+longest = 2048
+
+-- 01, "Turns": at most 64 buffer turns
+abbrev pub mostBuffers : ℕ
+mostBuffers = 64
+
+-- the listed addresses: 16 of six bytes
+abbrev pub mostListed : ℕ
+mostListed = 16
+
+abbrev pub listedSize : ℕ
+listedSize = 96
+
+-- bytes sent with every frame that no call hands over: the FCS
+abbrev pub fcs : ℕ
+fcs = 4

@@ -1,0 +1,2 @@
+-- Which frames are addressed to us, for the definitions of the crates above.
+pub mod Match

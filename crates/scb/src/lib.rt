@@ -1,0 +1,306 @@
+// The words of the SCB: what its command word says, how its status word is made, and where a control code takes a unit.
+// It assumes nothing: every function takes every word and every state.
+ghost use mathlib.Core.Path.{_≡_};
+ghost use Prim.Native.Nat.{_*_, _<_, _^_};
+ghost use Rattle.scb.specs.Words as words;
+ghost use Rattle.scb.specs.Control as control;
+ghost use Rattle.scb.specs.Numbers as numbers;
+
+// The command unit's state, CUS.
+pub enum CuState {
+    Idle,
+    Suspended,
+    Active,
+}
+
+// The receive unit's state, RUS.
+pub enum RuState {
+    Idle,
+    Suspended,
+    NoResources,
+    Ready,
+}
+
+// The events that stand in bits 15 to 12 of the status.
+pub struct Events {
+    pub cx: bool,
+    pub fr: bool,
+    pub cna: bool,
+    pub rnr: bool,
+}
+
+// The command word: bits 15 to 12 acknowledge CX, FR, CNA and RNR; 10 to 8 are CUC, 7 is RESET, 6 to 4 are RUC.
+const ACK_CX: u16 = 15;
+
+const ACK_FR: u16 = 14;
+
+const ACK_CNA: u16 = 13;
+
+const ACK_RNR: u16 = 12;
+
+const CUC: u16 = 8;
+
+const RESET: u16 = 7;
+
+const RUC: u16 = 4;
+
+const CODE_BITS: u16 = 3;
+
+// The status word: the events from bit 12 on, CUS from bit 8 on, RUS from bit 4 on.
+const EVENTS: u16 = 12;
+
+const CUS: u16 = 8;
+
+const RUS: u16 = 4;
+
+// The field of a word that begins at bit `at` and is `bits` bits wide. What of it lies past bit 15 is zero.
+fn field(w: u16, at: u16, bits: u16) -> u16
+    requires { ⌜ (at < 16) × (bits < 16) ⌝ }
+    ensures { λ r. ⌜ r ≡ words.field w at bits ⌝ }
+{
+    (w >> at) & ((1 << bits) - 1)
+}
+
+// A word that lies below bit `at`, with the number `v` put in from bit `at` on.
+fn join(w: u16, at: u16, v: u16) -> u16
+    requires { ⌜ (at < 16) × (w < 2 ^ at) × (v * 2 ^ at < 65536) ⌝ }
+    ensures { λ r. ⌜ r ≡ words.joined w at v ⌝ }
+{
+    w | (v << at)
+}
+
+// Whether bit `at` of a word is set. A bit past 15 is not.
+pub fn is_set(w: u16, at: u16) -> bool
+    ensures { λ r. ⌜ r ≡ words.bit w at ⌝ }
+{
+    if at > 15 {
+        return false;
+    }
+    field(w, at, 1) == 1
+}
+
+// The control code for the command unit, CUC, of a command word.
+pub fn cu_control(w: u16) -> u16
+    ensures { λ r. ⌜ r ≡ words.cuc w ⌝ }
+{
+    field(w, CUC, CODE_BITS)
+}
+
+// The control code for the receive unit, RUC, of a command word.
+pub fn ru_control(w: u16) -> u16
+    ensures { λ r. ⌜ r ≡ words.ruc w ⌝ }
+{
+    field(w, RUC, CODE_BITS)
+}
+
+// Whether a command word asks for a reset.
+pub fn resets(w: u16) -> bool
+    ensures { λ r. ⌜ r ≡ words.resets w ⌝ }
+{
+    is_set(w, RESET)
+}
+
+// No event at all.
+pub fn no_events() -> Events
+    ensures { λ r. ⌜ r ≡ words.noEvents ⌝ }
+{
+    Events {
+        cx: false,
+        fr: false,
+        cna: false,
+        rnr: false,
+    }
+}
+
+// The events that stand after those of `by` come up; what stood stays.
+pub fn raise(e: Events, by: Events) -> Events
+    ensures { λ r. ⌜ r ≡ words.raise e by ⌝ }
+{
+    Events {
+        cx: e.cx | by.cx,
+        fr: e.fr | by.fr,
+        cna: e.cna | by.cna,
+        rnr: e.rnr | by.rnr,
+    }
+}
+
+// The events that a command leaves: each is cleared whose acknowledge bit is set.
+pub fn acknowledge(e: Events, command: u16) -> Events
+    ensures { λ r. ⌜ r ≡ words.acknowledged e command ⌝ }
+{
+    Events {
+        cx: e.cx & !is_set(command, ACK_CX),
+        fr: e.fr & !is_set(command, ACK_FR),
+        cna: e.cna & !is_set(command, ACK_CNA),
+        rnr: e.rnr & !is_set(command, ACK_RNR),
+    }
+}
+
+// Whether an event stands, which is when the interrupt is high.
+pub fn any_of(e: Events) -> bool
+    ensures { λ r. ⌜ r ≡ words.anyOf e ⌝ }
+{
+    e.cx | e.fr | e.cna | e.rnr
+}
+
+// The number of the command unit's state, as CUS has it.
+pub fn cu_number(s: CuState) -> u16
+    ensures { λ r. ⌜ r ≡ words.cuNumber s ⌝ }
+{
+    match s {
+        CuState::Idle => 0,
+        CuState::Suspended => 1,
+        CuState::Active => 2,
+    }
+}
+
+// The number of the receive unit's state, as RUS has it; 3 is no state.
+pub fn ru_number(s: RuState) -> u16
+    ensures { λ r. ⌜ r ≡ words.ruNumber s ⌝ }
+{
+    match s {
+        RuState::Idle => 0,
+        RuState::Suspended => 1,
+        RuState::NoResources => 2,
+        RuState::Ready => 4,
+    }
+}
+
+// 1 for an event that stands, else 0.
+fn one(b: bool) -> u16
+    ensures { λ r. ⌜ (r ≡ words.one b) × (r < 2) ⌝ }
+{
+    if b { 1 } else { 0 }
+}
+
+// The four events as a number, RNR its lowest bit and CX its highest.
+pub fn event_bits(e: Events) -> u16
+    ensures { λ r. ⌜ r ≡ words.eventBits e ⌝ }
+{
+    let two = join(one(e.rnr), 1, one(e.cna));
+    let three = join(two, 2, one(e.fr));
+    join(three, 3, one(e.cx))
+}
+
+// The status word of these events and states. The bits that are no field's are zero.
+pub fn status_word(e: Events, cu: CuState, ru: RuState) -> u16
+    ensures { λ r. ⌜ r ≡ words.statusWord e cu ru ⌝ }
+{
+    let cus = cu_number(cu);
+    let rus = ru_number(ru);
+    let states = join(join(0, RUS, rus), CUS, cus);
+    join(states, EVENTS, event_bits(e))
+}
+
+// The command unit's state of a number; a number that is no state's gives Idle.
+fn cu_of(n: u8) -> CuState
+    ensures { λ r. ⌜ r ≡ numbers.cuOf n ⌝ }
+{
+    match n {
+        1 => CuState::Suspended,
+        2 => CuState::Active,
+        _ => CuState::Idle,
+    }
+}
+
+// The receive unit's state of a number; a number that is no state's gives Idle.
+fn ru_of(n: u8) -> RuState
+    ensures { λ r. ⌜ r ≡ numbers.ruOf n ⌝ }
+{
+    match n {
+        1 => RuState::Suspended,
+        2 => RuState::NoResources,
+        4 => RuState::Ready,
+        _ => RuState::Idle,
+    }
+}
+
+// A row for each control code, 0 to 7; a column for each state's number, 0 to 2.
+const CU_NEXT: [u8; 24] = [
+    0, // 0, Idle
+    1, // 0, Suspended
+    2, // 0, Active
+    2, // 1 START, Idle
+    2, // 1 START, Suspended
+    2, // 1 START, Active
+    0, // 2 RESUME, Idle
+    2, // 2 RESUME, Suspended
+    2, // 2 RESUME, Active
+    0, // 3 SUSPEND, Idle
+    1, // 3 SUSPEND, Suspended
+    1, // 3 SUSPEND, Active
+    0, // 4 ABORT, Idle
+    0, // 4 ABORT, Suspended
+    0, // 4 ABORT, Active
+    0, // 5, Idle
+    1, // 5, Suspended
+    2, // 5, Active
+    0, // 6, Idle
+    1, // 6, Suspended
+    2, // 6, Active
+    0, // 7, Idle
+    1, // 7, Suspended
+    2, // 7, Active
+];
+
+const CU_COLUMNS: usize = 3;
+
+// The state that a command takes the command unit to from `s`. A code that says nothing for `s` leaves it.
+pub fn cu_next(command: u16, s: CuState) -> CuState
+    ensures { λ r. ⌜ r ≡ control.cuNext (words.cuc command) s ⌝ }
+{
+    cu_of(CU_NEXT[cu_control(command) as usize * CU_COLUMNS + cu_number(s) as usize])
+}
+
+// A row for each control code, 0 to 7; a column for each state's number, 0 to 4, of which 3 is no state's.
+const RU_NEXT: [u8; 40] = [
+    0, // 0, Idle
+    1, // 0, Suspended
+    2, // 0, No Resources
+    0, // 0, no state
+    4, // 0, Ready
+    4, // 1 START, Idle
+    4, // 1 START, Suspended
+    4, // 1 START, No Resources
+    0, // 1 START, no state
+    4, // 1 START, Ready
+    0, // 2 RESUME, Idle
+    4, // 2 RESUME, Suspended
+    2, // 2 RESUME, No Resources
+    0, // 2 RESUME, no state
+    4, // 2 RESUME, Ready
+    0, // 3 SUSPEND, Idle
+    1, // 3 SUSPEND, Suspended
+    2, // 3 SUSPEND, No Resources
+    0, // 3 SUSPEND, no state
+    1, // 3 SUSPEND, Ready
+    0, // 4 ABORT, Idle
+    0, // 4 ABORT, Suspended
+    0, // 4 ABORT, No Resources
+    0, // 4 ABORT, no state
+    0, // 4 ABORT, Ready
+    0, // 5, Idle
+    1, // 5, Suspended
+    2, // 5, No Resources
+    0, // 5, no state
+    4, // 5, Ready
+    0, // 6, Idle
+    1, // 6, Suspended
+    2, // 6, No Resources
+    0, // 6, no state
+    4, // 6, Ready
+    0, // 7, Idle
+    1, // 7, Suspended
+    2, // 7, No Resources
+    0, // 7, no state
+    4, // 7, Ready
+];
+
+const RU_COLUMNS: usize = 5;
+
+// The state that a command takes the receive unit to from `s`. A code that says nothing for `s` leaves it.
+pub fn ru_next(command: u16, s: RuState) -> RuState
+    ensures { λ r. ⌜ r ≡ control.ruNext (words.ruc command) s ⌝ }
+{
+    ru_of(RU_NEXT[ru_control(command) as usize * RU_COLUMNS + ru_number(s) as usize])
+}
