@@ -34,7 +34,7 @@ use Rattle.receive.specs.Buffer as receive-buffer
 use Rattle.receive.specs.End.{fateOf, settles, endAt, before, goesOn, close, lack}
 use Rattle.receive.specs.Service as receive-service
 use Rattle.device.proofs.Laws.{held-ready}
-use Rattle.chip.specs.Turn.{servedBy, commandPart, commandTurn, receivePart, receiveTurn, turnBy, turnOf}
+use Rattle.chip.specs.Turn.{servedBy, commandTurn, receiveTurn, turnBy, turnOf}
 use Rattle.chip.specs.World.{World, Ran}
 
 -- the only state that is Active, or Ready, is Active, or Ready
@@ -153,13 +153,13 @@ command-keeps : (w : World) (report : ℕ) → isActive (cuState (w .device .uni
 unfolding commandTurn command-service.service
 command-keeps w report a h =
     let was = active (cuState (w .device .units .cu)) a in
-    record { cu = cu-stays (w .device .units .cu) (commandPart w) (w .memory) report was h ∙ sym was; ru = refl }
+    record { cu = cu-stays (w .device .units .cu) (command.partOf (w .device) (w .outgoing)) (w .memory) report was h ∙ sym was; ru = refl }
 
 receive-keeps : (w : World) → isHolding (w .device .units .ru) ≡ true → receiveTurn w .outcome .answer .edge ≡ false → StatesKept w (receiveTurn w)
 unfolding receiveTurn receive-service.service
 receive-keeps w a h =
     let was = ready (ruState (w .device .units .ru)) (held-ready (w .device .units .ru) a) in
-    record { cu = refl; ru = ru-stays (w .device .units .ru) (receivePart w) (w .memory) a h ∙ sym was }
+    record { cu = refl; ru = ru-stays (w .device .units .ru) (receive.partOf (w .device .units) (w .holding)) (w .memory) a h ∙ sym was }
 
 kept-by : (c r l : Bool) (w : World) (report : ℕ) → isActive (cuState (w .device .units .cu)) ≡ c → isHolding (w .device .units .ru) ≡ r
     → turnBy (servedBy c r l) w report .outcome .answer .edge ≡ false → StatesKept w (turnBy (servedBy c r l) w report)

@@ -6,7 +6,7 @@ use Rattle.memory.specs.Memory.{Write, apply}
 use Rattle.scb.specs.Words.{raise, anyOf}
 use Rattle.scb.specs.declared.Events.{Events}
 use Rattle.device.specs.Answers.{answered, outcomeOf}
-use Rattle.device.specs.Change.{withCu, withRu, withEvents, withSettings, servedRu, withUnits, withAddresses}
+use Rattle.device.specs.Change.{withRu, withEvents, servedRu, withUnits}
 use Rattle.device.specs.State.{cuState, isActive, isHolding}
 use Rattle.device.specs.declared.Device.{Device}
 use Rattle.device.specs.declared.Fate.{Fate}
@@ -53,25 +53,9 @@ written writes raised u = writes ++ statusBy (anyOf raised) u
 
 -- ---- the command unit is served
 
-abbrev pub commandPart : World → command.Part
-commandPart w =
-    record {
-      base = w .device .units .base;
-      unit = w .device .units .cu;
-      settings = w .device .units .settings;
-      own = w .device .own;
-      listed = w .device .listed;
-      outgoing = w .outgoing;
-    }
-
--- the device with the command unit's part as the service left it
-abbrev pub withPart : Device → command.Part → Device
-withPart d p =
-    withAddresses (withUnits d (servedRu (withSettings (withCu (d .units) (p .unit)) (p .settings)) false)) (p .own) (p .listed)
-
 abbrev pub commanded : World → Device → command.Service → Ran
 commanded w d s =
-    let u = raisedIn (d .units) (s .raised) in
+    let u = raisedIn (servedRu (d .units) false) (s .raised) in
     record {
       outcome = outcomeOf (withUnits d u) (answered (s .length) (anyOf (s .raised))) fate.Nothing;
       memory = apply (written (s .writes) (s .raised) u) (w .memory);
@@ -81,18 +65,10 @@ commanded w d s =
 
 unfoldable pub commandTurn : World → ℕ → Ran
 commandTurn w report =
-    let s = command-service.service (commandPart w) (w .memory) report in commanded w (withPart (w .device) (s .part)) s
+    let s = command-service.service (command.partOf (w .device) (w .outgoing)) (w .memory) report in
+    commanded w (command.withPart (w .device) (s .part)) s
 
 -- ---- the receive unit is served
-
-abbrev pub receivePart : World → receive.Part
-receivePart w =
-    record {
-      base = w .device .units .base;
-      scb = w .device .units .scb;
-      unit = w .device .units .ru;
-      holding = w .holding;
-    }
 
 abbrev pub received : World → receive.Service → Ran
 received w s =
@@ -100,7 +76,7 @@ received w s =
     writing w (written (s .writes) (s .raised) u) (outcomeOf (withUnits (w .device) u) (answered 0 (anyOf (s .raised))) (s .fate))
 
 unfoldable pub receiveTurn : World → Ran
-receiveTurn w = received w (receive-service.service (receivePart w) (w .memory))
+receiveTurn w = received w (receive-service.service (receive.partOf (w .device .units) (w .holding)) (w .memory))
 
 -- ---- a turn
 

@@ -8,7 +8,9 @@ use Rattle.memory.specs.declared.Offset.{Offset}
 use Rattle.memory.specs.declared.RealAddress.{RealAddress}
 use Rattle.scb.specs.Words.{noEvents}
 use Rattle.scb.specs.declared.Events.{Events}
+use Rattle.device.specs.Change.{withCu, withSettings, withUnits, withAddresses}
 use Rattle.device.specs.declared.Cu.{Cu}
+use Rattle.device.specs.declared.Device.{Device}
 use Rattle.device.specs.declared.Settings.{Settings}
 
 -- ---- the command block: +0 status, +2 command, +4 link offset; the commands' own fields from +6 on
@@ -49,6 +51,21 @@ withUnit p unit =
 abbrev pub withOutgoing : Part → List ℕ → Part
 withOutgoing p outgoing =
     record { base = p .base; unit = p .unit; settings = p .settings; own = p .own; listed = p .listed; outgoing = outgoing }
+
+-- the part of a device and the outgoing area, and the device with a part put back
+abbrev pub partOf : Device → List ℕ → Part
+partOf d outgoing =
+    record {
+      base = d .units .base;
+      unit = d .units .cu;
+      settings = d .units .settings;
+      own = d .own;
+      listed = d .listed;
+      outgoing = outgoing;
+    }
+
+abbrev pub withPart : Device → Part → Device
+withPart d p = withAddresses (withUnits d (withSettings (withCu (d .units) (p .unit)) (p .settings))) (p .own) (p .listed)
 
 -- ---- what a service comes to: the part afterwards, the writes in their order, the events raised, the length sent
 

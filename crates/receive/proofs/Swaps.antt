@@ -17,7 +17,7 @@ use Rattle.device.specs.declared.Ru.{Ru}
 use Rattle.device.specs.declared.Ru.the-variants as ru
 use Rattle.device.specs.declared.Storing.{Storing}
 use Rattle.device.specs.declared.Verdict.the-variants as verdict
-use Rattle.receive.specs.Arrival.{judged, fateOf}
+use Rattle.receive.specs.Arrival.{lengthOf, judged, fateOf}
 use Rattle.receive.specs.Buffer.{descriptorAt, buffer}
 use Rattle.receive.specs.Part.{Part, Service}
 use Rattle.receive.specs.Service.{service}
@@ -52,5 +52,5 @@ abbrev uncounted : ℕ → Bool
 uncounted v = not (isCounter (counterOf (fateOf freshSettings true ru.Idle (replicate 60 0) v)))
 
 pub idleCountsNothing : T (uncounted 0 && uncounted 1 && uncounted 2)
-unfolding judged fateOf verdictOf
+unfolding lengthOf judged fateOf verdictOf
 idleCountsNothing = tt

@@ -1,12 +1,15 @@
 -- What becomes of an arriving frame: 01, "Arrival and storing", in its order. Memory, holding area and unit follow from the fate.
 -- Assumes nothing.
+use mathlib.Core.Path.{_≡_}
 use mathlib.Core.Bool.{Bool, true, false}
 use mathlib.Core.List.{List}
-use Prim.Native.Nat.{ℕ, _+_}
+use Prim.Native.Nat.{ℕ, _+_, min}
 use lib.Dec.{ltb}
 use lib.ListN.{length}
 use lib.Seq.{sets}
-use Rattle.device.specs.Limits.{header, heldFrom, fcs}
+use Rattle.memory.specs.Memory.{Write, apply}
+use Rattle.device.specs.Answers.{counterOf, counts, isHeld}
+use Rattle.device.specs.Limits.{header, heldFrom, longest, fcs}
 use Rattle.device.specs.Numbers.{verdictOf}
 use Rattle.device.specs.State.{isGood}
 use Rattle.device.specs.declared.Counter.{Counter}
@@ -17,16 +20,22 @@ use Rattle.device.specs.declared.Frame.{Frame}
 use Rattle.device.specs.declared.Ru.{Ru}
 use Rattle.device.specs.declared.Ru.the-variants as ru
 use Rattle.device.specs.declared.Settings.{Settings}
+use Rattle.device.specs.declared.Units.{Units}
 use Rattle.device.specs.declared.Verdict.{Verdict}
 use Rattle.device.specs.declared.Verdict.the-variants as verdict
+use Rattle.receive.specs.declared.Arrived.{Arrived}
+
+-- a frame's length; one that exceeds 2,048 bytes is refused before anything here is asked
+unfoldable pub lengthOf : List ℕ → ℕ
+lengthOf f = min (length f) longest
 
 -- short, bad and good are judged once, by the settings at arrival. Short: bytes plus 4 below the minimum
 unfoldable pub judged : Settings → List ℕ → ℕ → Frame
 judged s f v =
     record {
-      length = length f;
+      length = lengthOf f;
       verdict = verdictOf v;
-      short = ltb (length f + fcs) (s .minimum);
+      short = ltb (lengthOf f + fcs) (s .minimum);
       savebad = s .savebad;
     }
 
@@ -90,3 +99,33 @@ unitBy false unit f = unit
 abbrev pub areaBy : (held : Bool) → List ℕ → List ℕ → List ℕ
 areaBy true area f = sets area heldFrom f
 areaBy false area f = area
+
+-- ---- an arrival, in one record: the unit afterwards, the counter's write, the holding area, the fate
+
+pub record Arrival : Type 0 where
+  pub unit : Ru
+  pub writes : List Write
+  pub area : List ℕ
+  pub fate : Fate
+
+-- u: the units; f: the frame; v: the line side's verdict; m: memory; area: the holding area
+abbrev pub arrivalBy : Fate → Units → List ℕ → ℕ → List ℕ → List ℕ → Arrival
+arrivalBy fate u f v m area =
+    record {
+      unit = unitBy (isHeld fate) (u .ru) (judged (u .settings) f v);
+      writes = counts (counterOf fate) (u .base) (u .scb) m;
+      area = areaBy (isHeld fate) area f;
+      fate = fate;
+    }
+
+unfoldable pub arrival : Units → (matched : Bool) → List ℕ → ℕ → List ℕ → List ℕ → Arrival
+arrival u matched f v m area = arrivalBy (fateOf (u .settings) matched (u .ru) f v) u f v m area
+
+-- what the code of an arrival answers, and that it does what is said
+abbrev pub arrivedBy : Arrival → Arrived
+arrivedBy a = record { unit = a .unit; fate = a .fate }
+
+pub record Arrives (said : Arrival) (before : List ℕ) (r : Arrived) (m h : List ℕ) : Type 0 where
+  pub result : r ≡ arrivedBy said
+  pub memory : m ≡ apply (said .writes) before
+  pub holding : h ≡ said .area

@@ -11,6 +11,7 @@ use Rattle.scb.specs.declared.Events.{Events}
 use Rattle.device.specs.declared.Fate.{Fate}
 use Rattle.device.specs.declared.Fate.the-variants as fate
 use Rattle.device.specs.declared.Ru.{Ru}
+use Rattle.device.specs.declared.Units.{Units}
 
 -- ---- frame descriptor: +0 status, +2 15 EL, 14 S, +4 link, +6 first buffer descriptor or FFFFh, +8 destination, +14 source, +20 type
 
@@ -36,6 +37,10 @@ pub record Part : Type 0 where
   pub scb : Offset
   pub unit : Ru
   pub holding : List ℕ
+
+-- the part of the units and the holding area
+abbrev pub partOf : Units → List ℕ → Part
+partOf u holding = record { base = u .base; scb = u .scb; unit = u .ru; holding = holding }
 
 -- ---- what a service comes to: the unit afterwards, the writes in their order, the events raised, the held frame's fate
 

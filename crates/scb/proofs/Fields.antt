@@ -1,15 +1,14 @@
 -- The laws of a word's fields, once over every place and width: what the code of `field` and `join` computes,
 -- and what is read of a word that was joined. Assumes nothing.
-use mathlib.Core.Path.{_≡_, _∙_}
-use mathlib.Core.Bool.{false}
+use mathlib.Core.Path.{_≡_, _∙_, sym}
 use Prim.Native.Nat.{ℕ, _+_, _*_, _/_, _%_, _^_, _-_, _<_, _≤_}
-use native.Mathlib.Nat.{add-comm, mod-lt, mod-eq-of-lt, div-eq-of-lt, zero-mod, lt-of-lt-of-le, suc-mul, mul-le-mul-right, add-mul-mod-self-right, mul-assoc, div-one}
+use native.Mathlib.Nat.{add-comm, mod-lt, mod-eq-of-lt, div-eq-of-lt, zero-mod, lt-of-lt-of-le, lt-of-le-of-lt, suc-mul, mul-le-mul-right, add-mul-mod-self-right, mul-assoc, div-one}
 use native.Mathlib.Omega.{arith}
 use lib.Bits.{bitAnd, bitOr, and-mask, or-shifted-r}
 use lib.Dec.{eqb, eqb→eq}
 use lib.Pow as pow
-use lib.Pow.{pow-pos, pow-add, pow-mono, shr-shr, high}
-use Rattle.scb.specs.Words.{field, joined, bit}
+use lib.Pow.{pow-pos, pow-add, pow-mono, shr-shr, shr-le, high}
+use Rattle.scb.specs.Words.{field, joined}
 use Rattle.scb.proofs.Below.{below}
 
 -- ---- the code of `field`: shift right, and mask
@@ -46,8 +45,13 @@ pub field-whole : (w bits : ℕ) → w < 2 ^ bits → field w 0 bits ≡ w
 unfolding field
 field-whole w bits h = rw (div-one w) (mod-eq-of-lt h)
 
-pub bit-past : (w at : ℕ) → w < 65536 → 15 < at → false ≡ bit w at
-bit-past w at h past = rw (field-past w at 1 (lt-of-lt-of-le h (pow-mono past)))
+-- a field that begins past bit 15, and one that is wider than the word
+pub field-outside : (w at bits : ℕ) → w < 65536 → 15 < at → 0 ≡ field w at bits
+field-outside w at bits h past = rw (field-past w at bits (lt-of-lt-of-le h (pow-mono past)))
+
+pub field-wide : (w at bits : ℕ) → w < 65536 → 15 < bits → w / 2 ^ at ≡ field w at bits
+unfolding field
+field-wide w at bits h wide = sym (mod-eq-of-lt (lt-of-le-of-lt (shr-le w at) (lt-of-lt-of-le h (pow-mono wide))))
 
 pub joined-below : (w at v bits : ℕ) → w < 2 ^ at → v < 2 ^ bits → joined w at v < 2 ^ (bits + at)
 unfolding joined

@@ -53,12 +53,25 @@ const CUS: u16 = 8;
 
 const RUS: u16 = 4;
 
-// The field of a word that begins at bit `at` and is `bits` bits wide. What of it lies past bit 15 is zero.
-fn field(w: u16, at: u16, bits: u16) -> u16
+// Shift and mask: the `bits` bits of a word from bit `at` on.
+fn cut(w: u16, at: u16, bits: u16) -> u16
     requires { ⌜ (at < 16) × (bits < 16) ⌝ }
     ensures { λ r. ⌜ r ≡ words.field w at bits ⌝ }
 {
     (w >> at) & ((1 << bits) - 1)
+}
+
+// The field of a word that begins at bit `at` and is `bits` bits wide. What of it lies past bit 15 is zero.
+pub fn field(w: u16, at: u16, bits: u16) -> u16
+    ensures { λ r. ⌜ r ≡ words.field w at bits ⌝ }
+{
+    if at > 15 {
+        return 0;
+    }
+    if bits > 15 {
+        return w >> at;
+    }
+    cut(w, at, bits)
 }
 
 // A word that lies below bit `at`, with the number `v` put in from bit `at` on.
@@ -73,9 +86,6 @@ fn join(w: u16, at: u16, v: u16) -> u16
 pub fn is_set(w: u16, at: u16) -> bool
     ensures { λ r. ⌜ r ≡ words.bit w at ⌝ }
 {
-    if at > 15 {
-        return false;
-    }
     field(w, at, 1) == 1
 }
 

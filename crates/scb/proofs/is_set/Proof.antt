@@ -1,13 +1,6 @@
-use native.Mathlib.Omega.{arith}
-use Rattle.scb.proofs.Fields.{bit-past}
 use borrow.Author.Needs.{needs}
 use Rattle.scb.proofs.is_set.Statement.{statement}
 use Rattle.scb.proofs.is_set.Tie as tie
 
 pub is-set-spec : {M : Type 1} → statement M
-is-set-spec =
-    tie.close
-    (tie.spec
-    (λ c. bit-past (c .before .args .w) (c .before .args .at) (search needs) (omega arith))
-    (λ c κs. search needs)
-    (λ c. rw (c .field .ensures)))
+is-set-spec = tie.close (tie.spec (λ c κs. search needs) (λ c. rw (c .field .ensures)))
