@@ -26,7 +26,7 @@ use Rattle.command.specs.Part as command
 use Rattle.command.specs.Actions.{Acted, act, sent, notSent}
 use Rattle.command.specs.Begin as command-begin
 use Rattle.command.specs.Buffer as command-buffer
-use Rattle.command.specs.End.{end, afterEnd, linkOf}
+use Rattle.command.specs.End.{end, nextAfter}
 use Rattle.command.specs.Service as command-service
 use Rattle.receive.specs.Part as receive
 use Rattle.receive.specs.Begin as receive-begin
@@ -75,7 +75,7 @@ not-left false false h = absurd (true≢false h)
 end-active : (p : command.Part) (b : Begun) (a : Acted) (m : List ℕ) → anyOf (end p b a m .raised) ≡ false → cuState (end p b a m .part .unit) ≡ cus.Active
 unfolding anyOf end
 end-active p b a m h =
-    let next = afterEnd (b .el) (b .suspend || b .pausing) (linkOf p b a m) in
+    let next = nextAfter (p .base) b (a .status) (apply (a .writes) m) in
     active (cuState next) (not-left (b .interrupt) (isActive (cuState next)) h)
 
 pub cu-stays : (u : Cu) (p : command.Part) (m : List ℕ) (report : ℕ) → cuState u ≡ cus.Active
@@ -84,10 +84,10 @@ unfolding command-begin.begin command-buffer.buffer
 cu-stays cu.Idle p m r a h = absurd (false≢true (ap isActive a))
 cu-stays (cu.Suspended o) p m r a h = absurd (false≢true (ap isActive a))
 cu-stays (cu.Waiting o) p m r a h = rw to-begun-active
-cu-stays (cu.Acting b x) p m r a h = end-active p b (act x p (b .block) m) m h
+cu-stays (cu.Acting b x) p m r a h = end-active p b (act x (p .base) (p .setup) (b .block) m) m h
 cu-stays (cu.Sending b w) p m r a h = rw buffer-active
-cu-stays (cu.Ending b n) p m r a h = end-active p b (sent p n r) m h
-cu-stays (cu.Failing b) p m r a h = end-active p b (notSent p) m h
+cu-stays (cu.Ending b n) p m r a h = end-active p b (sent (p .setup) n r) m h
+cu-stays (cu.Failing b) p m r a h = end-active p b (notSent (p .setup)) m h
 
 -- ---- the receive unit
 

@@ -18,7 +18,7 @@ use Rattle.filter.specs.Match.{agree, isListed, matches}
 use Rattle.command.specs.Begin as command-begin
 use Rattle.command.specs.Buffer as command-buffer
 use Rattle.command.specs.Actions.{settingsBy, listing, act, reported, isSent, sent}
-use Rattle.command.specs.End.{results, linkOf, end}
+use Rattle.command.specs.End.{nextAfter, end}
 use Rattle.command.specs.Service as command-service
 use Rattle.receive.specs.Arrival.{lengthOf, judged, fateOf, arrival}
 use Rattle.receive.specs.Begin as receive-begin
@@ -130,7 +130,7 @@ walk (s ∷ ss) w =
     let r = ran (s .call) (withWords w (s .host)) in stepPasses s r && walk ss (afterwards r)
 
 unfoldable pub passes : Case → Bool
-unfolding byteAt putByte bytesAt putBytes value digits fieldAt place beyond cuNext ruNext field joined acknowledged anyOf eventBits statusWord counts actionOf verdictOf agree isListed matches command-begin.begunBy command-begin.headerOf command-begin.begin command-buffer.descriptorAt command-buffer.buffer settingsBy listing act reported isSent sent results linkOf end command-service.service lengthOf judged fateOf arrival receive-begin.begunBy receive-begin.begin receive-buffer.descriptorAt receive-buffer.buffer frameStatus settles close lack receive-service.service statusTo resetOf iscpOf initialise resetBy obeyCuc obeyRuc obey attend attentionOf arrivalOf commandTurn receiveTurn turnOf
+unfolding byteAt putByte bytesAt putBytes value digits fieldAt place beyond cuNext ruNext field joined acknowledged anyOf eventBits statusWord counts actionOf verdictOf agree isListed matches command-begin.begunBy command-begin.headerOf command-begin.begin command-buffer.descriptorAt command-buffer.buffer settingsBy listing act reported isSent sent nextAfter end command-service.service lengthOf judged fateOf arrival receive-begin.begunBy receive-begin.begin receive-buffer.descriptorAt receive-buffer.buffer frameStatus settles close lack receive-service.service statusTo resetOf iscpOf initialise resetBy obeyCuc obeyRuc obey attend attentionOf arrivalOf commandTurn receiveTurn turnOf
 passes c = walk (c .steps) (start (c .given))
 
 abbrev pub allPass : List Case → Bool

@@ -17,7 +17,7 @@ use Rattle.device.specs.declared.Cu.the-variants as cu
 use Rattle.command.specs.Actions.{act}
 use Rattle.command.specs.Begin.{begin, begunBy}
 use Rattle.command.specs.Buffer.{descriptorAt, buffer}
-use Rattle.command.specs.End.{results, linkOf, end}
+use Rattle.command.specs.End.{nextAfter, end}
 use Rattle.command.specs.Part.{Part, Service}
 use Rattle.command.specs.Service.{service}
 
@@ -27,9 +27,7 @@ part unit =
     record {
       base = record { 0 = 0x10 };
       unit = unit;
-      settings = freshSettings;
-      own = replicate 6 255;
-      listed = replicate 96 0;
+      setup = record { settings = freshSettings; own = replicate 6 255; listed = replicate 96 0 };
       outgoing = replicate 32 0;
     }
 
@@ -58,10 +56,10 @@ ended link = service (part (cu.Acting block action.Nop)) (apply (wordTo 0x54 lin
 
 -- Taking a link at begin: what a begun command carries has no link, and the one that stands in the block at the end is taken
 pub linkAtEnd : T (goesTo (ended 0x58) 0x58)
-unfolding byteAt putByte bytesAt putBytes value digits fieldAt place field act results linkOf end service
+unfolding byteAt putByte bytesAt putBytes value digits fieldAt place field act nextAfter end service
 linkAtEnd = tt
 
 -- Treating FFFFh in a command link as an end: only EL ends
 pub onesAreALink : T (goesTo (ended 0xFFFF) 0xFFFF)
-unfolding byteAt putByte bytesAt putBytes value digits fieldAt place field act results linkOf end service
+unfolding byteAt putByte bytesAt putBytes value digits fieldAt place field act nextAfter end service
 onesAreALink = tt

@@ -14,7 +14,7 @@ use Rattle.device.specs.Limits.{addressLength, mostListed, listedSize}
 use Rattle.device.specs.declared.Action.{Action}
 use Rattle.device.specs.declared.Action.the-variants as action
 use Rattle.device.specs.declared.Settings.{Settings}
-use Rattle.command.specs.Part.{Part, argumentAt, destinationAt}
+use Rattle.command.specs.Part.{Setup, argumentAt, destinationAt}
 
 -- Command block: 15 C, 13 OK
 abbrev pub done : ℕ
@@ -26,29 +26,24 @@ failed = 0x8000
 -- what an action comes to
 pub record Acted : Type 0 where
   pub status : ℕ
-  pub settings : Settings
-  pub own : List ℕ
-  pub listed : List ℕ
+  pub setup : Setup
   pub writes : List Write
   pub length : ℕ
 
 -- nothing but the status and, if a frame is sent, its length
-abbrev pub plainly : Part → ℕ → ℕ → Acted
-plainly p status length =
-    record { status = status; settings = p .settings; own = p .own; listed = p .listed; writes = []; length = length }
+abbrev pub plainly : Setup → ℕ → ℕ → Acted
+plainly s status length = record { status = status; setup = s; writes = []; length = length }
+
+-- done with another setup, if that is accepted; else 8000h, nothing changed
+abbrev pub setting : (accepted : Bool) → Setup → Setup → Acted
+setting accepted s new = plainly (cond accepted new s) (cond accepted done failed) 0
 
 -- ---- 1 IA-Setup: six bytes at +6
 
-abbrev pub iaSetup : Part → Offset → List ℕ → Acted
-iaSetup p block m =
-    record {
-      status = done;
-      settings = p .settings;
-      own = bytesAt m (place (p .base) block argumentAt) addressLength;
-      listed = p .listed;
-      writes = [];
-      length = 0;
-    }
+abbrev pub iaSetup : RealAddress → Setup → Offset → List ℕ → Acted
+iaSetup base s block m =
+    setting true s
+    (record { settings = s .settings; own = bytesAt m (place base block argumentAt) addressLength; listed = s .listed })
 
 -- ---- 2 Configure
 
@@ -74,14 +69,12 @@ settingsBy count byte s =
 abbrev pub acceptable : ℕ → Bool
 acceptable byte = eqb (field byte 0 3) addressLength && not (bit byte 3) && not (bit byte 6) && not (bit byte 7)
 
--- status 8000h, nothing changed (ours)
-abbrev pub configured : (accepted : Bool) → Part → Settings → Acted
-configured true p s = record { status = done; settings = s; own = p .own; listed = p .listed; writes = []; length = 0 }
-configured false p s = plainly p failed 0
-
-abbrev pub configure : Part → Offset → List ℕ → Acted
-configure p block m =
-    let byte = byteOf (p .base) block m in configured (acceptable (byte 3)) p (settingsBy (clamped (byte 0)) byte (p .settings))
+-- if the result is not acceptable: status 8000h, nothing changed (ours)
+abbrev pub configure : RealAddress → Setup → Offset → List ℕ → Acted
+configure base s block m =
+    let byte = byteOf base block m in
+    setting (acceptable (byte 3)) s
+    (record { settings = settingsBy (clamped (byte 0)) byte (s .settings); own = s .own; listed = s .listed })
 
 -- ---- 3 MC-Setup
 
@@ -94,37 +87,27 @@ unfoldable pub listing : RealAddress → Offset → List ℕ → ℕ → List �
 listing base block m n = sets (replicate listedSize 0) 0 (bytesAt m (place base block destinationAt) (n * addressLength))
 
 -- above 16 addresses: 8000h, old list kept
-abbrev pub listedBy : (fits : Bool) → Part → List ℕ → Acted
-listedBy true p l = record { status = done; settings = p .settings; own = p .own; listed = l; writes = []; length = 0 }
-listedBy false p l = plainly p failed 0
-
-abbrev pub mcSetup : Part → Offset → List ℕ → Acted
-mcSetup p block m =
-    let n = groups (p .base) block m in listedBy (leb n mostListed) p (listing (p .base) block m n)
+abbrev pub mcSetup : RealAddress → Setup → Offset → List ℕ → Acted
+mcSetup base s block m =
+    let n = groups base block m in
+    setting (leb n mostListed) s (record { settings = s .settings; own = s .own; listed = listing base block m n })
 
 -- ---- 5 TDR: word +6 becomes 8000h
 
-abbrev pub tdr : Part → Offset → Acted
-tdr p block =
-    record {
-      status = done;
-      settings = p .settings;
-      own = p .own;
-      listed = p .listed;
-      writes = wordTo (place (p .base) block argumentAt) 0x8000 ∷ [];
-      length = 0;
-    }
+abbrev pub tdr : RealAddress → Setup → Offset → Acted
+tdr base s block =
+    record { status = done; setup = s; writes = wordTo (place base block argumentAt) 0x8000 ∷ []; length = 0 }
 
 -- ---- 0 NOP, 7 Diagnose: A000h. 6 Dump: 8000h
 
-unfoldable pub act : Action → Part → Offset → List ℕ → Acted
-act action.Nop p block m = plainly p done 0
-act action.IaSetup p block m = iaSetup p block m
-act action.Configure p block m = configure p block m
-act action.McSetup p block m = mcSetup p block m
-act action.Tdr p block m = tdr p block
-act action.Dump p block m = plainly p failed 0
-act action.Diagnose p block m = plainly p done 0
+unfoldable pub act : Action → RealAddress → Setup → Offset → List ℕ → Acted
+act action.Nop base s block m = plainly s done 0
+act action.IaSetup base s block m = iaSetup base s block m
+act action.Configure base s block m = configure base s block m
+act action.McSetup base s block m = mcSetup base s block m
+act action.Tdr base s block m = tdr base s block
+act action.Dump base s block m = plainly s failed 0
+act action.Diagnose base s block m = plainly s done 0
 
 -- ---- 4 Transmit
 
@@ -137,9 +120,9 @@ unfoldable pub isSent : ℕ → Bool
 isSent report = not (bit report 10 || bit report 9 || bit report 5)
 
 -- those bits are set with C; OK, and the frame sent, exactly if 10, 9, 5 are clear
-unfoldable pub sent : Part → ℕ → ℕ → Acted
-sent p filled report = plainly p (cond (isSent report) done failed + reported report) (cond (isSent report) filled 0)
+unfoldable pub sent : Setup → ℕ → ℕ → Acted
+sent s filled report = plainly s (cond (isSent report) done failed + reported report) (cond (isSent report) filled 0)
 
 -- 8100h, nothing sent (ours)
-abbrev pub notSent : Part → Acted
-notSent p = plainly p 0x8100 0
+abbrev pub notSent : Setup → Acted
+notSent s = plainly s 0x8100 0

@@ -8,6 +8,7 @@ use lib.Seq.{sets}
 use Rattle.memory.specs.Memory.{wordAt, bytesAt, wordTo}
 use Rattle.memory.specs.Address.{place, offsetAt, isNone}
 use Rattle.memory.specs.declared.Offset.{Offset}
+use Rattle.memory.specs.declared.RealAddress.{RealAddress}
 use Rattle.scb.specs.Words.{field, bit}
 use Rattle.device.specs.Limits.{addressLength, typeLength, header}
 use Rattle.device.specs.Numbers.{transmit, actionOf}
@@ -31,15 +32,15 @@ toFirst true b first = cu.Ending b header
 toFirst false b first = cu.Sending b (record { next = first; used = 0; filled = header })
 
 -- Frame: destination, own address, type
-unfoldable pub headerOf : Part → Offset → List ℕ → List ℕ
-headerOf p block m =
-    bytesAt m (place (p .base) block destinationAt) addressLength ++ p .own ++ bytesAt m (place (p .base) block typeAt) typeLength
+unfoldable pub headerOf : RealAddress → List ℕ → Offset → List ℕ → List ℕ
+headerOf base own block m =
+    bytesAt m (place base block destinationAt) addressLength ++ own ++ bytesAt m (place base block typeAt) typeLength
 
 -- the begun unit: a Transmit at its first descriptor with the header in the outgoing area, any other command before its end
 abbrev pub toBegun : (transmits : Bool) → Part → Begun → ℕ → List ℕ → Part
 toBegun true p b word m =
     let first = offsetAt m (place (p .base) (b .block) argumentAt) in
-    withOutgoing (withUnit p (toFirst (isNone first) b first)) (sets (p .outgoing) 0 (headerOf p (b .block) m))
+    withOutgoing (withUnit p (toFirst (isNone first) b first)) (sets (p .outgoing) 0 (headerOf (p .base) (p .setup .own) (b .block) m))
 toBegun false p b word m = withUnit p (cu.Acting b (actionOf (cmd word)))
 
 unfoldable pub begin : Part → Offset → List ℕ → Service

@@ -14,15 +14,10 @@ use Rattle.device.specs.declared.Begun.{Begun}
 use Rattle.device.specs.declared.Cu.{Cu}
 use Rattle.device.specs.declared.Cu.the-variants as cu
 use Rattle.device.specs.declared.Walk.{Walk}
+use Rattle.command.specs.declared.Descriptor.{Descriptor}
 use Rattle.command.specs.Part.{Part, Service, withUnit, withOutgoing, quietly}
 
 -- Descriptor: +0 15 EOF, 13-0 count; +2 next offset; +4 real address
-pub record Descriptor : Type 0 where
-  pub eof : Bool
-  pub count : ℕ
-  pub next : Offset
-  pub buffer : RealAddress
-
 unfoldable pub descriptorAt : RealAddress → Offset → List ℕ → Descriptor
 descriptorAt base o m =
     let word = wordAt m (place base o 0) in
@@ -34,8 +29,15 @@ descriptorAt base o m =
     }
 
 -- the walk with this descriptor behind it
+abbrev pub walked : Descriptor → ℕ → ℕ → Walk
+walked d used filled = record { next = d .next; used = used + 1; filled = filled }
+
 abbrev pub past : Descriptor → Walk → Walk
-past d w = record { next = d .next; used = w .used + 1; filled = w .filled + d .count }
+past d w = walked d (w .used) (w .filled + d .count)
+
+-- the 64th descriptor
+abbrev pub isLast : ℕ → Bool
+isLast used = leb mostBuffers (used + 1)
 
 -- a buffer that would pass 2,048 bytes, a next offset FFFFh before EOF, no EOF in 64 descriptors: the end turn is next, and nothing is sent
 abbrev pub afterBuffer : (fits eof none last : Bool) → Begun → Walk → Cu
@@ -58,7 +60,7 @@ gathered false outgoing d w m = outgoing
 abbrev pub taken : Part → Begun → Walk → Descriptor → List ℕ → Part
 taken p b w d m =
     withOutgoing
-    (withUnit p (afterBuffer (fits d w) (d .eof) (isNone (d .next)) (leb mostBuffers (w .used + 1)) b (past d w)))
+    (withUnit p (afterBuffer (fits d w) (d .eof) (isNone (d .next)) (isLast (w .used)) b (past d w)))
     (gathered (fits d w) (p .outgoing) d w m)
 
 -- one buffer turn for each descriptor; memory is only read

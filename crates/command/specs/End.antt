@@ -6,6 +6,7 @@ use Prim.Native.Nat.{ℕ}
 use Rattle.memory.specs.Memory.{Write, wordTo, apply}
 use Rattle.memory.specs.Address.{place, offsetAt}
 use Rattle.memory.specs.declared.Offset.{Offset}
+use Rattle.memory.specs.declared.RealAddress.{RealAddress}
 use Rattle.scb.specs.declared.Events.{Events}
 use Rattle.device.specs.State.{cuState, isActive}
 use Rattle.device.specs.declared.Begun.{Begun}
@@ -24,29 +25,25 @@ afterEnd false false link = cu.Waiting link
 abbrev pub raisedBy : Begun → Cu → Events
 raisedBy b next = record { cx = b .interrupt; fr = false; cna = not (isActive (cuState next)); rnr = false }
 
--- the action's writes, then the status
-unfoldable pub results : Part → Begun → Acted → List Write
-results p b a = a .writes ++ (wordTo (place (p .base) (b .block) statusAt) (a .status) ∷ [])
+-- the status goes to the block, after the action's writes
+abbrev pub statusTo : RealAddress → Begun → ℕ → Write
+statusTo base b status = wordTo (place base (b .block) statusAt) status
+
+abbrev pub results : Part → Begun → Acted → List Write
+results p b a = a .writes ++ (statusTo (p .base) b (a .status) ∷ [])
 
 -- the part after the action, with the unit as said
 abbrev pub ended : Part → Acted → Cu → Part
-ended p a next =
-    record {
-      base = p .base;
-      unit = next;
-      settings = a .settings;
-      own = a .own;
-      listed = a .listed;
-      outgoing = p .outgoing;
-    }
+ended p a next = record { base = p .base; unit = next; setup = a .setup; outgoing = p .outgoing }
 
 abbrev pub endAt : Part → Begun → Acted → Cu → Service
 endAt p b a next =
     record { part = ended p a next; writes = results p b a; raised = raisedBy b next; length = a .length }
 
--- the link is read after the action and the status
-unfoldable pub linkOf : Part → Begun → Acted → List ℕ → Offset
-linkOf p b a m = offsetAt (apply (results p b a) m) (place (p .base) (b .block) linkAt)
+-- the link is read now: after the action and the status
+unfoldable pub nextAfter : RealAddress → Begun → ℕ → List ℕ → Cu
+nextAfter base b status m =
+    afterEnd (b .el) (b .suspend || b .pausing) (offsetAt (apply (statusTo base b status ∷ []) m) (place base (b .block) linkAt))
 
 unfoldable pub end : Part → Begun → Acted → List ℕ → Service
-end p b a m = endAt p b a (afterEnd (b .el) (b .suspend || b .pausing) (linkOf p b a m))
+end p b a m = endAt p b a (nextAfter (p .base) b (a .status) (apply (a .writes) m))

@@ -5,3 +5,4 @@ pub mod Buffer
 pub mod Actions
 pub mod End
 pub mod Service
+pub mod Inner

@@ -36,36 +36,36 @@ typeAt = 14
 
 -- ---- the unit's part of the world
 
-pub record Part : Type 0 where
-  pub base : RealAddress
-  pub unit : Cu
+-- what the commands set up: settings and addresses
+pub record Setup : Type 0 where
   pub settings : Settings
   pub own : List ℕ
   pub listed : List ℕ
+
+pub record Part : Type 0 where
+  pub base : RealAddress
+  pub unit : Cu
+  pub setup : Setup
   pub outgoing : List ℕ
 
 abbrev pub withUnit : Part → Cu → Part
-withUnit p unit =
-    record { base = p .base; unit = unit; settings = p .settings; own = p .own; listed = p .listed; outgoing = p .outgoing }
+withUnit p unit = record { base = p .base; unit = unit; setup = p .setup; outgoing = p .outgoing }
 
 abbrev pub withOutgoing : Part → List ℕ → Part
-withOutgoing p outgoing =
-    record { base = p .base; unit = p .unit; settings = p .settings; own = p .own; listed = p .listed; outgoing = outgoing }
+withOutgoing p outgoing = record { base = p .base; unit = p .unit; setup = p .setup; outgoing = outgoing }
 
 -- the part of a device and the outgoing area, and the device with a part put back
+abbrev pub setupOf : Device → Setup
+setupOf d = record { settings = d .units .settings; own = d .own; listed = d .listed }
+
 abbrev pub partOf : Device → List ℕ → Part
-partOf d outgoing =
-    record {
-      base = d .units .base;
-      unit = d .units .cu;
-      settings = d .units .settings;
-      own = d .own;
-      listed = d .listed;
-      outgoing = outgoing;
-    }
+partOf d outgoing = record { base = d .units .base; unit = d .units .cu; setup = setupOf d; outgoing = outgoing }
+
+abbrev pub withSetup : Device → Setup → Device
+withSetup d s = withAddresses (withUnits d (withSettings (d .units) (s .settings))) (s .own) (s .listed)
 
 abbrev pub withPart : Device → Part → Device
-withPart d p = withAddresses (withUnits d (withSettings (withCu (d .units) (p .unit)) (p .settings))) (p .own) (p .listed)
+withPart d p = withSetup (withUnits d (withCu (d .units) (p .unit))) (p .setup)
 
 -- ---- what a service comes to: the part afterwards, the writes in their order, the events raised, the length sent
 

@@ -18,10 +18,10 @@ abbrev pub serviceBy : Cu → Part → List ℕ → ℕ → Service
 serviceBy cu.Idle p m report = quietly p []
 serviceBy (cu.Suspended block) p m report = quietly p []
 serviceBy (cu.Waiting block) p m report = begin p block m
-serviceBy (cu.Acting b a) p m report = end p b (act a p (b .block) m) m
+serviceBy (cu.Acting b a) p m report = end p b (act a (p .base) (p .setup) (b .block) m) m
 serviceBy (cu.Sending b w) p m report = buffer p b w m
-serviceBy (cu.Ending b filled) p m report = end p b (sent p filled report) m
-serviceBy (cu.Failing b) p m report = end p b (notSent p) m
+serviceBy (cu.Ending b filled) p m report = end p b (sent (p .setup) filled report) m
+serviceBy (cu.Failing b) p m report = end p b (notSent (p .setup)) m
 
 unfoldable pub service : Part → List ℕ → ℕ → Service
 service p m report = serviceBy (p .unit) p m report

@@ -135,5 +135,23 @@ out-all m d a at (suc n) =
     sets-past d at (bytesAt m a (min (suc n) (length d - at))) h ∙ sym (sets-past d at (bytesAt m a (suc n)) h))
     (below-or-not at (length d))
 
+pub run-step : (d : List ℕ) (at : ℕ) (src : List ℕ) (i : ℕ) → i < length src
+    → set (sets d at (take i src)) (at + i) (getD src i 0) ≡ sets d at (take (i + 1) src)
+run-step d at src i h =
+    let e : length (take i src) ≡ i = length-take-le i src (omega arith) in
+    sym (rw (add-one, take-suc src i 0 h, sets-append, e))
+
+pub run-all : (d : List ℕ) (at : ℕ) (src : List ℕ) → sets d at (take (min (length src) (length d - at)) src) ≡ sets d at src
+run-all d at [] = let k : min 0 (length d - at) ≡ 0 = omega arith in rw k
+run-all d at (b ∷ bs) =
+    ⊎-elim
+    (λ (h : at < length d).
+    let k : min (suc (length bs)) (length d - at) ≡ suc (min (length bs) (length d - suc at)) = omega arith in
+    let l : length (set d at b) ≡ length d = length-set d at b in
+    rw (k, ← l) (run-all (set d at b) (suc at) bs))
+    (λ (h : length d ≤ at).
+    sets-past d at (take (min (length (b ∷ bs)) (length d - at)) (b ∷ bs)) h ∙ sym (sets-past d at (b ∷ bs) h))
+    (below-or-not at (length d))
+
 -- what `search` is handed at the needs of code over memory
 pub ruleset memory = (needs, mod-lt, within)

@@ -151,6 +151,18 @@ fn room(len: usize, at: usize, n: usize) -> usize
     n
 }
 
+// The bytes of src go to dst from index at on; what would pass the end of dst goes nowhere.
+pub fn put_run(dst: &mut [u8], at: usize, src: &[u8])
+    ensures { λ _. ⌜ now (dst .exit) ≡ sets (now (dst .entry)) at (now (src .entry)) ⌝ }
+{
+    let k = room(dst.len(), at, src.len());
+    let mut i = 0;
+    while i < k {
+        dst[at + i] = src[i];
+        i += 1;
+    }
+}
+
 // The n bytes of memory from a on go to dst from index at on; what would pass the end of dst goes nowhere.
 pub fn copy_out(m: &[u8], a: RealAddress, n: usize, dst: &mut [u8], at: usize)
     ensures { λ _. ⌜ now (dst .exit) ≡ sets (now (dst .entry)) at (bytesAt (now (m .entry)) (a .0) n) ⌝ }
