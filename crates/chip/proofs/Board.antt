@@ -54,13 +54,15 @@ edge = record { number = 0; length = 0; edge = true }
 -- the host writes words; a call answers; words stand in memory; the interrupt has a level
 abbrev pub step : List Word → Call → Said → List Word → Level → Step
 step host call answer words level =
-    record { host = host; call = call; answer = answer; words = words; outgoing = []; level = level }
+    record { host = host; held = []; sent = []; call = call; answer = answer; words = words; outgoing = []; level = level }
 
 -- the end turn of a Transmit: the report; the length; words of memory and of the outgoing area
 abbrev pub ends : ℕ → ℕ → List Word → List Word → Step
 ends report length words outgoing =
     record {
       host = [];
+      held = [];
+      sent = [];
       call = turn report;
       answer = record { number = 0; length = length; edge = true };
       words = words;
@@ -87,3 +89,30 @@ receiving = step (0x32 is 0xF010 ∷ 0x36 is 0x60 ∷ []) attention quiet (0x30 
 -- the command unit is started at the block 40h, and every event acknowledged
 abbrev pub commanding : Step
 commanding = step (0x32 is 0xF100 ∷ 0x34 is 0x40 ∷ []) attention quiet (0x30 is 0x0200 ∷ 0x32 is 0 ∷ []) low
+
+-- an attention with a command word, without an edge and with one
+abbrev pub attended : ℕ → List Word → Step
+attended command words = step (0x32 is command ∷ []) attention quiet words unsaid
+
+abbrev pub raising : ℕ → List Word → Step
+raising command words = step (0x32 is command ∷ []) attention edge words high
+
+-- a turn that reports an edge
+abbrev pub settling : List Word → Step
+settling words = step [] (turn 0) edge words high
+
+-- the command at 40h is run to its end, and ends the list
+abbrev pub configured : List Step
+configured = initialised ∷ commanding ∷ turned [] ∷ settling (0x40 is 0xA000 ∷ []) ∷ []
+
+-- a Configure at 40h that sets save-bad
+abbrev pub saving : List Word
+saving = 0x42 is 0x8002 ∷ 0x46 is 0x0804 ∷ 0x48 is 0x0680 ∷ []
+
+-- both units are started, at the block 40h and the frame descriptor 60h, and every event acknowledged
+abbrev pub working : Step
+working = step (0x32 is 0xF110 ∷ 0x34 is 0x40 ∷ 0x36 is 0x60 ∷ []) attention quiet (0x30 is 0x0240 ∷ 0x32 is 0 ∷ []) low
+
+-- the four counters, in their order
+abbrev pub counters : ℕ → ℕ → ℕ → ℕ → List Word
+counters c a r o = 0x38 is c ∷ 0x3A is a ∷ 0x3C is r ∷ 0x3E is o ∷ []

@@ -2,5 +2,4 @@
 pub mod Board
 pub mod Papers
 pub mod Swaps
-pub mod Readings
 pub mod Status

@@ -102,7 +102,7 @@ p5dropped =
           ∷ [];
     }
 
--- (P6) counter FFFFh to 0000h: CRCERRS, ALNERRS, OVRNERRS, each alone
+-- (P6) counter FFFFh to 0000h: CRCERRS, ALNERRS, OVRNERRS, RSCERRS, each alone
 p6 : Case
 p6 =
     record {

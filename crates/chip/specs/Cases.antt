@@ -61,6 +61,9 @@ pub record Said : Type 0 where
 pub record Step : Type 0 where
   -- words that the host writes before the call
   pub host : List Word
+  -- words that it writes to the holding and to the outgoing area, by index
+  pub held : List Word
+  pub sent : List Word
   pub call : Call
   pub answer : Said
   pub words : List Word
@@ -78,19 +81,24 @@ abbrev pub put : List Word → List ℕ → List ℕ
 put [] m = m
 put (w ∷ ws) m = put ws (apply (wordTo (w .place) (w .value) ∷ []) m)
 
-abbrev pub withWords : World → List Word → World
-withWords w ws =
-    record { device = w .device; memory = put ws (w .memory); holding = w .holding; outgoing = w .outgoing }
-
--- 8,192 bytes of memory, zero but for the words given; a fresh device
-abbrev pub start : List Word → World
-start ws =
+-- the world with what the host writes before a step
+abbrev pub altered : World → Step → World
+altered w s =
     record {
-      device = fresh;
-      memory = put ws (replicate 8192 0);
-      holding = replicate areaSize 0;
-      outgoing = replicate areaSize 0;
+      device = w .device;
+      memory = put (s .host) (w .memory);
+      holding = put (s .held) (w .holding);
+      outgoing = put (s .sent) (w .outgoing);
     }
+
+-- a fresh device with a memory
+abbrev pub startOn : List ℕ → World
+startOn m =
+    record { device = fresh; memory = m; holding = replicate areaSize 0; outgoing = replicate areaSize 0 }
+
+-- 8,192 bytes of memory, zero but for the words given
+abbrev pub start : List Word → World
+start ws = startOn (put ws (replicate 8192 0))
 
 abbrev pub ran : Call → World → Ran
 ran reset w = record { outcome = resetOf; memory = w .memory; holding = w .holding; outgoing = w .outgoing }
@@ -127,7 +135,7 @@ stepPasses s r =
 abbrev pub walk : List Step → World → Bool
 walk [] w = true
 walk (s ∷ ss) w =
-    let r = ran (s .call) (withWords w (s .host)) in stepPasses s r && walk ss (afterwards r)
+    let r = ran (s .call) (altered w s) in stepPasses s r && walk ss (afterwards r)
 
 unfoldable pub passes : Case → Bool
 unfolding byteAt putByte bytesAt putBytes value digits fieldAt place beyond cuNext ruNext field joined acknowledged anyOf eventBits statusWord counts actionOf verdictOf agree isListed matches command-begin.begunBy command-begin.headerOf command-begin.begin command-buffer.descriptorAt command-buffer.buffer settingsBy listing act reported isSent sent nextAfter end command-service.service lengthOf judged fateOf arrival receive-begin.begunBy receive-begin.begin receive-buffer.descriptorAt receive-buffer.buffer frameStatus settles close lack receive-service.service statusTo resetOf iscpOf initialise resetBy obeyCuc obeyRuc obey attend attentionOf arrivalOf commandTurn receiveTurn turnOf

@@ -51,11 +51,11 @@ iaSetup base s block m =
 abbrev pub clamped : ℕ → ℕ
 clamped byte = min 12 (max 4 (field byte 0 4))
 
--- byte k: of the bytes that are taken from +6 on, the others kept
+-- that many bytes are taken from +6 (byte 0)
 abbrev pub byteOf : RealAddress → Offset → List ℕ → ℕ → ℕ
 byteOf base block m k = byteAt m (place base block (argumentAt + k))
 
--- Byte 2: bit 7 save bad frames. Byte 8: bit 0 promiscuous, 1 broadcast disabled. Byte 10: minimum length. Bytes 2 and 3 are always taken
+-- the others are kept. Byte 2: bit 7 save bad frames. Byte 8: bit 0 promiscuous, 1 broadcast disabled. Byte 10: minimum length. Bytes 2 and 3 are always taken
 unfoldable pub settingsBy : ℕ → (ℕ → ℕ) → Settings → Settings
 settingsBy count byte s =
     record {

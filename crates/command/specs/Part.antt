@@ -1,14 +1,12 @@
 -- What the command unit works with besides memory, what a service of it comes to, and the command block: 01, "Turns". Assumes nothing.
-use mathlib.Core.Bool.{Bool}
 use mathlib.Core.List.{List, []}
-use Prim.Native.Nat.{ℕ}
+use Prim.Native.Nat.{ℕ, _+_}
 use Rattle.memory.specs.Memory.{Write}
-use Rattle.memory.specs.Address.{place}
-use Rattle.memory.specs.declared.Offset.{Offset}
 use Rattle.memory.specs.declared.RealAddress.{RealAddress}
 use Rattle.scb.specs.Words.{noEvents}
 use Rattle.scb.specs.declared.Events.{Events}
 use Rattle.device.specs.Change.{withCu, withSettings, withUnits, withAddresses}
+use Rattle.device.specs.Limits.{addressLength}
 use Rattle.device.specs.declared.Cu.{Cu}
 use Rattle.device.specs.declared.Device.{Device}
 use Rattle.device.specs.declared.Settings.{Settings}
@@ -27,12 +25,12 @@ linkAt = 4
 abbrev pub argumentAt : ℕ
 argumentAt = 6
 
--- a Transmit's destination and type; an MC-Setup's first address
+-- a Transmit's destination, and the type behind it; an MC-Setup's first address
 abbrev pub destinationAt : ℕ
 destinationAt = 8
 
 abbrev pub typeAt : ℕ
-typeAt = 14
+typeAt = destinationAt + addressLength
 
 -- ---- the unit's part of the world
 

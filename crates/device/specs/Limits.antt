@@ -1,9 +1,7 @@
 -- The sizes that document 01 names, each once. Assumes nothing.
-use mathlib.Core.Bool.{Bool}
-use Prim.Native.Nat.{ℕ, _+_}
-use lib.Dec.{leb, ltb}
+use Prim.Native.Nat.{ℕ, _+_, _*_}
 
--- a frame's header: destination, source, type. Nothing else says 14, nor six bytes of address, nor two of type
+-- a frame's header: destination, source, type
 abbrev pub addressLength : ℕ
 addressLength = 6
 
@@ -37,7 +35,7 @@ abbrev pub mostListed : ℕ
 mostListed = 16
 
 abbrev pub listedSize : ℕ
-listedSize = 96
+listedSize = mostListed * addressLength
 
 -- bytes sent with every frame that no call hands over: the FCS
 abbrev pub fcs : ℕ

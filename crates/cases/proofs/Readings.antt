@@ -1,30 +1,11 @@
 -- Points of document 01 that could be read two ways, each with a case that tells the reading taken (docs/DECISIONS.md) from the other, by one
 -- statement over the list: `taken`. Assumes nothing.
 use mathlib.Core.List.{List, [], _∷_, _++_}
-use Prim.Native.Nat.{ℕ}
+use Prim.Native.Nat.{ℕ, _*_}
 use lib.Dec.{T}
 use lib.ListN.{replicate}
 use Rattle.chip.specs.Cases.{Word, _is_, reset, attention, arrive, turn, unsaid, high, low, Step, Case, passes, allPass}
-use Rattle.chip.proofs.Board.{board, descriptors, bufferAt, good, crc, misaligned, counting, broadcast, quiet, edge, step, ends, turned, came, initialised, receiving, commanding}
-
--- an attention with a command word: its answer's edge, the status afterwards
-attended : ℕ → List Word → Step
-attended command words = step (0x32 is command ∷ []) attention quiet words unsaid
-
-raising : ℕ → List Word → Step
-raising command words = step (0x32 is command ∷ []) attention edge words high
-
--- a turn that reports an edge
-settling : List Word → Step
-settling words = step [] (turn 0) edge words high
-
--- a Configure at 40h, run to its end: byte 2, and from byte 8 on two words
-configured : List Step
-unfolding settling
-configured = initialised ∷ commanding ∷ turned [] ∷ settling (0x40 is 0xA000 ∷ []) ∷ []
-
-saving : List Word
-saving = 0x42 is 0x8002 ∷ 0x46 is 0x0804 ∷ 0x48 is 0x0680 ∷ []
+use Rattle.chip.proofs.Board.{board, descriptors, bufferAt, good, crc, misaligned, counting, broadcast, quiet, edge, step, ends, turned, came, initialised, receiving, commanding, attended, raising, settling, configured, saving, working, counters}
 
 -- ---- the first attention
 
@@ -53,7 +34,6 @@ nothingBefore =
 
 -- edge: any event left set
 edges : Case
-unfolding attended raising
 edges =
     record {
       given = board;
@@ -67,7 +47,6 @@ statusIsKept =
 
 -- CUC before RUC: 9000h, written over the RFA offset, is where the receive unit starts
 commandUnitFirst : Case
-unfolding raising
 commandUnitFirst =
     record {
       given = board;
@@ -83,7 +62,6 @@ commandUnitFirst =
 
 -- acknowledgement before the codes: an event acknowledged and raised at once is set
 acknowledgedFirst : Case
-unfolding raising
 acknowledgedFirst =
     record {
       given = board;
@@ -92,7 +70,6 @@ acknowledgedFirst =
 
 -- a resetting attention writes command 0 and nothing else, reports no edge, and the next attention is a first one
 resetting : Case
-unfolding attended
 resetting =
     record {
       given = board;
@@ -110,7 +87,6 @@ resetting =
 
 -- a RESUME while a SUSPEND waits does nothing
 resumeWhileWaiting : Case
-unfolding attended settling
 resumeWhileWaiting =
     record {
       given = 0x44 is 0x50 ∷ board;
@@ -126,7 +102,6 @@ resumeWhileWaiting =
 
 -- between commands SUSPEND acts at once, and RESUME begins the same block
 suspendAtOnce : Case
-unfolding raising attended
 suspendAtOnce =
     record {
       given = board;
@@ -155,7 +130,6 @@ startWhileActive =
 
 -- leaving Active by EL forgets a waiting SUSPEND: a new list is not suspended by it
 suspendForgotten : Case
-unfolding attended settling
 suspendForgotten =
     record {
       given = 0x42 is 0x8000 ∷ 0x54 is 0x58 ∷ board;
@@ -173,12 +147,10 @@ suspendForgotten =
 
 -- the receive unit: at once with no frame held
 suspendReady : Case
-unfolding raising
 suspendReady = record { given = board; steps = initialised ∷ receiving ∷ raising 0x0030 (0x30 is 0x1010 ∷ []) ∷ [] }
 
 -- and at the end of a held one, begun or not; the next free offset is passed on all the same
 suspendHeld : Case
-unfolding attended settling
 suspendHeld =
     record {
       given = descriptors ++ bufferAt 0xA0 0xAA 0xC0 46 ++ board;
@@ -197,7 +169,6 @@ suspendHeld =
 
 -- RU abort: a begun frame's descriptor gets 0000h, no counter moves; a frame that is only held leaves no trace
 abortBegun : Case
-unfolding raising
 abortBegun =
     record {
       given = descriptors ++ bufferAt 0xA0 0xAA 0xC0 46 ++ board;
@@ -213,7 +184,6 @@ abortBegun =
     }
 
 abortHeld : Case
-unfolding raising
 abortHeld =
     record {
       given = 0x60 is 0x1234 ∷ descriptors ++ board;
@@ -232,12 +202,10 @@ noStatus =
 
 -- EL without I raises CNA and not CX; EL wins over S
 endOfList : Case
-unfolding settling
 endOfList = record { given = 0x42 is 0xC000 ∷ board; steps = initialised ∷ commanding ∷ turned [] ∷ settling (0x30 is 0x2000 ∷ []) ∷ [] }
 
 -- the link is read before the SCB status is written: the block at 2Ch has the status word for its link
 linkBeforeStatus : Case
-unfolding settling
 linkBeforeStatus =
     record {
       given = 0x2E is 0x2000 ∷ board;
@@ -254,7 +222,6 @@ linkBeforeStatus =
 
 -- what is remembered at begin, and what is read at the end: the old command word, the new parameters
 parametersAtEnd : Case
-unfolding settling
 parametersAtEnd =
     record {
       given = 0x42 is 0x8001 ∷ board;
@@ -269,9 +236,8 @@ parametersAtEnd =
           ∷ [];
     }
 
--- count 10 takes byte 8 and keeps byte 10; a length of 5 is rejected and nothing changes, not even save-bad
+-- count 10 takes byte 8, here broadcast disabled; a length of 5 is rejected and changes nothing of it
 configureKeeps : Case
-unfolding settling
 configureKeeps =
     record {
       given =
@@ -290,9 +256,8 @@ configureKeeps =
           ∷ [];
     }
 
--- an own address of all FFh does not help where broadcast is disabled; any other own address matches, the low bit set or not
+-- an own address of all FFh does not help where broadcast is disabled
 ownOfOnes : Case
-unfolding configured
 ownOfOnes =
     record {
       given = 0x42 is 0x8002 ∷ 0x46 is 0x000C ∷ 0x48 is 0x0600 ∷ 0x4E is 0x0002 ∷ 0x50 is 0x0040 ∷ board;
@@ -301,7 +266,6 @@ ownOfOnes =
 
 -- MC-Setup: a listed address is received; one that is not listed, or has the low bit clear, is not
 listed : Case
-unfolding configured
 listed =
     record {
       given = 0x42 is 0x8003 ∷ 0x46 is 17 ∷ 0x48 is 0x0203 ∷ 0x4E is 0x0204 ∷ descriptors ++ board;
@@ -316,9 +280,8 @@ listed =
           ∷ []);
     }
 
--- above 16 addresses: 8000h
+-- above 16 addresses: 8000h; a remainder does not make a seventeenth
 tooMany : Case
-unfolding settling
 tooMany =
     record {
       given = 0x42 is 0x0003 ∷ 0x44 is 0x80 ∷ 0x46 is 102 ∷ 0x82 is 0x8003 ∷ 0x86 is 101 ∷ board;
@@ -328,7 +291,6 @@ tooMany =
 
 -- TDR, Dump and Diagnose, one behind the other
 threeMore : Case
-unfolding settling
 threeMore =
     record {
       given = 0x42 is 0x0005 ∷ 0x44 is 0x50 ∷ 0x52 is 0x0006 ∷ 0x54 is 0x58 ∷ 0x5A is 0x8007 ∷ board;
@@ -357,7 +319,7 @@ lostEnd : Case
 lostEnd =
     record {
       given = 0x42 is 0x8004 ∷ 0x46 is 0xA0 ∷ 0xA0 is 2 ∷ 0xA2 is 0xFFFF ∷ 0xA4 is 0xC0 ∷ 0xC0 is 0x2211 ∷ board;
-      steps = initialised ∷ commanding ∷ turned [] ∷ turned [] ∷ ends 0 0 (0x40 is 0x8100 ∷ 0x30 is 0x2000 ∷ []) (14 is 0x2211 ∷ []) ∷ [];
+      steps = initialised ∷ commanding ∷ turned [] ∷ turned [] ∷ ends 0xFFFF 0 (0x40 is 0x8100 ∷ 0x30 is 0x2000 ∷ []) (14 is 0x2211 ∷ []) ∷ [];
     }
 
 -- 64 descriptors without EOF, here one that is linked to itself: 8100h at the 66th turn
@@ -396,7 +358,6 @@ sizeNone =
 
 -- data that ends in a buffer with EL is stored well, and No Resources follows
 lastBuffer : Case
-unfolding settling
 lastBuffer =
     record {
       given = descriptors ++ bufferAt 0xA0 0xAA 0xC0 0x802E ++ board;
@@ -412,7 +373,6 @@ lastBuffer =
 
 -- out of buffers, not saved: 0000h, no FR, RSCERRS, No Resources; the buffers used have no EOF
 lacking : Case
-unfolding settling
 lacking =
     record {
       given = descriptors ++ bufferAt 0xA0 0xAA 0xC0 20 ++ bufferAt 0xAA 0xFFFF 0xD4 20 ++ board;
@@ -429,7 +389,6 @@ lacking =
 
 -- out of buffers, saved: bit 9 and FR, and RSCERRS too; of a CRC-bad frame bit 11 as well, and CRCERRS at its arrival alone
 lackingSaved : (verdict status crcerrs rscerrs : ℕ) → Case
-unfolding configured saving settling
 lackingSaved verdict status crcerrs rscerrs =
     record {
       given = saving ++ descriptors ++ bufferAt 0xA0 0xAA 0xC0 0x8014 ++ board;
@@ -445,7 +404,6 @@ lackingSaved verdict status crcerrs rscerrs =
 
 -- short and misaligned, saved: both bits, no counter
 shortSaved : Case
-unfolding configured saving settling
 shortSaved =
     record {
       given = saving ++ descriptors ++ bufferAt 0xA0 0xAA 0xC0 46 ++ board;
@@ -461,7 +419,6 @@ shortSaved =
 
 -- no data: two turns, FFFFh at +6, and the offset read at begin goes on. In a ring of one it stands there again at the end
 noData : (link : ℕ) → List Word → Case
-unfolding configured settling
 noData link words =
     record {
       given = 0x42 is 0x8002 ∷ 0x46 is 0x000C ∷ 0x48 is 0x0600 ∷ 0x64 is link ∷ 0x66 is 0xA0 ∷ board;
@@ -470,7 +427,6 @@ noData link words =
 
 -- RSCERRS follows the descriptor's writes: the frame descriptor stands on it
 counterLast : Case
-unfolding settling
 counterLast =
     record {
       given = 0x42 is 0xFFFF ∷ board;
@@ -485,7 +441,6 @@ counterLast =
 
 -- the SCB status is the last write: the frame descriptor stands on it
 statusLast : Case
-unfolding settling
 statusLast =
     record {
       given = 0x34 is 0x80 ∷ 0x36 is 0xFFFF ∷ board;

@@ -1,0 +1,4 @@
+-- Document 01's rules at their edges, shown of the definitions by computation.
+pub mod Readings
+pub mod Edges
+pub mod Wide
