@@ -34,7 +34,7 @@ use Rattle.receive.specs.Buffer as receive-buffer
 use Rattle.receive.specs.End.{fateOf, settles, endAt, before, goesOn, close, lack}
 use Rattle.receive.specs.Service as receive-service
 use Rattle.device.proofs.Laws.{held-ready}
-use Rattle.chip.specs.Turn.{servedBy, commandTurn, receiveTurn, turnBy, turnOf}
+use Rattle.chip.specs.Turn.{servedBy, concluded, commandTurn, receiveTurn, turnBy, turnOf}
 use Rattle.chip.specs.World.{World, Ran}
 
 -- the only state that is Active, or Ready, is Active, or Ready
@@ -150,13 +150,13 @@ pub record StatesKept (w : World) (r : Ran) : Type 0 where
 
 command-keeps : (w : World) (report : ℕ) → isActive (cuState (w .device .units .cu)) ≡ true
     → commandTurn w report .outcome .answer .edge ≡ false → StatesKept w (commandTurn w report)
-unfolding commandTurn command-service.service
+unfolding commandTurn concluded command-service.service
 command-keeps w report a h =
     let was = active (cuState (w .device .units .cu)) a in
     record { cu = cu-stays (w .device .units .cu) (command.partOf (w .device) (w .outgoing)) (w .memory) report was h ∙ sym was; ru = refl }
 
 receive-keeps : (w : World) → isHolding (w .device .units .ru) ≡ true → receiveTurn w .outcome .answer .edge ≡ false → StatesKept w (receiveTurn w)
-unfolding receiveTurn receive-service.service
+unfolding receiveTurn concluded receive-service.service
 receive-keeps w a h =
     let was = ready (ruState (w .device .units .ru)) (held-ready (w .device .units .ru) a) in
     record { cu = refl; ru = ru-stays (w .device .units .ru) (receive.partOf (w .device .units) (w .holding)) (w .memory) a h ∙ sym was }

@@ -1,25 +1,40 @@
 -- Arrival of a frame: 01, "Arrival and storing". It raises nothing, so it reports no edge. Assumes nothing.
+use mathlib.Core.Path.{_≡_}
 use mathlib.Core.Bool.{false}
 use mathlib.Core.List.{List}
 use Prim.Native.Nat.{ℕ}
 use Rattle.memory.specs.Memory.{apply}
 use Rattle.device.specs.Answers.{answered, outcomeOf}
 use Rattle.device.specs.Change.{withRu, withUnits}
+use Rattle.device.specs.declared.Device.{Device}
+use Rattle.device.specs.declared.Outcome.{Outcome}
 use Rattle.filter.specs.Match.{matches}
 use Rattle.receive.specs.Arrival as receive
 use Rattle.chip.specs.World.{World, Ran}
 
+-- what an arrival comes to, besides the lent bytes
+abbrev pub outcomeBy : Device → receive.Arrival → Outcome
+outcomeBy d a = outcomeOf (withUnits d (withRu (d .units) (a .unit))) (answered 0 false) (a .fate)
+
+-- f: the frame; v: the line side's verdict; m: memory; h: the holding area
+unfoldable pub arrival : Device → List ℕ → ℕ → List ℕ → List ℕ → receive.Arrival
+arrival d f v m h = receive.arrival (d .units) (matches (d .units .settings) (d .own) (d .listed) f) f v m h
+
 abbrev pub arrivedBy : World → receive.Arrival → Ran
 arrivedBy w a =
     record {
-      outcome = outcomeOf (withUnits (w .device) (withRu (w .device .units) (a .unit))) (answered 0 false) (a .fate);
+      outcome = outcomeBy (w .device) a;
       memory = apply (a .writes) (w .memory);
       holding = a .area;
       outgoing = w .outgoing;
     }
 
--- f: the frame; v: the line side's verdict
 unfoldable pub arrivalOf : World → List ℕ → ℕ → Ran
-arrivalOf w f v =
-    let d = w .device in
-    arrivedBy w (receive.arrival (d .units) (matches (d .units .settings) (d .own) (d .listed) f) f v (w .memory) (w .holding))
+arrivalOf w f v = arrivedBy w (arrival (w .device) f v (w .memory) (w .holding))
+
+-- ---- what the code does: an outcome, a memory and a holding area are those of an arrival
+
+pub record Arrives (said : receive.Arrival) (d : Device) (before : List ℕ) (o : Outcome) (m h : List ℕ) : Type 0 where
+  pub outcome : o ≡ outcomeBy d said
+  pub memory : m ≡ apply (said .writes) before
+  pub holding : h ≡ said .area

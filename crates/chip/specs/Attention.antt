@@ -1,4 +1,5 @@
 -- Attention: 01, "First attention after reset" and "The SCB". Assumes nothing.
+use mathlib.Core.Path.{_≡_}
 use mathlib.Core.Bool.{Bool, true, false, not, cond, _&&_}
 use mathlib.Core.List.{List, [], _∷_, _++_}
 use Prim.Native.Nat.{ℕ}
@@ -19,10 +20,18 @@ use Rattle.device.specs.declared.Cu.{Cu}
 use Rattle.device.specs.declared.Device.{Device}
 use Rattle.device.specs.declared.Fate.{Fate}
 use Rattle.device.specs.declared.Fate.the-variants as fate
+use Rattle.device.specs.declared.Outcome.{Outcome}
 use Rattle.device.specs.declared.Ru.{Ru}
 use Rattle.device.specs.declared.Units.{Units}
+use Rattle.chip.specs.declared.CuObeyed.{CuObeyed}
+use Rattle.chip.specs.declared.RuObeyed.{RuObeyed}
 use Rattle.chip.specs.Control.{cuGoes, cuWrites, resumesAt, ruGoes, ruWrites, readyAt, lostBy}
 use Rattle.chip.specs.World.{World, Ran, writing, statusTo}
+
+-- what an attention comes to: its outcome, and the writes in their order
+pub record Attended : Type 0 where
+  pub outcome : Outcome
+  pub writes : List Write
 
 -- ---- the first attention after reset
 
@@ -39,16 +48,17 @@ abbrev pub initialWrites : RealAddress → RealAddress → Offset → List Write
 initialWrites iscp base scb =
     bytesTo (beyond iscp 0) (0 ∷ []) ∷ wordTo (place base scb statusAt) 0xA000 ∷ wordTo (place base scb commandAt) 0x0000 ∷ []
 
-abbrev pub initialisedBy : World → RealAddress → RealAddress → Offset → Ran
-initialisedBy w iscp base scb =
-    writing w (initialWrites iscp base scb)
-    (outcomeOf (withUnits (w .device) (initialisedAt (w .device .units) base scb initialEvents)) (answered 0 true) fate.Nothing)
+abbrev pub initialisedBy : Device → RealAddress → RealAddress → Offset → Attended
+initialisedBy d iscp base scb =
+    record {
+      outcome = outcomeOf (withUnits d (initialisedAt (d .units) base scb initialEvents)) (answered 0 true) fate.Nothing;
+      writes = initialWrites iscp base scb;
+    }
 
 -- ISCP: BUSY byte +0, SCB offset +2, SCB base (real) +4. It doesn't obey the command word
-unfoldable pub initialise : World → Ran
-initialise w =
-    let iscp = iscpOf (w .memory) in
-    initialisedBy w iscp (addressAt (w .memory) (beyond iscp 4)) (offsetAt (w .memory) (beyond iscp 2))
+unfoldable pub initialise : Device → List ℕ → Attended
+initialise d m =
+    let iscp = iscpOf m in initialisedBy d iscp (addressAt m (beyond iscp 4)) (offsetAt m (beyond iscp 2))
 
 -- ---- every other attention
 
@@ -57,12 +67,14 @@ abbrev pub ofScb : Units → ℕ → ℕ
 ofScb u field = place (u .base) (u .scb) field
 
 -- if RESET, write command 0 and become as after reset, nothing else
-unfoldable pub resetBy : World → Ran
-resetBy w =
-    writing w (wordTo (ofScb (w .device .units) commandAt) 0x0000 ∷ [])
-    (outcomeOf fresh (answered 0 false) (lostBy fate.Reset (isHolding (w .device .units .ru)) false))
+unfoldable pub resetBy : Device → Attended
+resetBy d =
+    record {
+      outcome = outcomeOf fresh (answered 0 false) (lostBy fate.Reset (isHolding (d .units .ru)) false);
+      writes = wordTo (ofScb (d .units) commandAt) 0x0000 ∷ [];
+    }
 
--- a unit obeyed a code: its state, its writes, whether it left Active or Ready
+-- a unit obeyed a code: the unit, its writes, whether it left Active or Ready
 pub record Obeyed (U : Type 0) : Type 0 where
   pub unit : U
   pub writes : List Write
@@ -78,9 +90,11 @@ cuObeys next u first =
       left = isActive (cuState (u .cu)) && not (isActive (cuState unit));
     }
 
+unfoldable pub cuFirst : Units → ℕ → List ℕ → Offset
+cuFirst u command m = cond (eqb (cuc command) 1) (offsetAt m (ofScb u cblAt)) (resumesAt (u .cu))
+
 unfoldable pub obeyCuc : Units → ℕ → List ℕ → Obeyed Cu
-obeyCuc u command m =
-    cuObeys (cuNext (cuc command) (cuState (u .cu))) u (cond (eqb (cuc command) 1) (offsetAt m (ofScb u cblAt)) (resumesAt (u .cu)))
+obeyCuc u command m = cuObeys (cuNext (cuc command) (cuState (u .cu))) u (cuFirst u command m)
 
 -- obey RUC: START at RFA offset, RESUME at the next frame descriptor
 abbrev pub ruObeys : RuState → Units → Offset → Obeyed Ru
@@ -92,49 +106,75 @@ ruObeys next u first =
       left = isReady (ruState (u .ru)) && not (isReady (ruState unit));
     }
 
+unfoldable pub ruFirst : Units → ℕ → List ℕ → Offset
+ruFirst u command m = cond (eqb (ruc command) 1) (offsetAt m (ofScb u rfaAt)) (readyAt (u .ru))
+
 unfoldable pub obeyRuc : Units → ℕ → List ℕ → Obeyed Ru
-obeyRuc u command m =
-    ruObeys (ruNext (ruc command) (ruState (u .ru))) u (cond (eqb (ruc command) 1) (offsetAt m (ofScb u rfaAt)) (readyAt (u .ru)))
+obeyRuc u command m = ruObeys (ruNext (ruc command) (ruState (u .ru))) u (ruFirst u command m)
 
 -- leaving Active raises CNA, leaving Ready raises RNR
 abbrev pub leaving : (cu ru : Bool) → Events
 leaving cu ru = record { cx = false; fr = false; cna = cu; rnr = ru }
 
 -- the units after the codes; acknowledged events were cleared before anything was raised
-abbrev pub unitsAfter : Units → ℕ → Obeyed Cu → Obeyed Ru → Units
-unitsAfter u command c r =
-    withEvents (withRu (withCu u (c .unit)) (r .unit)) (raise (acknowledged (u .events) command) (leaving (c .left) (r .left)))
+unfoldable pub unitsAfter : Units → ℕ → Cu → Bool → Ru → Bool → Units
+unitsAfter u command c cleft r rleft =
+    withEvents (withRu (withCu u c) r) (raise (acknowledged (u .events) command) (leaving cleft rleft))
 
 -- write status; write command 0. An edge is reported when an attention leaves any event set
-abbrev pub settledBy : World → Units → List Write → Fate → Ran
-settledBy w u writes f =
-    writing w (writes ++ (statusTo u ∷ wordTo (ofScb u commandAt) 0x0000 ∷ []))
-    (outcomeOf (withUnits (w .device) u) (answered 0 (anyOf (u .events))) f)
+abbrev pub settledWrites : Units → List Write
+settledWrites u = statusTo u ∷ wordTo (ofScb u commandAt) 0x0000 ∷ []
 
-abbrev pub obeyedBy : World → ℕ → Obeyed Cu → Obeyed Ru → Ran
-obeyedBy w command c r =
-    let u = w .device .units in
-    settledBy w (unitsAfter u command c r) (c .writes ++ r .writes) (lostBy fate.Aborted (isHolding (u .ru)) (isHolding (r .unit)))
+abbrev pub settledBy : Device → Units → List Write → Fate → Attended
+settledBy d u writes f =
+    record { outcome = outcomeOf (withUnits d u) (answered 0 (anyOf (u .events))) f; writes = writes ++ settledWrites u }
+
+abbrev pub obeyedBy : Device → ℕ → Obeyed Cu → Obeyed Ru → Attended
+obeyedBy d command c r =
+    settledBy d (unitsAfter (d .units) command (c .unit) (c .left) (r .unit) (r .left)) (c .writes ++ r .writes)
+    (lostBy fate.Aborted (isHolding (d .units .ru)) (isHolding (r .unit)))
 
 -- clear acknowledged events; obey CUC; obey RUC, on memory as CUC left it; write status; write command 0
-unfoldable pub obey : World → ℕ → Ran
-obey w command =
-    let u = w .device .units in
-    let c = obeyCuc u command (w .memory) in
-    obeyedBy w command c (obeyRuc u command (apply (c .writes) (w .memory)))
+unfoldable pub obey : Device → ℕ → List ℕ → Attended
+obey d command m =
+    let c = obeyCuc (d .units) command m in obeyedBy d command c (obeyRuc (d .units) command (apply (c .writes) m))
 
-abbrev pub attendBy : (reset : Bool) → World → ℕ → Ran
-attendBy true w command = resetBy w
-attendBy false w command = obey w command
+abbrev pub attendBy : (reset : Bool) → Device → ℕ → List ℕ → Attended
+attendBy true d command m = resetBy d
+attendBy false d command m = obey d command m
 
 -- an attention, in order: read command; if RESET ..
-unfoldable pub attend : World → Ran
-attend w =
-    let command = wordAt (w .memory) (ofScb (w .device .units) commandAt) in attendBy (resets command) w command
+unfoldable pub attend : Device → List ℕ → Attended
+attend d m =
+    let command = wordAt m (ofScb (d .units) commandAt) in attendBy (resets command) d command m
 
-abbrev pub attentionBy : (initialised : Bool) → World → Ran
-attentionBy false w = initialise w
-attentionBy true w = attend w
+-- ---- an attention
+
+abbrev pub attentionBy : (initialised : Bool) → Device → List ℕ → Attended
+attentionBy false d m = initialise d m
+attentionBy true d m = attend d m
+
+unfoldable pub attention : Device → List ℕ → Attended
+attention d m = attentionBy (d .units .initialised) d m
 
 unfoldable pub attentionOf : World → Ran
-attentionOf w = attentionBy (w .device .units .initialised) w
+attentionOf w =
+    let a = attention (w .device) (w .memory) in writing w (a .writes) (a .outcome)
+
+-- ---- what the code does
+
+-- an outcome and a memory are those of an attention
+pub record Attends (said : Attended) (before : List ℕ) (o : Outcome) (m : List ℕ) : Type 0 where
+  pub outcome : o ≡ said .outcome
+  pub memory : m ≡ apply (said .writes) before
+
+-- the command unit obeyed; the receive unit obeyed
+pub record CuObeys (said : Obeyed Cu) (before : List ℕ) (r : CuObeyed) (m : List ℕ) : Type 0 where
+  pub unit : r .unit ≡ said .unit
+  pub left : r .left ≡ said .left
+  pub memory : m ≡ apply (said .writes) before
+
+pub record RuObeys (said : Obeyed Ru) (before : List ℕ) (r : RuObeyed) (m : List ℕ) : Type 0 where
+  pub unit : r .unit ≡ said .unit
+  pub left : r .left ≡ said .left
+  pub memory : m ≡ apply (said .writes) before

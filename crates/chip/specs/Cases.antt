@@ -26,9 +26,9 @@ use Rattle.receive.specs.Buffer as receive-buffer
 use Rattle.receive.specs.End.{frameStatus, settles, close, lack}
 use Rattle.receive.specs.Service as receive-service
 use Rattle.chip.specs.World.{World, Ran, afterwards, statusTo, resetOf}
-use Rattle.chip.specs.Attention.{iscpOf, initialise, resetBy, obeyCuc, obeyRuc, obey, attend, attentionOf}
-use Rattle.chip.specs.Arrival.{arrivalOf}
-use Rattle.chip.specs.Turn.{commandTurn, receiveTurn, turnOf}
+use Rattle.chip.specs.Attention as attentions
+use Rattle.chip.specs.Arrival as arrivals
+use Rattle.chip.specs.Turn.{concluded, commandTurn, receiveTurn, turnOf}
 
 -- an address and the word there
 pub record Word : Type 0 where
@@ -102,8 +102,8 @@ start ws = startOn (put ws (replicate 8192 0))
 
 abbrev pub ran : Call → World → Ran
 ran reset w = record { outcome = resetOf; memory = w .memory; holding = w .holding; outgoing = w .outgoing }
-ran attention w = attentionOf w
-ran (arrive f v) w = arrivalOf w f v
+ran attention w = attentions.attentionOf w
+ran (arrive f v) w = arrivals.arrivalOf w f v
 ran (turn report) w = turnOf w report
 
 -- ---- what must be so after a step
@@ -138,7 +138,7 @@ walk (s ∷ ss) w =
     let r = ran (s .call) (altered w s) in stepPasses s r && walk ss (afterwards r)
 
 unfoldable pub passes : Case → Bool
-unfolding byteAt putByte bytesAt putBytes value digits fieldAt place beyond cuNext ruNext field joined acknowledged anyOf eventBits statusWord counts actionOf verdictOf agree isListed matches command-begin.begunBy command-begin.headerOf command-begin.begin command-buffer.descriptorAt command-buffer.buffer settingsBy listing act reported isSent sent nextAfter end command-service.service lengthOf judged fateOf arrival receive-begin.begunBy receive-begin.begin receive-buffer.descriptorAt receive-buffer.buffer frameStatus settles close lack receive-service.service statusTo resetOf iscpOf initialise resetBy obeyCuc obeyRuc obey attend attentionOf arrivalOf commandTurn receiveTurn turnOf
+unfolding byteAt putByte bytesAt putBytes value digits fieldAt place beyond cuNext ruNext field joined acknowledged anyOf eventBits statusWord counts actionOf verdictOf agree isListed matches command-begin.begunBy command-begin.headerOf command-begin.begin command-buffer.descriptorAt command-buffer.buffer settingsBy listing act reported isSent sent nextAfter end command-service.service lengthOf judged fateOf arrival receive-begin.begunBy receive-begin.begin receive-buffer.descriptorAt receive-buffer.buffer frameStatus settles close lack receive-service.service statusTo resetOf attentions.iscpOf attentions.initialise attentions.resetBy attentions.cuFirst attentions.obeyCuc attentions.ruFirst attentions.obeyRuc attentions.unitsAfter attentions.obey attentions.attend attentions.attention attentions.attentionOf arrivals.arrival arrivals.arrivalOf concluded commandTurn receiveTurn turnOf
 passes c = walk (c .steps) (start (c .given))
 
 abbrev pub allPass : List Case → Bool

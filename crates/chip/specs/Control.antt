@@ -12,14 +12,12 @@ use Rattle.scb.specs.declared.RuState.{RuState}
 use Rattle.scb.specs.declared.RuState.the-variants as rus
 use Rattle.device.specs.Change.{pausingBegun, pausingStoring}
 use Rattle.device.specs.State.{isHolding}
-use Rattle.device.specs.declared.Begun.{Begun}
 use Rattle.device.specs.declared.Cu.{Cu}
 use Rattle.device.specs.declared.Cu.the-variants as cu
 use Rattle.device.specs.declared.Fate.{Fate}
 use Rattle.device.specs.declared.Fate.the-variants as fate
 use Rattle.device.specs.declared.Ru.{Ru}
 use Rattle.device.specs.declared.Ru.the-variants as ru
-use Rattle.device.specs.declared.Storing.{Storing}
 use Rattle.command.specs.Part as block
 use Rattle.receive.specs.Part as descriptor
 
@@ -62,17 +60,17 @@ resumesAt (cu.Ending b n) = b .block
 resumesAt (cu.Failing b) = b .block
 
 -- CU abort of a begun command writes its status 9000h
-abbrev pub abortedBlock : RealAddress → Begun → List Write
-abortedBlock base b = wordTo (place base (b .block) block.statusAt) 0x9000 ∷ []
+abbrev pub abortedBlock : RealAddress → Offset → List Write
+abortedBlock base o = wordTo (place base o block.statusAt) 0x9000 ∷ []
 
 abbrev pub abortedCu : RealAddress → Cu → List Write
 abortedCu base cu.Idle = []
 abortedCu base (cu.Suspended next) = []
 abortedCu base (cu.Waiting next) = []
-abortedCu base (cu.Acting b a) = abortedBlock base b
-abortedCu base (cu.Sending b w) = abortedBlock base b
-abortedCu base (cu.Ending b n) = abortedBlock base b
-abortedCu base (cu.Failing b) = abortedBlock base b
+abortedCu base (cu.Acting b a) = abortedBlock base (b .block)
+abortedCu base (cu.Sending b w) = abortedBlock base (b .block)
+abortedCu base (cu.Ending b n) = abortedBlock base (b .block)
+abortedCu base (cu.Failing b) = abortedBlock base (b .block)
 
 abbrev pub cuWrites : CuState → RealAddress → Cu → List Write
 cuWrites cus.Idle base unit = abortedCu base unit
@@ -122,8 +120,8 @@ readyAt (ru.Closing s free full) = s .fd
 readyAt (ru.Lacking s) = s .fd
 
 -- RU abort drops a held frame uncounted and writes 0000h to its frame descriptor if begun
-abbrev pub abortedDescriptor : RealAddress → Storing → List Write
-abortedDescriptor base s = wordTo (place base (s .fd) descriptor.statusAt) 0x0000 ∷ []
+abbrev pub abortedDescriptor : RealAddress → Offset → List Write
+abortedDescriptor base o = wordTo (place base o descriptor.statusAt) 0x0000 ∷ []
 
 abbrev pub abortedRu : RealAddress → Ru → List Write
 abortedRu base ru.Idle = []
@@ -131,9 +129,9 @@ abortedRu base ru.NoResources = []
 abortedRu base (ru.Suspended fd) = []
 abortedRu base (ru.Ready fd) = []
 abortedRu base (ru.Held fd f p) = []
-abortedRu base (ru.Filling s w) = abortedDescriptor base s
-abortedRu base (ru.Closing s free full) = abortedDescriptor base s
-abortedRu base (ru.Lacking s) = abortedDescriptor base s
+abortedRu base (ru.Filling s w) = abortedDescriptor base (s .fd)
+abortedRu base (ru.Closing s free full) = abortedDescriptor base (s .fd)
+abortedRu base (ru.Lacking s) = abortedDescriptor base (s .fd)
 
 abbrev pub ruWrites : RuState → RealAddress → Ru → List Write
 ruWrites rus.Idle base unit = abortedRu base unit

@@ -1,4 +1,5 @@
 -- A turn: 01, "Turns". Assumes nothing.
+use mathlib.Core.Path.{_≡_}
 use mathlib.Core.Bool.{Bool, true, false}
 use mathlib.Core.List.{List, [], _∷_, _++_}
 use Prim.Native.Nat.{ℕ}
@@ -11,27 +12,25 @@ use Rattle.device.specs.State.{cuState, isActive, isHolding}
 use Rattle.device.specs.declared.Device.{Device}
 use Rattle.device.specs.declared.Fate.{Fate}
 use Rattle.device.specs.declared.Fate.the-variants as fate
+use Rattle.device.specs.declared.Outcome.{Outcome}
 use Rattle.device.specs.declared.Units.{Units}
 use Rattle.command.specs.Part as command
 use Rattle.command.specs.Service as command-service
 use Rattle.receive.specs.Part as receive
 use Rattle.receive.specs.Service as receive-service
+use Rattle.chip.specs.declared.Served.{Served}
+use Rattle.chip.specs.declared.Served.the-variants as served
 use Rattle.chip.specs.World.{World, Ran, writing, statusTo}
 
 -- ---- which unit is served
 
-pub data Served : Type 0 where
-  neither : Served
-  commandUnit : Served
-  receiveUnit : Served
-
 -- if both have work, the unit not served at the last working turn is served
 abbrev pub servedBy : (cuWorks ruWorks rulast : Bool) → Served
-servedBy false false rulast = neither
-servedBy true false rulast = commandUnit
-servedBy false true rulast = receiveUnit
-servedBy true true true = commandUnit
-servedBy true true false = receiveUnit
+servedBy false false rulast = served.Neither
+servedBy true false rulast = served.CommandUnit
+servedBy false true rulast = served.ReceiveUnit
+servedBy true true true = served.CommandUnit
+servedBy true true false = served.ReceiveUnit
 
 -- RU has work while a frame is held, CU while Active
 abbrev pub servedOf : Units → Served
@@ -49,42 +48,62 @@ statusBy true u = statusTo u ∷ []
 statusBy false u = []
 
 abbrev pub written : List Write → Events → Units → List Write
-written writes raised u = writes ++ statusBy (anyOf raised) u
+written writes raised u = writes ++ statusBy (anyOf raised) (raisedIn u raised)
+
+-- the outcome of a working turn: an edge is reported when an event is raised, again included
+unfoldable pub concluded : Device → Units → Events → ℕ → Fate → Outcome
+concluded d u raised length f = outcomeOf (withUnits d (raisedIn u raised)) (answered length (anyOf raised)) f
 
 -- ---- the command unit is served
 
-abbrev pub commanded : World → Device → command.Service → Ran
-commanded w d s =
-    let u = raisedIn (servedRu (d .units) false) (s .raised) in
-    record {
-      outcome = outcomeOf (withUnits d u) (answered (s .length) (anyOf (s .raised))) fate.Nothing;
-      memory = apply (written (s .writes) (s .raised) u) (w .memory);
-      holding = w .holding;
-      outgoing = s .part .outgoing;
-    }
+abbrev pub commandUnits : Device → command.Service → Units
+commandUnits d s = servedRu (command.withPart d (s .part) .units) false
 
 unfoldable pub commandTurn : World → ℕ → Ran
 commandTurn w report =
     let s = command-service.service (command.partOf (w .device) (w .outgoing)) (w .memory) report in
-    commanded w (command.withPart (w .device) (s .part)) s
+    record {
+      outcome = concluded (command.withPart (w .device) (s .part)) (commandUnits (w .device) s) (s .raised) (s .length) fate.Nothing;
+      memory = apply (written (s .writes) (s .raised) (commandUnits (w .device) s)) (w .memory);
+      holding = w .holding;
+      outgoing = s .part .outgoing;
+    }
 
 -- ---- the receive unit is served
 
-abbrev pub received : World → receive.Service → Ran
-received w s =
-    let u = raisedIn (servedRu (withRu (w .device .units) (s .unit)) true) (s .raised) in
-    writing w (written (s .writes) (s .raised) u) (outcomeOf (withUnits (w .device) u) (answered 0 (anyOf (s .raised))) (s .fate))
+abbrev pub receiveUnits : Device → receive.Service → Units
+receiveUnits d s = servedRu (withRu (d .units) (s .unit)) true
 
 unfoldable pub receiveTurn : World → Ran
-receiveTurn w = received w (receive-service.service (receive.partOf (w .device .units) (w .holding)) (w .memory))
+receiveTurn w =
+    let s = receive-service.service (receive.partOf (w .device .units) (w .holding)) (w .memory) in
+    writing w (written (s .writes) (s .raised) (receiveUnits (w .device) s))
+    (concluded (w .device) (receiveUnits (w .device) s) (s .raised) 0 (s .fate))
 
 -- ---- a turn
 
 -- with no work a turn changes nothing
 abbrev pub turnBy : Served → World → ℕ → Ran
-turnBy neither w report = writing w [] (outcomeOf (w .device) (answered 0 false) fate.Nothing)
-turnBy commandUnit w report = commandTurn w report
-turnBy receiveUnit w report = receiveTurn w
+turnBy served.Neither w report = writing w [] (outcomeOf (w .device) (answered 0 false) fate.Nothing)
+turnBy served.CommandUnit w report = commandTurn w report
+turnBy served.ReceiveUnit w report = receiveTurn w
 
 unfoldable pub turnOf : World → ℕ → Ran
 turnOf w report = turnBy (servedOf (w .device .units)) w report
+
+-- ---- what the code does
+
+-- the end of a working turn
+pub record Concludes (d : Device) (u : Units) (raised : Events) (length : ℕ) (f : Fate) (before : List ℕ) (o : Outcome) (m : List ℕ) : Type 0 where
+  pub outcome : o ≡ concluded d u raised length f
+  pub memory : m ≡ apply (statusBy (anyOf raised) (raisedIn u raised)) before
+
+-- a turn of each unit
+pub record Commands (s : command.Service) (d : Device) (before : List ℕ) (o : Outcome) (m out : List ℕ) : Type 0 where
+  pub outcome : o ≡ concluded (command.withPart d (s .part)) (commandUnits d s) (s .raised) (s .length) fate.Nothing
+  pub memory : m ≡ apply (written (s .writes) (s .raised) (commandUnits d s)) before
+  pub outgoing : out ≡ s .part .outgoing
+
+pub record Receives (s : receive.Service) (d : Device) (before : List ℕ) (o : Outcome) (m : List ℕ) : Type 0 where
+  pub outcome : o ≡ concluded d (receiveUnits d s) (s .raised) 0 (s .fate)
+  pub memory : m ≡ apply (written (s .writes) (s .raised) (receiveUnits d s)) before

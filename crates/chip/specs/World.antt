@@ -22,6 +22,9 @@ pub record World : Type 0 where
   pub holding : List ℕ
   pub outgoing : List ℕ
 
+abbrev pub worldOf : Device → List ℕ → List ℕ → List ℕ → World
+worldOf d m h out = record { device = d; memory = m; holding = h; outgoing = out }
+
 -- what a call leaves: its outcome and the three areas
 pub record Ran : Type 0 where
   pub outcome : Outcome
