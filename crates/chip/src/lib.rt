@@ -22,6 +22,7 @@ ghost use Rattle.receive.specs.Service as receiveService;
 ghost use Rattle.chip.specs.World as world;
 ghost use Rattle.chip.specs.Control as control;
 ghost use Rattle.chip.specs.Attention as attentions;
+ghost use Rattle.chip.specs.Arrival as arrivals;
 ghost use Rattle.chip.specs.Turn as turns;
 
 // The SCB: +0 status, +2 command, +4 CBL offset, +6 RFA offset; its counters' places are the room device's to say.
@@ -155,7 +156,8 @@ fn cu_obey(memory: &mut [u8], next: CuState, u: Units, first: Offset) -> CuObeye
     cu_writes(memory, next, base, unit);
     CuObeyed {
         unit: after,
-        left: device::is_active(device::cu_state(unit)) & !device::is_active(device::cu_state(after)),
+        left: device::is_active(device::cu_state(unit))
+            & !device::is_active(device::cu_state(after)),
     }
 }
 
@@ -165,7 +167,12 @@ fn obey_cuc(memory: &mut [u8], u: Units, command: u16) -> CuObeyed
 {
     let unit = u.cu;
     let first = cu_first(memory, u, command);
-    cu_obey(memory, scb::cu_next(command, device::cu_state(unit)), u, first)
+    cu_obey(
+        memory,
+        scb::cu_next(command, device::cu_state(unit)),
+        u,
+        first,
+    )
 }
 
 // ---- control codes: the receive unit
@@ -303,7 +310,12 @@ fn obey_ruc(memory: &mut [u8], u: Units, command: u16) -> RuObeyed
 {
     let unit = u.ru;
     let first = ru_first(memory, u, command);
-    ru_obey(memory, scb::ru_next(command, device::ru_state(unit)), u, first)
+    ru_obey(
+        memory,
+        scb::ru_next(command, device::ru_state(unit)),
+        u,
+        first,
+    )
 }
 
 // What became of a frame that was held before and is not held after.
@@ -350,13 +362,23 @@ fn iscp_of(memory: &[u8]) -> RealAddress
 }
 
 // Initialised at an SCB, once its place is known.
-fn initialise_at(memory: &mut [u8], d: Device, iscp: RealAddress, base: RealAddress, scb: Offset) -> Outcome
+fn initialise_at(
+    memory: &mut [u8],
+    d: Device,
+    iscp: RealAddress,
+    base: RealAddress,
+    scb: Offset,
+) -> Outcome
     ensures { λ r. ⌜ attentions.Attends (attentions.initialisedBy d iscp base scb) (now (memory .entry)) r (now (memory .exit)) ⌝ }
 {
     let u = d.units;
     initial_writes(memory, iscp, base, scb);
     let after = device::initialised_at(u, base, scb, initial_events());
-    device::outcome_of(device::with_units(d, after), device::answered(0, true), Fate::Nothing)
+    device::outcome_of(
+        device::with_units(d, after),
+        device::answered(0, true),
+        Fate::Nothing,
+    )
 }
 
 // The first attention after reset: ISCP has the SCB's offset at +2 and its base at +4. The command word is not obeyed.
@@ -423,7 +445,11 @@ fn settle(memory: &mut [u8], d: Device, u: Units, fate: Fate) -> Outcome
     let events = u.events;
     write_status(memory, u);
     memory::put_word(memory, memory::place(base, scb, COMMAND), 0);
-    device::outcome_of(device::with_units(d, u), device::answered(0, scb::any_of(events)), fate)
+    device::outcome_of(
+        device::with_units(d, u),
+        device::answered(0, scb::any_of(events)),
+        fate,
+    )
 }
 
 // Acknowledge, CUC, RUC, status, command.
@@ -435,7 +461,11 @@ fn obey(memory: &mut [u8], d: Device, command: u16) -> Outcome
     let c = obey_cuc(memory, u, command);
     let r = obey_ruc(memory, u, command);
     let after = r.unit;
-    let fate = lost_by(Fate::Aborted, device::is_holding(unit), device::is_holding(after));
+    let fate = lost_by(
+        Fate::Aborted,
+        device::is_holding(unit),
+        device::is_holding(after),
+    );
     settle(memory, d, units_after(u, command, c, r), fate)
 }
 
@@ -526,13 +556,24 @@ fn raised_in(u: Units, raised: Events) -> Units
 }
 
 // The end of a working turn: what was raised is set, and the status written for it.
-fn conclude(memory: &mut [u8], d: Device, u: Units, raised: Events, length: u16, fate: Fate) -> Outcome
+fn conclude(
+    memory: &mut [u8],
+    d: Device,
+    u: Units,
+    raised: Events,
+    length: u16,
+    fate: Fate,
+) -> Outcome
     ensures { λ r. ⌜ turns.Concludes d u raised length fate (now (memory .entry)) r (now (memory .exit)) ⌝ }
 {
     let after = raised_in(u, raised);
     let edge = scb::any_of(raised);
     status_if(memory, edge, after);
-    device::outcome_of(device::with_units(d, after), device::answered(length, edge), fate)
+    device::outcome_of(
+        device::with_units(d, after),
+        device::answered(length, edge),
+        fate,
+    )
 }
 
 // The command unit is served.
@@ -543,6 +584,97 @@ fn command_turn(memory: &mut [u8], outgoing: &mut [u8], d: Device, report: u16) 
     let e = c.device;
     let u = e.units;
     let raised = c.raised;
-    conclude(memory, e, device::served_ru(u, false), raised, c.length, Fate::Nothing)
+    conclude(
+        memory,
+        e,
+        device::served_ru(u, false),
+        raised,
+        c.length,
+        Fate::Nothing,
+    )
 }
 
+// The receive unit is served.
+fn receive_turn(memory: &mut [u8], holding: &[u8], d: Device) -> Outcome
+    ensures { λ r. ⌜ turns.Receives (receiveService.service (receivePart.partOf (d .units) (now (holding .entry))) (now (memory .entry))) d (now (memory .entry)) r (now (memory .exit)) ⌝ }
+{
+    let u = d.units;
+    let s = receive::serve(memory, holding, u);
+    let unit = s.unit;
+    let raised = s.raised;
+    let fate = s.fate;
+    conclude(
+        memory,
+        d,
+        device::served_ru(device::with_ru(u, unit), true),
+        raised,
+        0,
+        fate,
+    )
+}
+
+// With no work a turn changes nothing.
+fn turn_by(
+    memory: &mut [u8],
+    holding: &[u8],
+    outgoing: &mut [u8],
+    d: Device,
+    served: Served,
+    report: u16,
+) -> Outcome
+    ensures { λ r. ⌜ world.Does (turns.turnBy served (world.worldOf d (now (memory .entry)) (now (holding .entry)) (now (outgoing .entry))) report) r (now (memory .exit)) (now (holding .entry)) (now (outgoing .exit)) ⌝ }
+{
+    match served {
+        Served::Neither => device::outcome_of(d, device::answered(0, false), Fate::Nothing),
+        Served::CommandUnit => command_turn(memory, outgoing, d, report),
+        Served::ReceiveUnit => receive_turn(memory, holding, d),
+    }
+}
+
+// A turn: RU has work while a frame is held, CU while Active.
+pub fn turn(
+    memory: &mut [u8],
+    holding: &[u8],
+    outgoing: &mut [u8],
+    d: Device,
+    report: u16,
+) -> Outcome
+    ensures { λ r. ⌜ world.Does (turns.turnOf (world.worldOf d (now (memory .entry)) (now (holding .entry)) (now (outgoing .entry))) report) r (now (memory .exit)) (now (holding .entry)) (now (outgoing .exit)) ⌝ }
+{
+    let u = d.units;
+    let cu = u.cu;
+    let ru = u.ru;
+    let served = to_serve(
+        device::is_active(device::cu_state(cu)),
+        device::is_holding(ru),
+        u.rulast,
+    );
+    turn_by(memory, holding, outgoing, d, served, report)
+}
+
+// ---- arrival
+
+// A frame arrives with the line side's verdict.
+pub fn arrival(
+    memory: &mut [u8],
+    holding: &mut [u8],
+    d: Device,
+    frame: &[u8],
+    verdict: u32,
+) -> Outcome
+    ensures { λ r. ⌜ arrivals.Arrives (arrivals.arrival d (now (frame .entry)) verdict (now (memory .entry)) (now (holding .entry))) d (now (memory .entry)) r (now (memory .exit)) (now (holding .exit)) ⌝ }
+{
+    let u = d.units;
+    let settings = u.settings;
+    let own = d.own;
+    let listed = d.listed;
+    let matched = filter::matches(settings, own, listed, frame);
+    let a = receive::arrive(memory, holding, u, matched, frame, verdict);
+    let unit = a.unit;
+    let fate = a.fate;
+    device::outcome_of(
+        device::with_units(d, device::with_ru(u, unit)),
+        device::answered(0, false),
+        fate,
+    )
+}

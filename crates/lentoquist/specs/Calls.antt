@@ -1,8 +1,7 @@
--- The calls on numbers and byte areas: 01, "Calls, lent areas, refusals". The record's image is a parameter, `Codec`. Assumes nothing.
+-- The calls on numbers and byte areas: 01, "Calls, lent areas, refusals". Each exported call's promise cites one of these. Assumes nothing.
 use mathlib.Core.Path.{_≡_}
-use mathlib.Core.Bool.{Bool, true, false, cond, _&&_}
+use mathlib.Core.Bool.{Bool, true, false, _&&_}
 use mathlib.Core.List.{List, []}
-use mathlib.Core.Option.{Option, none, some}
 use Prim.Native.Nat.{ℕ, _+_, _*_, _^_}
 use lib.Dec.{eqb, leb}
 use lib.ListN.{length}
@@ -10,32 +9,31 @@ use Rattle.memory.specs.Size.{sizeAllowed}
 use Rattle.scb.specs.Words.{one}
 use Rattle.device.specs.Limits.{areaSize, recordSize, longest}
 use Rattle.device.specs.Numbers.{refusalNumber}
-use Rattle.device.specs.State.{fresh}
 use Rattle.device.specs.declared.Answer.{Answer}
 use Rattle.device.specs.declared.Device.{Device}
 use Rattle.device.specs.declared.Refusal.{Refusal}
 use Rattle.device.specs.declared.Refusal.the-variants as refusal
-use Rattle.chip.specs.World.{World, Ran, resetOf}
+use Rattle.image.specs.Image.{imageOf, decodeOf, deviceAt}
+use Rattle.image.specs.declared.Decoded.{Decoded}
+use Rattle.image.specs.declared.Decoded.the-variants as is
+use Rattle.chip.specs.World.{World, Ran, worldOf, resetOf}
 use Rattle.chip.specs.Attention.{attentionOf}
 use Rattle.chip.specs.Arrival.{arrivalOf}
 use Rattle.chip.specs.Turn.{turnOf}
 
--- ---- the record
-
--- the image of a device, and the device that a record is the image of, if its state is within docs/' ranges
-pub record Codec : Type 0 where
-  pub image : Device → List ℕ
-  pub decode : List ℕ → Option Device
-
 -- ---- what is lent, and what is left
 
+-- shared memory, holding area, outgoing area, device record
 pub record Areas : Type 0 where
   pub memory : List ℕ
   pub holding : List ℕ
   pub outgoing : List ℕ
   pub kept : List ℕ
 
--- what a call leaves: its answer as one number, and the areas; `kept` is the device record
+abbrev pub areasOf : List ℕ → List ℕ → List ℕ → List ℕ → Areas
+areasOf m h out r = record { memory = m; holding = h; outgoing = out; kept = r }
+
+-- what a call leaves: its answer as one number, and the areas
 pub record Called : Type 0 where
   pub answer : ℕ
   pub areas : Areas
@@ -62,62 +60,61 @@ refusedBy true true false image = refusal.Overlong
 refusedBy true true true false = refusal.Foreign
 refusedBy true true true true = refusal.Accepted
 
--- another lent area has the wrong length
-unfoldable pub areasRight : Areas → Bool
-areasRight a = eqb (length (a .kept)) recordSize && eqb (length (a .holding)) areaSize && eqb (length (a .outgoing)) areaSize
+-- no other lent area has the wrong length
+abbrev pub lengthsRight : (holding outgoing kept : ℕ) → Bool
+lengthsRight holding outgoing kept = eqb kept recordSize && eqb holding areaSize && eqb outgoing areaSize
 
-abbrev pub isSome : {A : Type 0} → Option A → Bool
-isSome none = false
-isSome (some x) = true
+unfoldable pub areasRight : Areas → Bool
+areasRight a = lengthsRight (length (a .holding)) (length (a .outgoing)) (length (a .kept))
+
+-- the record is the image of a state within docs/' ranges
+abbrev pub isImage : Decoded → Bool
+isImage (is.Units u) = true
+isImage is.Foreign = false
 
 -- f: the arriving frame, empty for the other calls
-unfoldable pub refusalOf : Codec → Areas → List ℕ → Refusal
-refusalOf c a f =
-    refusedBy (sizeAllowed (length (a .memory))) (areasRight a) (leb (length f) longest) (isSome (c .decode (a .kept)))
+unfoldable pub refusalOf : Areas → List ℕ → Refusal
+refusalOf a f =
+    refusedBy (sizeAllowed (length (a .memory))) (areasRight a) (leb (length f) longest) (isImage (decodeOf (a .kept)))
 
 -- length 0, no interrupt edge; a refusal changes nothing lent
+abbrev pub refusedAnswer : Refusal → Answer
+refusedAnswer r = record { number = r; length = 0; edge = false }
+
 abbrev pub refused : Refusal → Areas → Called
-refused r a = record { answer = packed (record { number = r; length = 0; edge = false }); areas = a }
+refused r a = record { answer = packed (refusedAnswer r); areas = a }
 
 -- ---- a call that is not refused: the chip's definition, under decode and image
 
-abbrev pub worldOf : Areas → Device → World
-worldOf a d = record { device = d; memory = a .memory; holding = a .holding; outgoing = a .outgoing }
-
-abbrev pub kept : Codec → Ran → Called
-kept c r =
+abbrev pub keptBy : Ran → Called
+keptBy r =
     record {
       answer = packed (r .outcome .answer);
-      areas =
-          record {
-            memory = r .memory;
-            holding = r .holding;
-            outgoing = r .outgoing;
-            kept = c .image (r .outcome .device);
-          };
+      areas = areasOf (r .memory) (r .holding) (r .outgoing) (imageOf (r .outcome .device));
     }
 
-abbrev pub calledOn : Codec → (World → Ran) → Areas → Option Device → Called
-calledOn c run a none = refused refusal.Foreign a
-calledOn c run a (some d) = kept c (run (worldOf a d))
+abbrev pub calledOn : (World → Ran) → Areas → Decoded → Called
+calledOn run a (is.Units u) =
+    keptBy (run (worldOf (deviceAt (a .kept) u) (a .memory) (a .holding) (a .outgoing)))
+calledOn run a is.Foreign = refused refusal.Foreign a
 
-abbrev pub calledBy : Refusal → Codec → (World → Ran) → Areas → Called
-calledBy refusal.Accepted c run a = calledOn c run a (c .decode (a .kept))
-calledBy refusal.Memory c run a = refused refusal.Memory a
-calledBy refusal.Area c run a = refused refusal.Area a
-calledBy refusal.Overlong c run a = refused refusal.Overlong a
-calledBy refusal.Foreign c run a = refused refusal.Foreign a
+abbrev pub calledBy : Refusal → (World → Ran) → Areas → Called
+calledBy refusal.Accepted run a = calledOn run a (decodeOf (a .kept))
+calledBy refusal.Memory run a = refused refusal.Memory a
+calledBy refusal.Area run a = refused refusal.Area a
+calledBy refusal.Overlong run a = refused refusal.Overlong a
+calledBy refusal.Foreign run a = refused refusal.Foreign a
 
 -- ---- the four calls
 
-unfoldable pub attentionCall : Codec → Areas → Called
-attentionCall c a = calledBy (refusalOf c a []) c attentionOf a
+unfoldable pub attentionCall : Areas → Called
+attentionCall a = calledBy (refusalOf a []) attentionOf a
 
-unfoldable pub arrivalCall : Codec → Areas → List ℕ → ℕ → Called
-arrivalCall c a f v = calledBy (refusalOf c a f) c (λ w. arrivalOf w f v) a
+unfoldable pub arrivalCall : Areas → List ℕ → ℕ → Called
+arrivalCall a f v = calledBy (refusalOf a f) (λ w. arrivalOf w f v) a
 
-unfoldable pub turnCall : Codec → Areas → ℕ → Called
-turnCall c a report = calledBy (refusalOf c a []) c (λ w. turnOf w report) a
+unfoldable pub turnCall : Areas → ℕ → Called
+turnCall a report = calledBy (refusalOf a []) (λ w. turnOf w report) a
 
 -- what a reset leaves: reset takes the record alone
 pub record Renewed : Type 0 where
@@ -129,9 +126,9 @@ pub record Renews (said : Renewed) (a : ℕ) (r : List ℕ) : Type 0 where
   pub kept : r ≡ said .kept
 
 -- it ignores the record's content and writes a fresh one; a wrong length is refusal 2
-abbrev pub renewed : (right : Bool) → Codec → List ℕ → Renewed
-renewed true c r = record { answer = packed (resetOf .answer); kept = c .image (resetOf .device) }
-renewed false c r = record { answer = packed (record { number = refusal.Area; length = 0; edge = false }); kept = r }
+abbrev pub renewed : (right : Bool) → List ℕ → Renewed
+renewed true r = record { answer = packed (resetOf .answer); kept = imageOf (resetOf .device) }
+renewed false r = record { answer = packed (refusedAnswer refusal.Area); kept = r }
 
-unfoldable pub resetCall : Codec → List ℕ → Renewed
-resetCall c r = renewed (eqb (length r) recordSize) c r
+unfoldable pub resetCall : List ℕ → Renewed
+resetCall r = renewed (eqb (length r) recordSize) r

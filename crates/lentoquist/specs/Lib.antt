@@ -1,2 +1,3 @@
--- The four calls on bytes, for whatever image of the device the record holds.
+-- The four calls on bytes.
 pub mod Calls
+pub mod Inner

@@ -15,15 +15,10 @@ use Rattle.device.specs.declared.Ru.{Ru}
 use Rattle.device.specs.declared.Ru.the-variants as ru
 use Rattle.device.specs.declared.Storing.{Storing}
 use Rattle.device.specs.declared.Walk.{Walk}
+use Rattle.receive.specs.declared.Descriptor.{Descriptor}
 use Rattle.receive.specs.Part.{Part, Service, quietly}
 
 -- Receive buffer descriptor: +0 15 EOF, 14 F, 13-0 count; +2 next; +4 real address; +8 15 EL, 13-0 size
-pub record Descriptor : Type 0 where
-  pub next : Offset
-  pub buffer : RealAddress
-  pub el : Bool
-  pub size : ℕ
-
 unfoldable pub descriptorAt : RealAddress → Offset → List ℕ → Descriptor
 descriptorAt base o m =
     let word = wordAt m (place base o 8) in

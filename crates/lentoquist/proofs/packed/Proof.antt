@@ -1,0 +1,20 @@
+-- `lentoquist::packed` meets its contract. Assumes nothing.
+use Rattle.lentoquist.specs.Calls.{packed}
+use borrow.Author.Needs.{needs}
+use Rattle.lentoquist.proofs.packed.Statement.{statement}
+use Rattle.lentoquist.proofs.packed.Tie as tie
+
+pub packed-spec : {M : Type 1} → statement M
+unfolding packed
+packed-spec =
+    tie.close
+    (tie.spec
+    (λ c κs. search needs)
+    (λ c. search needs)
+    (λ c. search needs)
+    (λ c. search needs)
+    (λ c. search needs)
+    (λ c κs. search needs)
+    (λ c. search needs)
+    (λ c. search needs)
+    (λ c. rw (c .before .before .refusal-number .ensures, c .one .ensures .0)))
