@@ -1,9 +1,9 @@
 -- The record is exact: the image of a state in range is decoded to that state, what is decoded is the image of what it is decoded to, and a
 -- foreign record is the image of no state in range. Assumes nothing.
-use mathlib.Core.Path.{_≡_, refl, sym, ap, _∙_}
-use mathlib.Core.Bool.{Bool, true, false, not, cond, _&&_, _||_}
+use mathlib.Core.Path.{_≡_, refl, sym, _∙_}
+use mathlib.Core.Bool.{Bool, true, false, not, _&&_, _||_}
 use mathlib.Core.List.{List, [], _∷_, _++_}
-use Prim.Native.Nat.{ℕ, zero, suc, _+_, _*_, _/_, _%_, _^_, _≤_, _<_}
+use Prim.Native.Nat.{ℕ, zero, suc, _+_, _*_, _/_, _%_, _≤_, _<_}
 use native.Mathlib.Omega.{arith}
 use borrow.Author.Tests.{eqb-true, ltb-true, leb-true, lt-ltb, ne-eqb, not-true}
 use lib.Dec.{eqb, leb, ltb, eqb→eq}
@@ -11,7 +11,7 @@ use lib.ListN.{length, getD, replicate}
 use Rattle.memory.specs.Address.{isNone}
 use Rattle.memory.specs.Memory.{value, digits}
 use Rattle.memory.proofs.Bytes.{Bytes, digits-value, bytes-cons, bytes-tail, digits-bytes}
-use Rattle.scb.specs.Words.{one, joined, noEvents, eventBits, anyOf, cuNumber, ruNumber}
+use Rattle.scb.specs.Words.{joined, noEvents, eventBits, anyOf, cuNumber, ruNumber}
 use Rattle.scb.specs.declared.Events.{Events}
 use Rattle.scb.proofs.Below.{below}
 use Rattle.scb.proofs.Status.{events-below, any-bits}
@@ -26,12 +26,12 @@ use Rattle.device.specs.declared.Settings.{Settings}
 use Rattle.device.specs.declared.Units.{Units}
 use Rattle.words.specs.Places.{bytesFrom, field}
 use Rattle.words.proofs.Laws.{field-below, piece, fit, digits-zero, from-bytes, length-from, whole, first-of, second-of, zero-append, one as field-one}
-use Rattle.image.specs.Words.{flagsOf, odd, numberOf, wordOf, cuTag, cuWord, cuOf, cuShaped, ruTag, ruWord, ruRest, ruOf, ruShaped}
-use Rattle.image.specs.Ranges.{settingsFresh, unitsIdle, addressesFresh, sized, unitsFit, cuFits, frameFits, ruFits, unitsFresh, begunOrFresh, inRange, WordWide, Wide}
-use Rattle.image.specs.Image.{front, eventByte, stateBits, settingBits, tagBytes, baseBytes, wordBytes, headBytes, unitBytes, addressBytes, imageOf, eventsOf, unitsOf, cuAt, ruAt, unitsAt, deviceFrom, deviceAt, headShaped, unitsShaped, spareZero, shaped, rangeFrom, decodeFull, decodeOf, stored}
+use Rattle.phases.specs.Words.{flagsOf, odd, numberOf, cuTag, cuWord, cuShaped, ruTag, ruWord, ruRest, ruShaped, WordWide}
+use Rattle.image.specs.Ranges.{settingsFresh, unitsIdle, addressesFresh, sized, unitsFit, cuFits, frameFits, ruFits, unitsFresh, initialisedOrFresh, inRange, Wide}
+use Rattle.image.specs.Image.{front, eventByte, stateBits, settingBits, tagBytes, baseBytes, wordBytes, headBytes, unitBytes, addressBytes, imageOf, eventsOf, unitsOf, cuAt, ruAt, unitsAt, deviceFrom, deviceAt, headShaped, unitsShaped, spareZero, shaped, rangeFrom, decodeFull, decodeOf}
 use Rattle.image.specs.declared.Decoded.the-variants as is
-use Rattle.image.proofs.Steps.{full-taken, full-out, full-other, decode-full, decode-other, device-full, length-head, length-units, length-image}
-use Rattle.image.proofs.Units.{both, never, one-below, flag1, flag2, flag3, flag4, bits2, bits3, number-below, word-back, wide-of, cu-shaped, cu-back, cu-same, FillingWide, rest-below, ru-shaped, ru-back, ru-same}
+use Rattle.image.proofs.Steps.{full-taken, full-out, full-other, decode-full, device-full, length-head, length-units, length-image}
+use Rattle.phases.proofs.Units.{both, never, one-below, flag1, flag2, flag3, flag4, bits2, bits3, number-below, word-back, wide-of, cu-shaped, cu-back, cu-same, FillingWide, rest-below, ru-shaped, ru-back, ru-same}
 
 -- ---- the events in their byte
 
@@ -293,7 +293,7 @@ module _ (d : Device) (h : Wide d) (e : unitsFit (d .units) ≡ true) where
 module _ (d : Device) (h : Wide d) (e : inRange d ≡ true) where
   fits : unitsFit (d .units) ≡ true
   unfolding inRange
-  fits = both (unitsFit (d .units)) (begunOrFresh d) e .0
+  fits = both (unitsFit (d .units)) (initialisedOrFresh d) e .0
 
   -- the image of a state in range is decoded to its units
   pub decode-image : decodeOf (imageOf d) ≡ is.Units (d .units)
@@ -556,7 +556,7 @@ level d = any-bits (d .units .events) ∙ rw (events-at d, times16 (eventBits (d
 -- ---- the fresh state
 
 pub fresh-range : inRange fresh ≡ true
-unfolding inRange unitsFit cuFits ruFits begunOrFresh unitsFresh eventBits joined value
+unfolding inRange unitsFit cuFits ruFits initialisedOrFresh unitsFresh eventBits joined value
 fresh-range = refl
 
 pub fresh-wide : Wide fresh
@@ -635,9 +635,9 @@ or-second true b i e = absurd (never (sym i))
 or-second false b i e = e
 
 pub one-fresh : (d : Device) → Wide d → inRange d ≡ true → d .units .initialised ≡ false → d ≡ fresh
-unfolding inRange begunOrFresh
+unfolding inRange initialisedOrFresh
 one-fresh d h e i =
-    let x = or-second (d .units .initialised) (unitsFresh (d .units) && addressesFresh d) i (both (unitsFit (d .units)) (begunOrFresh d) e .1) in
+    let x = or-second (d .units .initialised) (unitsFresh (d .units) && addressesFresh d) i (both (unitsFit (d .units)) (initialisedOrFresh d) e .1) in
     let y = both (unitsFresh (d .units)) (addressesFresh d) x in
     let z = both (eqb (value (d .own)) 0xFFFFFFFFFFFF) (eqb (value (d .listed)) 0) (y .1) in
     rw (

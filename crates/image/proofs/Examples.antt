@@ -1,9 +1,7 @@
 -- The two records that the document on the record shows, computed: the fresh one, and one at work. Assumes nothing.
-use mathlib.Core.Path.{_≡_, refl, _∙_}
-use mathlib.Core.Bool.{Bool, true, false}
-use mathlib.Core.List.{List, [], _∷_, _++_}
-use Prim.Native.Nat.{ℕ}
-use native.Mathlib.Omega.{arith}
+use mathlib.Core.Path.{_≡_, refl}
+use mathlib.Core.Bool.{true, false}
+use mathlib.Core.List.{[], _∷_, _++_}
 use lib.ListN.{replicate}
 use Rattle.memory.specs.Memory.{digits}
 use Rattle.scb.specs.Words.{joined, eventBits}
@@ -13,8 +11,8 @@ use Rattle.device.specs.declared.Device.{Device}
 use Rattle.device.specs.declared.Ru.the-variants as ru
 use Rattle.device.specs.declared.Units.{Units}
 use Rattle.device.specs.declared.Verdict.the-variants as verdict
-use Rattle.image.specs.Words.{numberOf, cuWord, ruWord, ruRest}
-use Rattle.image.specs.Ranges.{unitsFit, cuFits, frameFits, ruFits, begunOrFresh, inRange}
+use Rattle.phases.specs.Words.{numberOf, cuWord, ruWord, ruRest}
+use Rattle.image.specs.Ranges.{unitsFit, cuFits, frameFits, ruFits, initialisedOrFresh, inRange}
 use Rattle.image.specs.Image.{front, tagBytes, baseBytes, wordBytes, headBytes, unitBytes, addressBytes, imageOf}
 
 -- ---- the fresh record
@@ -68,5 +66,5 @@ unfolding imageOf headBytes front tagBytes baseBytes unitBytes wordBytes address
 working-record = refl
 
 pub working-range : inRange working ≡ true
-unfolding inRange unitsFit cuFits frameFits ruFits begunOrFresh
+unfolding inRange unitsFit cuFits frameFits ruFits initialisedOrFresh
 working-range = refl

@@ -1,46 +1,24 @@
 -- What the functions' proofs cite: the stores of a record end to end, and what each branch of decoding comes to. Assumes nothing.
 use mathlib.Core.Path.{_≡_, refl, sym, _∙_}
-use mathlib.Core.Bool.{Bool, true, false, cond, _&&_, _||_}
-use mathlib.Core.List.{List, [], _∷_, _++_}
-use Prim.Native.Nat.{ℕ, _+_, _%_}
+use mathlib.Core.Bool.{true, false, _&&_}
+use mathlib.Core.List.{List, _++_}
+use Prim.Native.Nat.{ℕ, _+_}
 use native.Mathlib.Omega.{arith}
 use borrow.Author.Tests.{eq-eqb, ne-eqb}
-use lib.Dec.{eqb}
 use lib.ListN.{length, replicate, length-append}
 use lib.Seq.{sets}
-use Rattle.memory.specs.Memory.{digits, value}
+use Rattle.memory.specs.Memory.{digits}
 use Rattle.memory.proofs.Laws.{sets-append}
-use Rattle.device.specs.Numbers.{actionNumber, verdictNumber}
-use Rattle.device.specs.declared.Action.{Action}
-use Rattle.device.specs.declared.Action.the-variants as action
 use Rattle.device.specs.declared.Cu.{Cu}
 use Rattle.device.specs.declared.Device.{Device}
 use Rattle.device.specs.declared.Ru.{Ru}
 use Rattle.device.specs.declared.Units.{Units}
-use Rattle.device.specs.declared.Verdict.{Verdict}
-use Rattle.device.specs.declared.Verdict.the-variants as verdict
 use Rattle.words.specs.Places.{bytesFrom, field}
 use Rattle.words.proofs.Laws.{sets-whole}
-use Rattle.image.specs.Words.{cuTag, ruTag}
-use Rattle.image.specs.Ranges.{unitsFit, unitsFresh, begunOrFresh, inRange}
+use Rattle.phases.specs.Words.{cuTag, ruTag}
+use Rattle.image.specs.Ranges.{unitsFit, unitsFresh, initialisedOrFresh, inRange}
 use Rattle.image.specs.Image.{front, eventByte, stateBits, settingBits, tagBytes, baseBytes, wordBytes, headBytes, unitBytes, addressBytes, imageOf, unitsAt, deviceFrom, deviceAt, shaped, ownFresh, rangeFrom, decodeFull, decodeOf, stored}
 use Rattle.image.specs.declared.Decoded.the-variants as is
-
--- ---- numbers of cases fit a byte
-
-pub action-small : (a : Action) → actionNumber a % 256 ≡ actionNumber a
-action-small action.Nop = refl
-action-small action.IaSetup = refl
-action-small action.Configure = refl
-action-small action.McSetup = refl
-action-small action.Tdr = refl
-action-small action.Dump = refl
-action-small action.Diagnose = refl
-
-pub verdict-small : (v : Verdict) → verdictNumber v % 256 ≡ verdictNumber v
-verdict-small verdict.Good = refl
-verdict-small verdict.Crc = refl
-verdict-small verdict.Misaligned = refl
 
 -- ---- the stores of a record
 
@@ -105,9 +83,10 @@ all-stores r d h p q =
     ))
     ∙ sets-whole r (imageOf d) (length-image d p q ∙ sym h)
 
-pub stored-here : (r : List ℕ) (d : Device) → length r ≡ 256 → stored r d ≡ imageOf d
+-- writing back leaves exactly the image, whatever stood there; a record of another length stays
+pub stored-image : (r : List ℕ) (d : Device) → length r ≡ 256 → stored r d ≡ imageOf d
 unfolding stored
-stored-here r d h = rw (eq-eqb (length r) 256 h)
+stored-image r d h = rw (eq-eqb (length r) 256 h)
 
 pub stored-other : (r : List ℕ) (d : Device) → (length r ≡ 256 → ⊥) → stored r d ≡ r
 unfolding stored
@@ -116,12 +95,12 @@ stored-other r d h = rw (ne-eqb (length r) 256 h)
 -- ---- the branches of decoding
 
 module _ (r : List ℕ) (u : Units) where
-  pub range-begun : unitsFit u ≡ true → u .initialised ≡ true → true ≡ rangeFrom r u
-  unfolding rangeFrom inRange begunOrFresh deviceFrom
-  range-begun p q = rw (p, q)
+  pub range-initialised : unitsFit u ≡ true → u .initialised ≡ true → true ≡ rangeFrom r u
+  unfolding rangeFrom inRange initialisedOrFresh deviceFrom
+  range-initialised p q = rw (p, q)
 
   pub range-fresh : unitsFit u ≡ true → u .initialised ≡ false → (unitsFresh u && ownFresh r) ≡ rangeFrom r u
-  unfolding rangeFrom inRange begunOrFresh deviceFrom ownFresh field
+  unfolding rangeFrom inRange initialisedOrFresh deviceFrom ownFresh field
   range-fresh p q = rw (p, q)
 
   pub range-out : unitsFit u ≡ false → false ≡ rangeFrom r u

@@ -1,8 +1,7 @@
 -- The record of 256 bytes: the image of a state, and the state that a record is the image of. Assumes nothing.
-use mathlib.Core.Path.{_≡_}
-use mathlib.Core.Bool.{Bool, true, false, cond, _&&_}
-use mathlib.Core.List.{List, [], _∷_, _++_}
-use Prim.Native.Nat.{ℕ, _*_, _/_, _%_, _<_}
+use mathlib.Core.Bool.{Bool, false, cond, _&&_}
+use mathlib.Core.List.{List, [], _++_}
+use Prim.Native.Nat.{ℕ, _*_, _/_, _%_}
 use lib.Dec.{eqb, ltb}
 use lib.ListN.{length, replicate}
 use Rattle.memory.specs.Memory.{digits}
@@ -15,7 +14,7 @@ use Rattle.device.specs.declared.Ru.{Ru}
 use Rattle.device.specs.declared.Settings.{Settings}
 use Rattle.device.specs.declared.Units.{Units}
 use Rattle.words.specs.Places.{bytesFrom, field}
-use Rattle.image.specs.Words.{flagsOf, odd, numberOf, wordOf, cuTag, cuWord, cuOf, cuShaped, ruTag, ruWord, ruRest, ruOf, ruShaped}
+use Rattle.phases.specs.Words.{flagsOf, odd, numberOf, wordOf, cuTag, cuWord, cuOf, cuShaped, ruTag, ruWord, ruRest, ruOf, ruShaped}
 use Rattle.image.specs.Ranges.{inRange}
 use Rattle.image.specs.declared.Decoded.{Decoded}
 use Rattle.image.specs.declared.Decoded.the-variants as is
@@ -26,31 +25,38 @@ use Rattle.image.specs.declared.Decoded.the-variants as is
 unfoldable pub front : List ℕ
 front = digits 3 0x544742 ++ digits 2 1
 
+-- byte 6: bit 0 initialised, bit 1 RU served last
 abbrev pub stateBits : Units → ℕ
 stateBits u = flagsOf (u .initialised) (u .rulast) false false false false
 
+-- byte 14: bit 0 save bad, bit 1 promiscuous, bit 2 broadcast disabled
 abbrev pub settingBits : Settings → ℕ
 settingBits s = flagsOf (s .savebad) (s .promiscuous) (s .nobroadcast) false false false
 
+-- byte 5: bits 7-4 CX, FR, CNA, RNR
 abbrev pub eventByte : Events → ℕ
 eventByte e = 16 * eventBits e
 
--- bytes 5-8: events, flags, tags; 9-15: base, SCB offset, settings; 16-39: the units' words
+-- bytes 5-8: events, flags, the units' tags
 unfoldable pub tagBytes : ℕ → ℕ → ℕ → ℕ → List ℕ
 tagBytes events state cu ru = digits 1 events ++ (digits 1 state ++ (digits 1 cu ++ digits 1 ru))
 
+-- bytes 9-15: base, SCB offset, settings
 unfoldable pub baseBytes : ℕ → ℕ → ℕ → ℕ → List ℕ
 baseBytes base scb settings minimum = digits 3 base ++ (digits 2 scb ++ (digits 1 settings ++ digits 1 minimum))
 
+-- bytes 16-39: the units' words
 unfoldable pub wordBytes : ℕ → ℕ → ℕ → List ℕ
 wordBytes cu ru rest = digits 8 cu ++ (digits 8 ru ++ digits 8 rest)
 
+-- bytes 0-15
 unfoldable pub headBytes : Units → List ℕ
 headBytes u =
     front
     ++ (tagBytes (eventByte (u .events)) (stateBits u) (cuTag (u .cu)) (ruTag (u .ru))
     ++ baseBytes (u .base .0) (u .scb .0) (settingBits (u .settings)) (u .settings .minimum))
 
+-- bytes 16-39 of two units
 unfoldable pub unitBytes : Cu → Ru → List ℕ
 unitBytes cu ru = wordBytes (numberOf (cuWord cu)) (numberOf (ruWord ru)) (ruRest ru)
 
@@ -58,17 +64,20 @@ unitBytes cu ru = wordBytes (numberOf (cuWord cu)) (numberOf (ruWord ru)) (ruRes
 unfoldable pub addressBytes : List ℕ → List ℕ → List ℕ
 addressBytes own listed = own ++ (replicate 114 0 ++ listed)
 
+-- all 256
 unfoldable pub imageOf : Device → List ℕ
 imageOf d = headBytes (d .units) ++ (unitBytes (d .units .cu) (d .units .ru) ++ addressBytes (d .own) (d .listed))
 
 -- ---- the state of an image
 
+-- the events and the settings in their bits
 abbrev pub eventsOf : ℕ → Events
 eventsOf n = record { cx = odd (n / 8); fr = odd (n / 4); cna = odd (n / 2); rnr = odd n }
 
 abbrev pub settingsOf : ℕ → ℕ → Settings
 settingsOf s minimum = record { savebad = odd s; promiscuous = odd (s / 2); nobroadcast = odd (s / 4); minimum = minimum }
 
+-- the units, of the numbers in bytes 5, 6, 9-15 and the two units
 unfoldable pub unitsOf : ℕ → ℕ → ℕ → ℕ → ℕ → ℕ → Cu → Ru → Units
 unitsOf events state base scb settings minimum cu ru =
     record {
@@ -82,6 +91,7 @@ unitsOf events state base scb settings minimum cu ru =
       ru = ru;
     }
 
+-- the units as they stand in a record
 unfoldable pub cuAt : List ℕ → Cu
 cuAt r = cuOf (field r 7 1) (wordOf (field r 16 8))
 
@@ -106,9 +116,11 @@ headIs letters version events state settings = eqb letters 0x544742 && eqb versi
 unfoldable pub headShaped : List ℕ → Bool
 headShaped r = headIs (field r 0 3) (field r 3 2) (field r 5 1) (field r 6 1) (field r 14 1)
 
+-- each unit's tag and words are those of a unit
 unfoldable pub unitsShaped : List ℕ → Bool
 unitsShaped r = cuShaped (field r 7 1) (field r 16 8) && ruShaped (field r 8 1) (field r 24 8) (field r 32 8)
 
+-- bytes 46-159 are zero
 unfoldable pub spareZero : List ℕ → Bool
 spareZero r = eqb (field r 46 2) 0 && eqb (field r 48 112) 0
 
@@ -116,13 +128,15 @@ spareZero r = eqb (field r 46 2) 0 && eqb (field r 48 112) 0
 unfoldable pub shaped : List ℕ → Bool
 shaped r = headShaped r && unitsShaped r && spareZero r
 
--- units, with the addresses of a record, are in range
+-- own address six FFh, no address listed
 unfoldable pub ownFresh : List ℕ → Bool
 ownFresh r = eqb (field r 40 6) 0xFFFFFFFFFFFF && eqb (field r 160 96) 0
 
+-- units, with the addresses of a record, are in range
 unfoldable pub rangeFrom : List ℕ → Units → Bool
 rangeFrom r u = inRange (deviceFrom r u)
 
+-- what a record of 256 bytes is, and one of any length
 unfoldable pub decodeFull : List ℕ → Decoded
 decodeFull r = cond (shaped r && rangeFrom r (unitsAt r)) (is.Units (unitsAt r)) is.Foreign
 

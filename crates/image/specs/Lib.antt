@@ -1,4 +1,3 @@
 -- The record's layout and ranges, for the contracts of this crate and the definitions of the crates above it.
-pub mod Words
 pub mod Ranges
 pub mod Image

@@ -1,5 +1,5 @@
 -- The ranges: which states a record may hold. Every state that a call can leave is among them. Assumes nothing.
-use mathlib.Core.Bool.{Bool, true, false, not, _&&_, _||_}
+use mathlib.Core.Bool.{Bool, true, not, _&&_, _||_}
 use mathlib.Core.Path.{_≡_}
 use Prim.Native.Nat.{ℕ, _<_}
 use lib.Dec.{eqb, leb, ltb}
@@ -19,8 +19,7 @@ use Rattle.device.specs.declared.Settings.{Settings}
 use Rattle.device.specs.declared.Storing.{Storing}
 use Rattle.device.specs.declared.Units.{Units}
 use Rattle.device.specs.declared.Walk.{Walk}
-use Rattle.image.specs.Words.{cuWord, ruWord}
-use Rattle.image.specs.declared.Word.{Word}
+use Rattle.phases.specs.Words.{cuWord, ruWord, WordWide}
 
 -- a frame has 14 to 2,048 bytes
 abbrev pub sized : ℕ → Bool
@@ -30,9 +29,11 @@ sized n = leb header n && leb n longest
 abbrev pub goesOn : Walk → Bool
 goesOn w = leb (w .used) 63 && not (isNone (w .next))
 
+-- a Transmit at its descriptors has its header and no more than a frame in the outgoing area
 abbrev pub sendingFits : Walk → Bool
 sendingFits w = goesOn w && sized (w .filled)
 
+-- the command unit is in range
 unfoldable pub cuFits : Cu → Bool
 cuFits cu.Idle = true
 cuFits (cu.Suspended o) = true
@@ -50,13 +51,15 @@ frameFits f = sized (f .length) && (isGood f || f .savebad)
 abbrev pub fillingFits : Storing → Walk → Bool
 fillingFits s w = frameFits (s .frame) && goesOn w && leb header (w .filled) && ltb (w .filled) (s .frame .length)
 
--- a frame without data fills no buffer, and cannot run out of them
+-- a frame without data fills no buffer, so the last one used cannot have had EL
 abbrev pub closingFits : Storing → Bool → Bool
 closingFits s full = frameFits (s .frame) && (ltb header (s .frame .length) || not full)
 
+-- nor can one without data be out of buffers
 abbrev pub lackingFits : Storing → Bool
 lackingFits s = frameFits (s .frame) && ltb header (s .frame .length)
 
+-- the receive unit is in range
 unfoldable pub ruFits : Ru → Bool
 ruFits ru.Idle = true
 ruFits ru.NoResources = true
@@ -67,18 +70,21 @@ ruFits (ru.Filling s w) = fillingFits s w
 ruFits (ru.Closing s o full) = closingFits s full
 ruFits (ru.Lacking s) = lackingFits s
 
--- the base has 24 bits
+-- the units are, and the base has 24 bits
 unfoldable pub unitsFit : Units → Bool
 unitsFit u = ltb (u .base .0) 16777216 && cuFits (u .cu) && ruFits (u .ru)
 
 -- ---- before the first attention nothing can change: all is as after reset
 
+-- those bits 0, and 64 for minimum length
 abbrev pub settingsFresh : Settings → Bool
 settingsFresh s = not (s .savebad) && not (s .promiscuous) && not (s .nobroadcast) && eqb (s .minimum) 64
 
+-- both units Idle
 abbrev pub unitsIdle : Cu → Ru → Bool
 unitsIdle c u = eqb (cuNumber (cuState c)) 0 && eqb (ruNumber (ruState u)) 0
 
+-- all that stands beside the addresses
 unfoldable pub unitsFresh : Units → Bool
 unitsFresh u =
     eqb (eventBits (u .events)) 0
@@ -92,21 +98,16 @@ unitsFresh u =
 abbrev pub addressesFresh : Device → Bool
 addressesFresh d = eqb (value (d .own)) 0xFFFFFFFFFFFF && eqb (value (d .listed)) 0
 
-unfoldable pub begunOrFresh : Device → Bool
-begunOrFresh d = d .units .initialised || (unitsFresh (d .units) && addressesFresh d)
+-- the clause of its own: a device that is not initialised is the fresh one
+unfoldable pub initialisedOrFresh : Device → Bool
+initialisedOrFresh d = d .units .initialised || (unitsFresh (d .units) && addressesFresh d)
 
 -- ---- all of them
 
 unfoldable pub inRange : Device → Bool
-inRange d = unitsFit (d .units) && begunOrFresh d
+inRange d = unitsFit (d .units) && initialisedOrFresh d
 
 -- ---- the widths: what the types of the code say of every state, so that no call tests it
-
-pub record WordWide (w : Word) : Type 0 where
-  pub at : w .at < 65536
-  pub kind : w .kind < 256
-  pub size : w .size < 65536
-  pub next : w .next < 65536
 
 pub record Wide (d : Device) : Type 0 where
   pub scb : d .units .scb .0 < 65536

@@ -1,5 +1,5 @@
 -- `image::cu_at` meets its contract. Assumes nothing.
-use mathlib.Core.Path.{_≡_, sym, _∙_}
+use mathlib.Core.Path.{_∙_}
 use Rattle.image.specs.Image.{cuAt}
 use borrow.Author.Needs.{needs}
 use Rattle.image.proofs.cu_at.Statement.{statement}

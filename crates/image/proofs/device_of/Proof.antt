@@ -1,5 +1,4 @@
 -- `image::device_of` meets its contract. Assumes nothing.
-use mathlib.Core.Path.{_≡_, sym, _∙_}
 use Rattle.image.specs.Image.{deviceFrom}
 use Rattle.image.proofs.Steps.{device-full, device-other}
 use borrow.Author.Needs.{needs}

@@ -1,5 +1,4 @@
 -- `image::head_shaped` meets its contract. Assumes nothing.
-use mathlib.Core.Path.{_≡_, sym, _∙_}
 use Rattle.image.specs.Image.{headShaped}
 use borrow.Author.Needs.{needs}
 use Rattle.image.proofs.head_shaped.Statement.{statement}
@@ -20,7 +19,8 @@ head-shaped-spec =
     let read8 = c .before .before .before in
     let read16 = read8 .before in
     let read24 = read16 .before in
-    c .head-is .ensures ∙ rw (
+    rw (
+      c .head-is .ensures,
       read24 .read24 .ensures,
       read16 .read16 .ensures,
       read8 .read8 .ensures,

@@ -1,6 +1,6 @@
 -- `image::in_range` meets its contract. Assumes nothing.
-use mathlib.Core.Path.{_≡_, sym, _∙_}
-use Rattle.image.proofs.Steps.{range-begun, range-fresh, range-out}
+use mathlib.Core.Path.{sym, _∙_}
+use Rattle.image.proofs.Steps.{range-initialised, range-fresh, range-out}
 use borrow.Author.Needs.{needs}
 use Rattle.image.proofs.in_range.Statement.{statement}
 use Rattle.image.proofs.in_range.Tie as tie
@@ -12,7 +12,7 @@ in-range-spec =
     (λ c κs. search needs)
     (λ c.
     let s : tie.Start = search needs in
-    range-begun (s .args .r .now) (s .args .u) (sym (c .before .before .units-fit .ensures) ∙ c .before .if1 .taken) (c .if2 .taken))
+    range-initialised (s .args .r .now) (s .args .u) (sym (c .before .before .units-fit .ensures) ∙ c .before .if1 .taken) (c .if2 .taken))
     (λ c κs. search needs)
     (λ c κs. search needs)
     (λ c.

@@ -1,5 +1,4 @@
 -- `image::put_head` meets its contract. Assumes nothing.
-use mathlib.Core.Path.{_≡_, sym, _∙_}
 use Rattle.image.proofs.Steps.{head-stores}
 use borrow.Author.Needs.{needs}
 use Rattle.image.proofs.put_head.Statement.{statement}
@@ -27,7 +26,8 @@ put-head-spec =
     let events-byte = flags .before in
     let put-front = events-byte .before .before .before .before in
     let s = put-front .before .before .before .before .before .before in
-    c .before .before .put-base .ensures ∙ rw (
+    rw (
+      c .before .before .put-base .ensures,
       settings-byte .settings-byte .ensures,
       put-tags .put-tags .ensures,
       events-byte .events-byte .ensures,

@@ -1,6 +1,5 @@
 -- `image::put_units` meets its contract. Assumes nothing.
 use Rattle.image.specs.Image.{unitBytes}
-use mathlib.Core.Path.{_≡_, sym, _∙_}
 use borrow.Author.Needs.{needs}
 use Rattle.image.proofs.put_units.Statement.{statement}
 use Rattle.image.proofs.put_units.Tie as tie
@@ -23,7 +22,8 @@ put-units-spec =
     let ru-word = number-of2 .before in
     let number-of = ru-word .before in
     let cu-word = number-of .before in
-    c .before .before .put-words .ensures ∙ rw (
+    rw (
+      c .before .before .put-words .ensures,
       number-of .number-of .ensures,
       cu-word .cu-word .ensures,
       number-of2 .number-of2 .ensures,

@@ -1,5 +1,5 @@
 -- `image::renew` meets its contract. Assumes nothing.
-use mathlib.Core.Path.{_≡_, sym, _∙_}
+use mathlib.Core.Path.{_∙_}
 use borrow.Author.Needs.{needs}
 use Rattle.image.proofs.renew.Statement.{statement}
 use Rattle.image.proofs.renew.Tie as tie

@@ -1,5 +1,5 @@
 -- `image::ru_at` meets its contract. Assumes nothing.
-use mathlib.Core.Path.{_≡_, sym, _∙_}
+use mathlib.Core.Path.{_∙_}
 use Rattle.image.specs.Image.{ruAt}
 use borrow.Author.Needs.{needs}
 use Rattle.image.proofs.ru_at.Statement.{statement}

@@ -1,5 +1,4 @@
 -- `image::units_at` meets its contract. Assumes nothing.
-use mathlib.Core.Path.{_≡_, sym, _∙_}
 use Rattle.image.specs.Image.{unitsAt}
 use borrow.Author.Needs.{needs}
 use Rattle.image.proofs.units_at.Statement.{statement}
@@ -26,7 +25,8 @@ units-at-spec =
     let read24 = read16 .before in
     let read82 = read24 .before in
     let read8 = read82 .before in
-    c .units-of .ensures ∙ rw (
+    rw (
+      c .units-of .ensures,
       read8 .read8 .ensures,
       read82 .read82 .ensures,
       read24 .read24 .ensures,

@@ -3,7 +3,7 @@ use mathlib.Core.Path.{_≡_}
 use Prim.Native.Nat.{_*_, _-_, _≤_}
 use native.Mathlib.Nat.{le-antisymm}
 use lib.Dec.{eqb}
-use Rattle.words.specs.Places.{field, bytesFrom}
+use Rattle.words.specs.Places.{field}
 use Rattle.words.proofs.Laws.{zero-none, zero-more}
 use borrow.Author.Needs.{needs}
 use Rattle.words.proofs.is_zero.Statement.{statement}

@@ -1,7 +1,6 @@
 -- `words::run96` meets its contract. The invariant: the first i bytes are read. Assumes nothing.
 use mathlib.Core.Path.{_≡_}
-use mathlib.Core.List.{List}
-use Prim.Native.Nat.{_+_, _-_, _≤_}
+use Prim.Native.Nat.{_-_, _≤_}
 use native.Mathlib.Nat.{le-antisymm}
 use lib.ListN.{length, replicate}
 use lib.Seq.{sets}

@@ -1,0 +1,254 @@
+-- Flags in a byte, and a unit as a tag and words of eight bytes: what a phase uses stands below what it does not use, which is zero. Assumes nothing.
+use mathlib.Core.Bool.{Bool, false, not, cond, _&&_}
+use Prim.Native.Nat.{ℕ, _+_, _*_, _/_, _%_, _<_}
+use lib.Dec.{eqb, leb, ltb}
+use Rattle.memory.specs.declared.Offset.{Offset}
+use Rattle.scb.specs.Words.{one}
+use Rattle.device.specs.Numbers.{actionNumber, actionOf, verdictNumber, verdictOf}
+use Rattle.device.specs.declared.Action.{Action}
+use Rattle.device.specs.declared.Begun.{Begun}
+use Rattle.device.specs.declared.Cu.{Cu}
+use Rattle.device.specs.declared.Cu.the-variants as cu
+use Rattle.device.specs.declared.Frame.{Frame}
+use Rattle.device.specs.declared.Ru.{Ru}
+use Rattle.device.specs.declared.Ru.the-variants as ru
+use Rattle.device.specs.declared.Storing.{Storing}
+use Rattle.device.specs.declared.Walk.{Walk}
+use Rattle.phases.specs.declared.Word.{Word}
+
+-- ---- flags and numbers
+
+-- six flags as a number, the first in bit 0; and whether a number's bit 0 is set
+abbrev pub flagsOf : Bool → Bool → Bool → Bool → Bool → Bool → ℕ
+flagsOf a b c d e f = one a + 2 * one b + 4 * one c + 8 * one d + 16 * one e + 32 * one f
+
+abbrev pub odd : ℕ → Bool
+odd n = eqb (n % 2) 1
+
+-- a word's eight bytes as a number: two of an offset, one of flags, one of kind, two of size, two of the other offset
+abbrev pub flagBits : Word → ℕ
+flagBits w = flagsOf (w .first) (w .second) (w .third) (w .fourth) (w .fifth) (w .sixth)
+
+unfoldable pub numberOf : Word → ℕ
+numberOf w = w .at + 65536 * flagBits w + 16777216 * w .kind + 4294967296 * w .size + 281474976710656 * w .next
+
+-- and the word of a number
+abbrev pub flagged : ℕ → ℕ → ℕ → ℕ → ℕ → Word
+flagged at f kind size next =
+    record {
+      at = at;
+      first = odd f;
+      second = odd (f / 2);
+      third = odd (f / 4);
+      fourth = odd (f / 8);
+      fifth = odd (f / 16);
+      sixth = odd (f / 32);
+      kind = kind;
+      size = size;
+      next = next;
+    }
+
+unfoldable pub wordOf : ℕ → Word
+wordOf n = flagged (n % 65536) (n / 65536 % 256) (n / 16777216 % 256) (n / 4294967296 % 65536) (n / 281474976710656)
+
+-- a word with an offset alone
+abbrev pub plain : ℕ → Word
+plain o = record { at = o; first = false; second = false; third = false; fourth = false; fifth = false; sixth = false; kind = 0; size = 0; next = 0 }
+
+-- ---- the command unit
+
+-- a begun command: its block, its flags EL, S, I and a waiting SUSPEND, and what its phase needs besides
+abbrev pub begunWord : Begun → ℕ → ℕ → ℕ → Word
+begunWord b kind size next =
+    record {
+      at = b .block .0;
+      first = b .el;
+      second = b .suspend;
+      third = b .interrupt;
+      fourth = b .pausing;
+      fifth = false;
+      sixth = false;
+      kind = kind;
+      size = size;
+      next = next;
+    }
+
+-- one whose end is next: its number
+abbrev pub actingWord : Begun → Action → Word
+actingWord b a = begunWord b (actionNumber a) 0 0
+
+-- the tag of a phase
+abbrev pub cuTag : Cu → ℕ
+cuTag cu.Idle = 0
+cuTag (cu.Suspended o) = 1
+cuTag (cu.Waiting o) = 2
+cuTag (cu.Acting b a) = 3
+cuTag (cu.Sending b w) = 4
+cuTag (cu.Ending b n) = 5
+cuTag (cu.Failing b) = 6
+
+-- its word; a Transmit has the descriptors used, the bytes in the outgoing area and the next descriptor
+unfoldable pub cuWord : Cu → Word
+cuWord cu.Idle = plain 0
+cuWord (cu.Suspended o) = plain (o .0)
+cuWord (cu.Waiting o) = plain (o .0)
+cuWord (cu.Acting b a) = actingWord b a
+cuWord (cu.Sending b w) = begunWord b (w .used) (w .filled) (w .next .0)
+cuWord (cu.Ending b n) = begunWord b 0 n 0
+cuWord (cu.Failing b) = begunWord b 0 0 0
+
+-- what is read of a word
+abbrev pub begunOf : Word → Begun
+begunOf w = record { block = record { 0 = w .at }; el = w .first; suspend = w .second; interrupt = w .third; pausing = w .fourth }
+
+abbrev pub sendingOf : Word → Walk
+sendingOf w = record { next = record { 0 = w .next }; used = w .kind; filled = w .size }
+
+abbrev pub actionAt : Word → Action
+actionAt w = actionOf (w .kind)
+
+-- the unit of a tag and a word
+unfoldable pub cuOf : ℕ → Word → Cu
+cuOf t w =
+    cond (eqb t 0) cu.Idle
+    (cond (eqb t 1) (cu.Suspended (record { 0 = w .at }))
+    (cond (eqb t 2) (cu.Waiting (record { 0 = w .at }))
+    (cond (eqb t 3) (cu.Acting (begunOf w) (actionAt w))
+    (cond (eqb t 4) (cu.Sending (begunOf w) (sendingOf w))
+    (cond (eqb t 5) (cu.Ending (begunOf w) (w .size)) (cu.Failing (begunOf w)))))))
+
+-- a tag's largest number, and its kinds: the action of 3 is no Transmit, and 5 has no kind, though its size stands above it
+unfoldable pub cuMost : ℕ → ℕ
+cuMost t =
+    cond (eqb t 0) 0
+    (cond (eqb t 1) 0xFFFF
+    (cond (eqb t 2) 0xFFFF
+    (cond (eqb t 3) 0x7FFFFFF
+    (cond (eqb t 4) 0xFFFFFFFFFFFFFFFF
+    (cond (eqb t 5) 0xFFFFFFFFFFFF 0xFFFFF)))))
+
+unfoldable pub cuKind : ℕ → ℕ → Bool
+cuKind t kind = cond (eqb t 3) (not (eqb kind 4)) (cond (eqb t 5) (eqb kind 0) (ltb t 7))
+
+-- a tag and a number are those of a unit
+unfoldable pub cuShaped : ℕ → ℕ → Bool
+cuShaped t n = leb n (cuMost t) && ltb (n / 65536 % 256) 16 && cuKind t (n / 16777216 % 256)
+
+-- ---- the receive unit
+
+-- a held frame: its descriptor, its flags waiting SUSPEND, short, save bad, its verdict and its length
+abbrev pub frameWord : Offset → Frame → Bool → Word
+frameWord o f pausing =
+    record {
+      at = o .0;
+      first = pausing;
+      second = f .short;
+      third = f .savebad;
+      fourth = false;
+      fifth = false;
+      sixth = false;
+      kind = verdictNumber (f .verdict);
+      size = f .length;
+      next = 0;
+    }
+
+-- one begun: besides, the flags EL, S and whether the last buffer had EL, and an offset
+abbrev pub storingWord : Storing → ℕ → Bool → Word
+storingWord s next full =
+    record {
+      at = s .fd .0;
+      first = s .pausing;
+      second = s .frame .short;
+      third = s .frame .savebad;
+      fourth = s .el;
+      fifth = s .suspend;
+      sixth = full;
+      kind = verdictNumber (s .frame .verdict);
+      size = s .frame .length;
+      next = next;
+    }
+
+-- the tag of a phase
+abbrev pub ruTag : Ru → ℕ
+ruTag ru.Idle = 0
+ruTag ru.NoResources = 1
+ruTag (ru.Suspended o) = 2
+ruTag (ru.Ready o) = 3
+ruTag (ru.Held o f p) = 4
+ruTag (ru.Filling s w) = 5
+ruTag (ru.Closing s o full) = 6
+ruTag (ru.Lacking s) = 7
+
+-- its word
+unfoldable pub ruWord : Ru → Word
+ruWord ru.Idle = plain 0
+ruWord ru.NoResources = plain 0
+ruWord (ru.Suspended o) = plain (o .0)
+ruWord (ru.Ready o) = plain (o .0)
+ruWord (ru.Held o f p) = frameWord o f p
+ruWord (ru.Filling s w) = storingWord s (w .next .0) false
+ruWord (ru.Closing s o full) = storingWord s (o .0) full
+ruWord (ru.Lacking s) = storingWord s 0 false
+
+-- the second word: how far a frame is stored, and in how many buffers
+abbrev pub filledNumber : Walk → ℕ
+filledNumber w = w .filled + 65536 * w .used
+
+unfoldable pub ruRest : Ru → ℕ
+ruRest ru.Idle = 0
+ruRest ru.NoResources = 0
+ruRest (ru.Suspended o) = 0
+ruRest (ru.Ready o) = 0
+ruRest (ru.Held o f p) = 0
+ruRest (ru.Filling s w) = filledNumber w
+ruRest (ru.Closing s o full) = 0
+ruRest (ru.Lacking s) = 0
+
+-- what is read of its words
+abbrev pub frameOf : Word → Frame
+frameOf w = record { length = w .size; verdict = verdictOf (w .kind); short = w .second; savebad = w .third }
+
+abbrev pub storingOf : Word → Storing
+storingOf w = record { fd = record { 0 = w .at }; el = w .fourth; suspend = w .fifth; pausing = w .first; frame = frameOf w }
+
+abbrev pub fillingOf : Word → ℕ → Walk
+fillingOf w rest = record { next = record { 0 = w .next }; used = rest / 65536 % 256; filled = rest % 65536 }
+
+-- the unit of a tag and its words
+unfoldable pub ruOf : ℕ → Word → ℕ → Ru
+ruOf t w rest =
+    cond (eqb t 0) ru.Idle
+    (cond (eqb t 1) ru.NoResources
+    (cond (eqb t 2) (ru.Suspended (record { 0 = w .at }))
+    (cond (eqb t 3) (ru.Ready (record { 0 = w .at }))
+    (cond (eqb t 4) (ru.Held (record { 0 = w .at }) (frameOf w) (w .first))
+    (cond (eqb t 5) (ru.Filling (storingOf w) (fillingOf w rest))
+    (cond (eqb t 6) (ru.Closing (storingOf w) (record { 0 = w .next }) (w .sixth)) (ru.Lacking (storingOf w))))))))
+
+-- a tag's largest number, its flags, and the largest second word
+unfoldable pub ruMost : ℕ → ℕ
+ruMost t =
+    cond (eqb t 0) 0
+    (cond (eqb t 1) 0
+    (cond (eqb t 2) 0xFFFF
+    (cond (eqb t 3) 0xFFFF
+    (cond (eqb t 5) 0xFFFFFFFFFFFFFFFF
+    (cond (eqb t 6) 0xFFFFFFFFFFFFFFFF 0xFFFFFFFFFFFF)))))
+
+unfoldable pub ruFlags : ℕ → ℕ
+ruFlags t = cond (eqb t 4) 8 (cond (eqb t 6) 64 32)
+
+unfoldable pub restMost : ℕ → ℕ
+restMost t = cond (eqb t 5) 0xFFFFFF 0
+
+-- a tag and two numbers are those of a unit
+unfoldable pub ruShaped : ℕ → ℕ → ℕ → Bool
+ruShaped t n rest = ltb t 8 && leb n (ruMost t) && ltb (n / 65536 % 256) (ruFlags t) && ltb (n / 16777216 % 256) 3 && leb rest (restMost t)
+
+-- ---- the widths, which the types of the code say of every word
+
+pub record WordWide (w : Word) : Type 0 where
+  pub at : w .at < 65536
+  pub kind : w .kind < 256
+  pub size : w .size < 65536
+  pub next : w .next < 65536
