@@ -1,0 +1,66 @@
+#!/usr/bin/env bash
+# Builds the archive, the example and the host's tests with the kit's own compiler and linker, and runs them. Nothing need be installed but the
+# kit; where the machine is not x86-64 the programs run under the kit's emulator. All outputs go to target/host. Stops at the first failure.
+#   --long          ten times as many random calls
+#   --seed NUMBER   another seed for them
+# LQ_ARCHIVE=PATH takes an archive that is there already, and proves nothing.
+set -eu
+cd "$(dirname "$0")/../.."
+
+fail() {
+    echo "tests/host: $*" >&2
+    exit 1
+}
+
+# ---- the kit
+rt=$(command -v rt) || fail "rt is not in PATH"
+home=${RATTLE_HOME:-$(cd "$(dirname "$(readlink -f "$rt")")/.." && pwd -P)}
+own=$home/on/$(uname -m)
+tools=$own/toolchain
+[ -x "$tools/bin/clang" ] || fail "the kit at $home has no compiler for this machine"
+
+loader=("$tools/lib/ld-linux-x86-64.so.2" --library-path "$tools/lib")
+if [ "$(uname -m)" != x86_64 ]; then loader=("$tools/bin/qemu-x86_64" "${loader[@]}"); fi
+
+# ---- the archive
+archive=${LQ_ARCHIVE:-}
+if [ -z "$archive" ]; then
+    rt staticlib lentoquist >/dev/null || fail "rt staticlib lentoquist failed"
+    archive=target/staticlib/liblentoquist.a
+fi
+[ -f "$archive" ] || fail "there is no archive $archive"
+
+# ---- compile and link
+out=target/host
+rm -rf "$out"
+mkdir -p "$out"
+
+compile() { # SOURCE: to $out/NAME.o
+    "$tools/bin/clang" --target=x86_64-unknown-linux-gnu -nostdinc -isystem tests/host/libc -Iinclude -std=c11 -O2 -Wall -Wextra -Werror \
+        -c "$1" -o "$out/$(basename "$1" .c).o" || fail "$1 does not compile"
+}
+
+link() { # NAME OBJECT...
+    local name=$1
+    shift
+    "$own/bin/rattle-link" --target x86_64-unknown-linux-gnu --toolchain "$tools" -o "$out/$name" "$@" "$archive" 2>"$out/$name.link" ||
+        fail "$name does not link: $(cat "$out/$name.link")"
+}
+
+compile examples/host.c
+link example "$out/host.o"
+
+objects=()
+for source in tests/host/*.c; do
+    compile "$source"
+    objects+=("$out/$(basename "$source" .c).o")
+done
+link host_tests "${objects[@]}"
+
+# ---- run
+"${loader[@]}" "$out/example" >"$out/host.out" || fail "the example failed: $(tail -n 3 "$out/host.out")"
+cmp -s examples/host.expected "$out/host.out" || fail "the example's output is not examples/host.expected:
+$(diff examples/host.expected "$out/host.out" | head -n 10)"
+echo "example    as expected, $(wc -l <"$out/host.out") lines"
+
+"${loader[@]}" "$out/host_tests" "$@" || fail "a test failed"

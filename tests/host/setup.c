@@ -1,0 +1,130 @@
+#include "setup.h"
+
+const uint8_t EVERYONE[6] = {255, 255, 255, 255, 255, 255};
+
+void put_scp(struct chip *chip, uint32_t iscp, uint32_t base, unsigned scb)
+{
+    put_real(chip, LQ_SCP_ISCP, iscp);
+    put_byte(chip, iscp + LQ_ISCP_BUSY, 1);
+    put_word(chip, iscp + LQ_ISCP_SCB, scb);
+    put_real(chip, iscp + LQ_ISCP_BASE, base);
+}
+
+struct chip ready_chip(size_t n)
+{
+    struct chip chip = chip_of(n);
+    put_scp(&chip, ISCP, 0, SCB);
+    check_answer(call(&chip, ATTENTION_CALL), LQ_ACCEPTED, 0, true);
+    check_answer(attend(&chip, LQ_EVENTS), LQ_ACCEPTED, 0, false);
+    return chip;
+}
+
+void resize(struct chip *chip, size_t n)
+{
+    area_free(&chip->lent.memory);
+    area_free(&chip->modelled.memory);
+    chip->lent.memory = area_of("memory", n);
+    chip->modelled.memory = area_of("memory", n);
+}
+
+void put_block(struct chip *chip, uint32_t place, unsigned command, unsigned link)
+{
+    put_word(chip, place + LQ_CB_STATUS, 0);
+    put_word(chip, place + LQ_CB_COMMAND, command);
+    put_word(chip, place + LQ_CB_LINK, link);
+}
+
+void put_transmit(struct chip *chip, uint32_t place, unsigned flags, unsigned link, unsigned buffer)
+{
+    static const uint8_t destination[6] = {0x02, 0x11, 0x22, 0x33, 0x44, 0x55};
+    put_block(chip, place, flags | LQ_CMD_TRANSMIT, link);
+    put_word(chip, place + LQ_TRANSMIT_BUFFER, buffer);
+    put_bytes(chip, place + LQ_TRANSMIT_DESTINATION, destination, 6);
+    put_word(chip, place + LQ_TRANSMIT_TYPE, 0x0008);
+}
+
+void put_tbd(struct chip *chip, uint32_t place, unsigned count, unsigned next, uint32_t buffer)
+{
+    put_word(chip, place + LQ_TBD_COUNT, count);
+    put_word(chip, place + LQ_TBD_NEXT, next);
+    put_real(chip, place + LQ_TBD_BUFFER, buffer);
+}
+
+void put_fd(struct chip *chip, uint32_t place, unsigned command, unsigned link, unsigned buffer)
+{
+    put_word(chip, place + LQ_FD_STATUS, 0);
+    put_word(chip, place + LQ_FD_COMMAND, command);
+    put_word(chip, place + LQ_FD_LINK, link);
+    put_word(chip, place + LQ_FD_BUFFER, buffer);
+}
+
+void put_rbd(struct chip *chip, uint32_t place, unsigned next, uint32_t buffer, unsigned size)
+{
+    put_word(chip, place + LQ_RBD_COUNT, 0);
+    put_word(chip, place + LQ_RBD_NEXT, next);
+    put_real(chip, place + LQ_RBD_BUFFER, buffer);
+    put_word(chip, place + LQ_RBD_SIZE, size);
+}
+
+void put_bytes(struct chip *chip, uint32_t place, const uint8_t *bytes, size_t n)
+{
+    for (size_t i = 0; i < n; i++) put_byte(chip, place + (uint32_t)i, bytes[i]);
+}
+
+struct answer attend(struct chip *chip, unsigned command)
+{
+    put_word(chip, SCB + LQ_SCB_COMMAND, command);
+    return call(chip, ATTENTION_CALL);
+}
+
+struct answer turn(struct chip *chip)
+{
+    return call(chip, TURN_CALL(0));
+}
+
+void turns(struct chip *chip, unsigned n)
+{
+    while (n-- > 0) turn(chip);
+}
+
+void start_cu(struct chip *chip, unsigned block)
+{
+    put_word(chip, SCB + LQ_SCB_CBL, block);
+    attend(chip, LQ_EVENTS | LQ_CUC(LQ_START));
+}
+
+void start_ru(struct chip *chip, unsigned descriptor)
+{
+    put_word(chip, SCB + LQ_SCB_RFA, descriptor);
+    attend(chip, LQ_EVENTS | LQ_RUC(LQ_START));
+}
+
+struct answer arrive(struct chip *chip, const uint8_t *destination, size_t length, uint32_t verdict)
+{
+    static uint8_t frame[LQ_FRAME_MAX];
+    for (size_t i = 0; i < length; i++) frame[i] = i < 6 ? destination[i] : (uint8_t)(i * 7 + 1);
+    return call(chip, ARRIVAL_CALL(frame, length, verdict));
+}
+
+unsigned turns_until_complete(struct chip *chip, uint32_t place)
+{
+    for (unsigned n = 1; n <= 100; n++) {
+        turn(chip);
+        if (word_of(chip, place) & LQ_C) return n;
+    }
+    FAIL("the structure at %lXh is not complete after 100 turns", (unsigned long)place);
+    return 0;
+}
+
+unsigned status(const struct chip *chip)
+{
+    return word_of(chip, SCB + LQ_SCB_STATUS);
+}
+
+unsigned run_command(struct chip *chip, unsigned command)
+{
+    put_block(chip, 0x200, command | LQ_EL, 0xABCD);
+    start_cu(chip, 0x200);
+    turns_until_complete(chip, 0x200);
+    return word_of(chip, 0x200);
+}

@@ -1,0 +1,50 @@
+/*
+ * A board for the tests that are written as code: ISCP at 40h, base 0, SCB at 100h, in a memory of any size; and the
+ * host's side of it, a function for each thing that a host does.
+ */
+#ifndef SETUP_H
+#define SETUP_H
+
+#include "harness.h"
+
+enum { ISCP = 0x40, SCB = 0x100 };
+
+/* SCP and ISCP, with a base; no attention was given. */
+void put_scp(struct chip *chip, uint32_t iscp, uint32_t base, unsigned scb);
+
+/* A chip that is initialised, all events acknowledged. */
+struct chip ready_chip(size_t n);
+
+/* The same chip with another size of memory, all zero. */
+void resize(struct chip *chip, size_t n);
+
+/* ---- structures in memory ---- */
+
+void put_block(struct chip *chip, uint32_t place, unsigned command, unsigned link);
+void put_transmit(struct chip *chip, uint32_t place, unsigned flags, unsigned link, unsigned buffer);
+void put_tbd(struct chip *chip, uint32_t place, unsigned count, unsigned next, uint32_t buffer);
+void put_fd(struct chip *chip, uint32_t place, unsigned command, unsigned link, unsigned buffer);
+void put_rbd(struct chip *chip, uint32_t place, unsigned next, uint32_t buffer, unsigned size);
+void put_bytes(struct chip *chip, uint32_t place, const uint8_t *bytes, size_t n);
+
+/* ---- calls ---- */
+
+struct answer attend(struct chip *chip, unsigned command);
+struct answer turn(struct chip *chip);
+void turns(struct chip *chip, unsigned n);
+void start_cu(struct chip *chip, unsigned block);
+void start_ru(struct chip *chip, unsigned descriptor);
+
+/* A frame of so many bytes to an address, the rest of it counting up. */
+struct answer arrive(struct chip *chip, const uint8_t *destination, size_t length, uint32_t verdict);
+extern const uint8_t EVERYONE[6];
+
+/* Turns until the block or frame descriptor is complete, at most 100; answers how many they were. */
+unsigned turns_until_complete(struct chip *chip, uint32_t place);
+
+unsigned status(const struct chip *chip);
+
+/* One command with EL at block 200h, run to its end; answers its status. Parameters stand there already. */
+unsigned run_command(struct chip *chip, unsigned command);
+
+#endif
