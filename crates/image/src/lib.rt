@@ -9,7 +9,6 @@ use device::Storing;
 use device::Units;
 use device::Walk;
 use memory::Offset;
-use memory::RealAddress;
 use scb::Events;
 ghost use mathlib.Core.Path.{_≡_};
 ghost use lib.ListN.{length};
@@ -176,7 +175,7 @@ fn units_of(
 {
     Units {
         initialised: state % 2 == 1,
-        base: RealAddress(base),
+        base: memory::recalled(base),
         scb: Offset(scb),
         events: events_of(events / 16),
         rulast: state / 2 % 2 == 1,

@@ -23,6 +23,10 @@ offsetAt m a = record { 0 = wordAt m a }
 abbrev pub addressAt : List ℕ → ℕ → RealAddress
 addressAt m a = record { 0 = realAt m a }
 
+-- a real address as the record keeps it
+abbrev pub realOf : ℕ → RealAddress
+realOf n = record { 0 = n }
+
 -- where document 01 says FFFFh, an offset may stand for none
 abbrev pub none : Offset
 none = record { 0 = 0xFFFF }

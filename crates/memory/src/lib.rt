@@ -6,7 +6,7 @@ ghost use Prim.Native.Nat.{_+_, _-_, _%_, _<_, min};
 ghost use lib.ListN.{take, drop};
 ghost use lib.Seq.{sets};
 ghost use Rattle.memory.specs.Memory.{byteAt, putByte, wordAt, bytesAt, putBytes, digits};
-ghost use Rattle.memory.specs.Address.{place, beyond, offsetAt, addressAt, origin, scp};
+ghost use Rattle.memory.specs.Address.{place, beyond, offsetAt, addressAt, realOf, origin, scp};
 ghost use Rattle.memory.specs.Size.{sizeAllowed};
 
 // The distance from the SCB base.
@@ -42,6 +42,13 @@ pub fn scp() -> RealAddress
     ensures { λ r. ⌜ r ≡ scp ⌝ }
 {
     RealAddress(0xFFFFF6)
+}
+
+// The real address that a device record kept as a number: it was one when it was written there.
+pub fn recalled(n: u32) -> RealAddress
+    ensures { λ r. ⌜ r ≡ realOf n ⌝ }
+{
+    RealAddress(n)
 }
 
 // Whether memory may have n bytes: one bit of n is set, and n is from 8,192 to 16,777,216.

@@ -11,4 +11,5 @@ units-of-spec =
     (tie.spec
     (λ c κs. search needs)
     (λ c κs. search needs)
-    (λ c. rw (c .before .events-of .ensures, c .settings-of .ensures)))
+    (λ c κs. search needs)
+    (λ c. rw (c .before .before .recalled .ensures, c .before .events-of .ensures, c .settings-of .ensures)))
