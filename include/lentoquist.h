@@ -78,12 +78,12 @@ uint64_t lq_turn(uint8_t *memory, size_t memory_len, uint8_t *holding, size_t ho
 /* ---- Answers: number in bits 0-15, length in bits 16-31, edge in bit 32. Bits 33-63 are 0 and reserved. ---- */
 
 /* The number: LQ_ACCEPTED, or why the call was refused. The lowest one that applies is given. A refused call has
-   changed nothing, and its length and edge are 0. Compare with these constants only: number 2 will become several. */
+   changed nothing, and its length and edge are 0. Compare with these constants only: number 2 will become 21 to 23. */
 #define LQ_ACCEPTED         0
 #define LQ_REFUSED_MEMORY   1 /* memory_len is not a power of two, or out of bounds */
 #define LQ_REFUSED_AREA     2 /* holding, outgoing or record has the wrong length; all are tested at every call */
 #define LQ_REFUSED_OVERLONG 3 /* the frame has more than LQ_FRAME_MAX bytes */
-#define LQ_REFUSED_FOREIGN  4 /* the record is not one that these calls make */
+#define LQ_REFUSED_FOREIGN  4 /* the record is no image of a state: never reset, edited, or of another version */
 
 static inline unsigned lq_number(uint64_t answer)
 {

@@ -207,7 +207,8 @@ static const struct worked_case cases[] = {
          RAISING(0xE000, WORDS({0x30, 0x1010})),
          STEP(WORDS({0x32, 0x1000}), ATTENTION, QUIET, WORDS({0x30, 0x0010}), LOW)),
 
-    CASE("No Resources forgets a waiting SUSPEND", WORDS({0x62, 0x8000}, DESCRIPTORS, BUFFER_AT(0xA0, 0xA0, 0xC0, 46), BOARD),
+    CASE("No Resources forgets a waiting SUSPEND",
+         WORDS({0x62, 0x8000}, DESCRIPTORS, BUFFER_AT(0xA0, 0xA0, 0xC0, 46), BOARD),
          INITIALISED,
          RECEIVING,
          CAME(BROADCAST(46), GOOD, NOTHING),

@@ -22,9 +22,9 @@
 /* judged once, by the settings at arrival: a Configure that comes before the end changes neither short nor
    saved */
 #define SETTINGS_AT_ARRIVAL(first, second, status, scb) \
-    CASE("settings at arrival", WORDS({0x42, 0x8002}, {0x46, 0x0804}, {0x48, first}, {0x82, 0x8002}, \
-         {0x86, 0x000C}, {0x88, second}, {0x90, 0x00FF}, {0x64, 0x80}, {0x66, 0xA0}, BUFFER_AT(0xA0, 0xAA, 0xC0, \
-         0x8014), BOARD), \
+    CASE("settings at arrival", \
+         WORDS({0x42, 0x8002}, {0x46, 0x0804}, {0x48, first}, {0x82, 0x8002}, {0x86, 0x000C}, {0x88, second}, \
+               {0x90, 0x00FF}, {0x64, 0x80}, {0x66, 0xA0}, BUFFER_AT(0xA0, 0xAA, 0xC0, 0x8014), BOARD), \
          CONFIGURED, \
          RECEIVING, \
          CAME(BROADCAST(46), GOOD, NOTHING), \
@@ -37,8 +37,9 @@
 
 /* a listed address of all FFh does not help where broadcast is disabled; promiscuous does */
 #define LISTED_ONES(byte, descriptor) \
-    CASE("listed ones", WORDS({0x42, 0x0003}, {0x44, 0x80}, {0x46, 6}, {0x48, 0xFFFF}, {0x4A, 0xFFFF}, \
-         {0x4C, 0xFFFF}, {0x82, 0x8002}, {0x86, 0x0009}, {0x88, 0x0600}, {0x8E, byte}, DESCRIPTORS, BOARD), \
+    CASE("listed ones", \
+         WORDS({0x42, 0x0003}, {0x44, 0x80}, {0x46, 6}, {0x48, 0xFFFF}, {0x4A, 0xFFFF}, {0x4C, 0xFFFF}, \
+               {0x82, 0x8002}, {0x86, 0x0009}, {0x88, 0x0600}, {0x8E, byte}, DESCRIPTORS, BOARD), \
          INITIALISED, \
          COMMANDING, \
          TURNED(NOTHING), \
@@ -67,8 +68,8 @@
          TURNED(WORDS({0x60, descriptor})))
 
 #define TAKES_PROMISCUOUS(count, descriptor) \
-    CASE("takes promiscuous", WORDS({0x42, 0x8002}, {0x46, count}, {0x48, 0x0600}, {0x4E, 1}, {0x50, 0x40}, \
-         DESCRIPTORS, BOARD), \
+    CASE("takes promiscuous", \
+         WORDS({0x42, 0x8002}, {0x46, count}, {0x48, 0x0600}, {0x4E, 1}, {0x50, 0x40}, DESCRIPTORS, BOARD), \
          CONFIGURED, \
          RECEIVING, \
          CAME(COUNTING_AFTER(2, 2, 59), GOOD, NOTHING), \
@@ -76,8 +77,9 @@
 
 /* an address is listed; a second MC-Setup with a count: its status, and whether the address still is */
 #define LISTED_THEN(count, status, descriptor) \
-    CASE("listed then", WORDS({0x42, 0x0003}, {0x44, 0x80}, {0x46, 6}, {0x48, 0x0203}, {0x82, 0x8003}, \
-         {0x86, count}, {0x64, 0x80}, BOARD), \
+    CASE("listed then", \
+         WORDS({0x42, 0x0003}, {0x44, 0x80}, {0x46, 6}, {0x48, 0x0203}, {0x82, 0x8003}, {0x86, count}, \
+               {0x64, 0x80}, BOARD), \
          INITIALISED, \
          COMMANDING, \
          TURNED(NOTHING), \
@@ -343,8 +345,9 @@ static const struct worked_case cases[] = {
 
     /* a Configure that is rejected changes nothing: save-bad, which it would clear, and the minimum, which it
        would make 0, stay */
-    CASE("rejected keeps", WORDS({0x42, 0x0002}, {0x44, 0x80}, {0x46, 0x000A}, {0x48, 0x0680}, {0x82, 0x8002},
-         {0x86, 0x000C}, {0x88, 0x0E00}, DESCRIPTORS, BUFFER_AT(0xA0, 0xAA, 0xC0, 46), BOARD),
+    CASE("rejected keeps",
+         WORDS({0x42, 0x0002}, {0x44, 0x80}, {0x46, 0x000A}, {0x48, 0x0680}, {0x82, 0x8002}, {0x86, 0x000C},
+               {0x88, 0x0E00}, DESCRIPTORS, BUFFER_AT(0xA0, 0xAA, 0xC0, 46), BOARD),
          INITIALISED,
          COMMANDING,
          TURNED(NOTHING),
@@ -379,8 +382,9 @@ static const struct worked_case cases[] = {
               {14, 0x2211}, {16, 0x4433}, {18, 0}))),
 
     /* the source of a sent frame is the own address, here 02-03-04-05-06-07, as IA-Setup left it */
-    CASE("source sent", WORDS({0x42, 0x0001}, {0x44, 0x80}, {0x46, 0x0302}, {0x48, 0x0504}, {0x4A, 0x0706},
-         {0x82, 0x8004}, {0x86, 0xFFFF}, {0x88, 0x1211}, {0x8A, 0x1413}, {0x8C, 0x1615}, {0x8E, 0x0900}, BOARD),
+    CASE("source sent",
+         WORDS({0x42, 0x0001}, {0x44, 0x80}, {0x46, 0x0302}, {0x48, 0x0504}, {0x4A, 0x0706}, {0x82, 0x8004},
+               {0x86, 0xFFFF}, {0x88, 0x1211}, {0x8A, 0x1413}, {0x8C, 0x1615}, {0x8E, 0x0900}, BOARD),
          INITIALISED,
          COMMANDING,
          TURNED(NOTHING),
@@ -426,8 +430,8 @@ static const struct worked_case cases[] = {
 
     /* EL, S and +6 of the frame descriptor are read at begin, a buffer descriptor's next offset in its own
        turn; bit 14 of a size says nothing */
-    CASE("stored as read", WORDS(DESCRIPTORS, BUFFER_AT(0xA0, 0xAA, 0xC0, 0x4014), BUFFER_AT(0xAA, 0xB4, 0xD4, 40),
-         BOARD),
+    CASE("stored as read",
+         WORDS(DESCRIPTORS, BUFFER_AT(0xA0, 0xAA, 0xC0, 0x4014), BUFFER_AT(0xAA, 0xB4, 0xD4, 40), BOARD),
          INITIALISED,
          RECEIVING,
          CAME(BROADCAST(46), GOOD, NOTHING),

@@ -154,6 +154,7 @@ void run_cases(const struct worked_case *cases, size_t count);
 /* ---- the subjects ---- */
 
 void refusals(void);
+void records(void);
 void papers(void);
 void swaps(void);
 void readings(void);

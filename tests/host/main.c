@@ -41,6 +41,7 @@ int main(int argc, char **argv)
 {
     read_arguments(argc, argv);
     subject("refusals", refusals);
+    subject("records", records);
     subject("papers", papers);
     subject("swaps", swaps);
     subject("readings", readings);

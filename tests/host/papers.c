@@ -13,8 +13,8 @@
          COMMANDING, \
          TURNED(WORDS({0x40, 0x4000})), \
          TURNED(WORDS({0x40, 0x4000}, {0xA0, 0x8004})), \
-         ENDS(report, length, WORDS({0x40, status}, {0x30, 0x2000}), WORDS({0, 0x0201}, {6, 0xFFFF}, {12, 0x0900}, \
-              {14, 0x2211}, {16, 0x4433}, {18, 0})))
+         ENDS(report, length, WORDS({0x40, status}, {0x30, 0x2000}), WORDS({0, 0x0201}, {6, 0xFFFF}, \
+              {12, 0x0900}, {14, 0x2211}, {16, 0x4433}, {18, 0})))
 
 static const struct worked_case cases[] = {
     /* (P1) after initialisation A000h: BUSY is cleared, the command too */
@@ -31,8 +31,9 @@ static const struct worked_case cases[] = {
 
     /* (P3) 46 data bytes into sizes 20, 20, 20: 4014h, 4014h, C006h, five turns. The descriptor is 4000h after
        the fourth, complete after the fifth */
-    CASE("P3", WORDS(DESCRIPTORS, BUFFER_AT(0xA0, 0xAA, 0xC0, 20), BUFFER_AT(0xAA, 0xB4, 0xD4, 20), BUFFER_AT(0xB4,
-         0x1234, 0xE8, 20), BOARD),
+    CASE("P3",
+         WORDS(DESCRIPTORS, BUFFER_AT(0xA0, 0xAA, 0xC0, 20), BUFFER_AT(0xAA, 0xB4, 0xD4, 20),
+               BUFFER_AT(0xB4, 0x1234, 0xE8, 20), BOARD),
          INITIALISED,
          RECEIVING,
          CAME(BROADCAST(46), GOOD, WORDS({0x30, 0x0040}, {0x60, 0})),
@@ -44,8 +45,9 @@ static const struct worked_case cases[] = {
               {0x74, 0x0008}, {0x86, 0x1234}, {0x30, 0x4040}), HIGH)),
 
     /* (P4) into 46: C02Eh, no second buffer */
-    CASE("P4", WORDS(DESCRIPTORS, BUFFER_AT(0xA0, 0xAA, 0xC0, 46), {0xAA, 0x1234}, BUFFER_AT(0xAA, 0xB4, 0xF0, 46),
-         BOARD),
+    CASE("P4",
+         WORDS(DESCRIPTORS, BUFFER_AT(0xA0, 0xAA, 0xC0, 46), {0xAA, 0x1234}, BUFFER_AT(0xAA, 0xB4, 0xF0, 46),
+               BOARD),
          INITIALISED,
          RECEIVING,
          CAME(BROADCAST(46), GOOD, NOTHING),
@@ -55,8 +57,9 @@ static const struct worked_case cases[] = {
               {0xAE, 0xF0}, {0xB2, 46}, {0xF0, 0}, {0x30, 0x4040}), HIGH)),
 
     /* (P5) 59 bytes short, 60 not: with save-bad set by Configure 8080h and A000h, neither with a counter */
-    CASE("P5 saved", WORDS({0x42, 0x8002}, {0x46, 0x0804}, {0x48, 0x0680}, DESCRIPTORS, BUFFER_AT(0xA0, 0xAA, 0xC0,
-         46), BUFFER_AT(0xAA, 0xB4, 0xF0, 46), BOARD),
+    CASE("P5 saved",
+         WORDS({0x42, 0x8002}, {0x46, 0x0804}, {0x48, 0x0680}, DESCRIPTORS, BUFFER_AT(0xA0, 0xAA, 0xC0, 46),
+               BUFFER_AT(0xAA, 0xB4, 0xF0, 46), BOARD),
          INITIALISED,
          COMMANDING,
          TURNED(WORDS({0x40, 0x4000})),
@@ -84,8 +87,9 @@ static const struct worked_case cases[] = {
          STEP(NOTHING, TURN(0), EDGE, WORDS({0x60, 0xA000}, {0x30, 0x4040}), HIGH)),
 
     /* (P6) counter FFFFh to 0000h: CRCERRS, ALNERRS, OVRNERRS, RSCERRS, each alone */
-    CASE("P6", WORDS({0x38, 0xFFFF}, {0x3A, 0xFFFF}, {0x3C, 0xFFFF}, {0x3E, 0xFFFF}, {0x62, 0x8000}, DESCRIPTORS,
-         BUFFER_AT(0xA0, 0xAA, 0xC0, 46), BOARD),
+    CASE("P6",
+         WORDS({0x38, 0xFFFF}, {0x3A, 0xFFFF}, {0x3C, 0xFFFF}, {0x3E, 0xFFFF}, {0x62, 0x8000}, DESCRIPTORS,
+               BUFFER_AT(0xA0, 0xAA, 0xC0, 46), BOARD),
          INITIALISED,
          RECEIVING,
          CAME(BROADCAST(46), CRC, WORDS({0x38, 0}, {0x3A, 0xFFFF}, {0x3C, 0xFFFF}, {0x3E, 0xFFFF})),

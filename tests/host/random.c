@@ -412,5 +412,5 @@ void random_calls(unsigned long calls, uint64_t seed)
     fflush(NULL);
     for (unsigned long done = 0; done < calls; done += EPISODE) episode(EPISODE);
     for (unsigned e = 0; e < EVENT_KINDS; e++)
-        CHECK(happened[e] >= calls / 1000, "only %lu %s in %lu calls", happened[e], EVENT_NAMES[e], calls);
+        CHECK(happened[e] >= calls / 4000, "only %lu %s in %lu calls", happened[e], EVENT_NAMES[e], calls);
 }

@@ -191,8 +191,9 @@ static const struct worked_case cases[] = {
          TURNED(WORDS({0x60, 0x4000}))),
 
     /* count 10 takes byte 8, here broadcast disabled; a length of 5 is rejected and changes nothing of it */
-    CASE("configure keeps", WORDS({0x42, 0x0002}, {0x44, 0x80}, {0x46, 0x000A}, {0x48, 0x0680}, {0x4E, 0x0002},
-         {0x82, 0x8002}, {0x86, 0x000C}, {0x88, 0x0500}, {0x90, 0x00FF}, {0x8E, 0x0001}, DESCRIPTORS, BOARD),
+    CASE("configure keeps",
+         WORDS({0x42, 0x0002}, {0x44, 0x80}, {0x46, 0x000A}, {0x48, 0x0680}, {0x4E, 0x0002}, {0x82, 0x8002},
+               {0x86, 0x000C}, {0x88, 0x0500}, {0x90, 0x00FF}, {0x8E, 0x0001}, DESCRIPTORS, BOARD),
          INITIALISED,
          COMMANDING,
          TURNED(NOTHING),
@@ -204,8 +205,8 @@ static const struct worked_case cases[] = {
          TURNED(WORDS({0x60, 0}))),
 
     /* an own address of all FFh does not help where broadcast is disabled */
-    CASE("own of ones", WORDS({0x42, 0x8002}, {0x46, 0x000C}, {0x48, 0x0600}, {0x4E, 0x0002}, {0x50, 0x0040},
-         BOARD),
+    CASE("own of ones",
+         WORDS({0x42, 0x8002}, {0x46, 0x000C}, {0x48, 0x0600}, {0x4E, 0x0002}, {0x50, 0x0040}, BOARD),
          CONFIGURED,
          RECEIVING,
          CAME(BROADCAST(46), GOOD, NOTHING),
@@ -244,8 +245,8 @@ static const struct worked_case cases[] = {
     BARE_TRANSMIT(0x0100, 14, 0xA000),
 
     /* FFFFh before EOF: 8100h whatever the report, though the data was copied */
-    CASE("lost end", WORDS({0x42, 0x8004}, {0x46, 0xA0}, {0xA0, 2}, {0xA2, 0xFFFF}, {0xA4, 0xC0}, {0xC0, 0x2211},
-         BOARD),
+    CASE("lost end",
+         WORDS({0x42, 0x8004}, {0x46, 0xA0}, {0xA0, 2}, {0xA2, 0xFFFF}, {0xA4, 0xC0}, {0xC0, 0x2211}, BOARD),
          INITIALISED,
          COMMANDING,
          TURNED(NOTHING),
@@ -270,8 +271,8 @@ static const struct worked_case cases[] = {
          TURNED(WORDS({0xC0, 0xC01A}))),
 
     /* size 0: 4000h, a turn of its own, and what stood in the word is gone */
-    CASE("size none", WORDS({0xA0, 0xFFFF}, DESCRIPTORS, BUFFER_AT(0xA0, 0xAA, 0xC0, 0), BUFFER_AT(0xAA, 0xB4,
-         0xC0, 46), BOARD),
+    CASE("size none",
+         WORDS({0xA0, 0xFFFF}, DESCRIPTORS, BUFFER_AT(0xA0, 0xAA, 0xC0, 0), BUFFER_AT(0xAA, 0xB4, 0xC0, 46), BOARD),
          INITIALISED,
          RECEIVING,
          CAME(BROADCAST(46), GOOD, NOTHING),

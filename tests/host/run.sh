@@ -23,17 +23,18 @@ loader=("$tools/lib/ld-linux-x86-64.so.2" --library-path "$tools/lib")
 if [ "$(uname -m)" != x86_64 ]; then loader=("$tools/bin/qemu-x86_64" "${loader[@]}"); fi
 
 # ---- the archive
+out=target/host
+rm -rf "$out"
+mkdir -p "$out"
 archive=${LQ_ARCHIVE:-}
 if [ -z "$archive" ]; then
-    rt staticlib lentoquist >/dev/null || fail "rt staticlib lentoquist failed"
+    rt staticlib lentoquist >"$out/staticlib.log" 2>&1 || fail "rt staticlib lentoquist failed:
+$(tail -n 20 "$out/staticlib.log")"
     archive=target/staticlib/liblentoquist.a
 fi
 [ -f "$archive" ] || fail "there is no archive $archive"
 
 # ---- compile and link
-out=target/host
-rm -rf "$out"
-mkdir -p "$out"
 
 compile() { # SOURCE: to $out/NAME.o
     "$tools/bin/clang" --target=x86_64-unknown-linux-gnu -nostdinc -isystem tests/host/libc -Iinclude -std=c11 -O2 -Wall -Wextra -Werror \

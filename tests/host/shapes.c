@@ -38,9 +38,9 @@ static const struct worked_case cases[] = {
          TURNED(WORDS({0x200, 0x4000}, {0x8200, 0}))),
 
     /* the fourth byte of a real address says nothing: in SCP, ISCP, transmit and receive buffer descriptors */
-    CASE("three bytes of an address", WORDS(BOARD, {8190, 0xFF00}, {0x26, 0xFF00}, DESCRIPTORS,
-                                            BUFFER_AT(0xA0, 0xAA, 0xC0, 46), {0xA6, 0xFF00},
-                                            {0x42, 0x8004}, {0x46, 0xB0}, {0xB0, 0x8002}, {0xB4, 0xC0}, {0xB6, 0xFF00}),
+    CASE("three bytes of an address",
+         WORDS(BOARD, {8190, 0xFF00}, {0x26, 0xFF00}, DESCRIPTORS, BUFFER_AT(0xA0, 0xAA, 0xC0, 46), {0xA6, 0xFF00},
+               {0x42, 0x8004}, {0x46, 0xB0}, {0xB0, 0x8002}, {0xB4, 0xC0}, {0xB6, 0xFF00}),
          INITIALISED,
          RECEIVING,
          CAME(BROADCAST(46), GOOD, NOTHING),

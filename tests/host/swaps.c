@@ -10,8 +10,8 @@ static const struct worked_case cases[] = {
     /* ---- Adding the base to a buffer's real address ---- */
 
     /* received bytes go to C0h: with the base added they would begin at D0h */
-    CASE("base not added receiving", WORDS({0x74, 0x70}, {0x76, 0x90}, BUFFER_AT(0xA0, 0x9A, 0xC0, 46),
-         BOARD_AT(0x10)),
+    CASE("base not added receiving",
+         WORDS({0x74, 0x70}, {0x76, 0x90}, BUFFER_AT(0xA0, 0x9A, 0xC0, 46), BOARD_AT(0x10)),
          BASED,
          STEP(WORDS({0x42, 0xF010}, {0x46, 0x60}), ATTENTION, QUIET, WORDS({0x40, 0x0040}), LOW),
          CAME(BROADCAST(46), GOOD, NOTHING),
@@ -20,8 +20,9 @@ static const struct worked_case cases[] = {
          STEP(NOTHING, TURN(0), EDGE, WORDS({0x70, 0xA000}, {0x40, 0x4040}), HIGH)),
 
     /* bytes that are sent come from C0h: with the base added they would be those at D0h */
-    CASE("base not added sending", WORDS({0x52, 0x8004}, {0x56, 0x90}, {0xA0, 0x8004}, {0xA4, 0xC0},
-         {0xC0, 0x2211}, {0xC2, 0x4433}, {0xD0, 0x6655}, {0xD2, 0x8877}, BOARD_AT(0x10)),
+    CASE("base not added sending",
+         WORDS({0x52, 0x8004}, {0x56, 0x90}, {0xA0, 0x8004}, {0xA4, 0xC0}, {0xC0, 0x2211}, {0xC2, 0x4433},
+               {0xD0, 0x6655}, {0xD2, 0x8877}, BOARD_AT(0x10)),
          BASED,
          STEP(WORDS({0x42, 0xF100}, {0x44, 0x40}), ATTENTION, QUIET, WORDS({0x40, 0x0200}), LOW),
          TURNED(WORDS({0x50, 0x4000})),
@@ -70,8 +71,8 @@ static const struct worked_case cases[] = {
          TURNED(WORDS({0x1FFF, 0x4000}, {0x00, 0x0040})),
          STEP(NOTHING, TURN(0), EDGE, WORDS({0x1FFF, 0xA000}, {0x30, 0xA000}), HIGH)),
 
-    CASE("units alternate", WORDS({0x44, 0x40}, DESCRIPTORS, BUFFER_AT(0xA0, 0xAA, 0xC0, 40), BUFFER_AT(0xAA, 0xB4,
-         0xF0, 40), BOARD),
+    CASE("units alternate",
+         WORDS({0x44, 0x40}, DESCRIPTORS, BUFFER_AT(0xA0, 0xAA, 0xC0, 40), BUFFER_AT(0xAA, 0xB4, 0xF0, 40), BOARD),
          INITIALISED,
          STEP(WORDS({0x32, 0xF110}, {0x34, 0x40}, {0x36, 0x60}), ATTENTION, QUIET, WORDS({0x30, 0x0240}), LOW),
          CAME(BROADCAST(46), GOOD, NOTHING),

@@ -204,20 +204,6 @@ noStatus =
 endOfList : Case
 endOfList = record { given = 0x42 is 0xC000 ∷ board; steps = initialised ∷ commanding ∷ turned [] ∷ settling (0x30 is 0x2000 ∷ []) ∷ [] }
 
--- the link is read before the SCB status is written: the block at 2Ch has the status word for its link
-linkBeforeStatus : Case
-linkBeforeStatus =
-    record {
-      given = 0x2E is 0x2000 ∷ board;
-      steps =
-          initialised
-          ∷ step (0x32 is 0xF100 ∷ 0x34 is 0x2C ∷ []) attention quiet [] low
-          ∷ turned (0x2C is 0x4000 ∷ [])
-          ∷ settling (0x2C is 0xA000 ∷ 0x30 is 0x8200 ∷ [])
-          ∷ turned (0x200 is 0x4000 ∷ [])
-          ∷ [];
-    }
-
 -- ---- commands
 
 -- what is remembered at begin, and what is read at the end: the old command word, the new parameters
@@ -454,7 +440,7 @@ statusLast =
     }
 
 pub readings : List Case
-unfolding orderAtFirst obeysNothing nothingBefore edges statusIsKept commandUnitFirst acknowledgedFirst resetting resumeWhileWaiting suspendAtOnce startWhileActive suspendForgotten suspendReady suspendHeld abortBegun abortHeld noStatus endOfList linkBeforeStatus parametersAtEnd configureKeeps ownOfOnes listed tooMany threeMore bareTransmit lostEnd endlessChain overItself sizeNone lastBuffer lacking lackingSaved shortSaved noData counterLast statusLast
+unfolding orderAtFirst obeysNothing nothingBefore edges statusIsKept commandUnitFirst acknowledgedFirst resetting resumeWhileWaiting suspendAtOnce startWhileActive suspendForgotten suspendReady suspendHeld abortBegun abortHeld noStatus endOfList parametersAtEnd configureKeeps ownOfOnes listed tooMany threeMore bareTransmit lostEnd endlessChain overItself sizeNone lastBuffer lacking lackingSaved shortSaved noData counterLast statusLast
 readings =
     orderAtFirst
     ∷ obeysNothing
@@ -474,7 +460,6 @@ readings =
     ∷ abortHeld
     ∷ noStatus
     ∷ endOfList
-    ∷ linkBeforeStatus
     ∷ parametersAtEnd
     ∷ configureKeeps
     ∷ ownOfOnes

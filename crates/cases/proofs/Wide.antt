@@ -41,3 +41,16 @@ pub noWrap : T (walk
     (startOn (put (131068 is 0x20 ∷ 0x10000 is 0x8000 ∷ board) (replicate 131072 0))))
 unfolding passes
 noWrap = tt
+
+-- the link is read before the SCB status is written, in 65,536 bytes: the block at 2Ch has the status word for its link, and 0200h is next,
+-- not 8200h
+pub linkBeforeStatus : T (walk
+    (initialised
+    ∷ step (0x32 is 0xF100 ∷ 0x34 is 0x2C ∷ []) attention quiet [] low
+    ∷ turned (0x2C is 0x4000 ∷ [])
+    ∷ step [] (turn 0) edge (0x2C is 0xA000 ∷ 0x30 is 0x8200 ∷ []) high
+    ∷ turned (0x200 is 0x4000 ∷ 0x8200 is 0 ∷ [])
+    ∷ [])
+    (startOn (put (65532 is 0x20 ∷ 0x2E is 0x2000 ∷ board) (replicate 65536 0))))
+unfolding passes
+linkBeforeStatus = tt
