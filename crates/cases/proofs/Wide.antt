@@ -31,14 +31,15 @@ pub codesInOrder : T (walk
 unfolding passes
 codesInOrder = tt
 
--- in 131,072 bytes the command word of the block at offset FFFEh is read at 10000h, EL, and not at 0
+-- the command word of the block at offset FFFEh is read at 10000h, EL, and not at 0. The least memory that shows it has 65,540 bytes; no call
+-- takes that size, but the definitions do, and there the SCP's pointer is at 64,512
 pub noWrap : T (walk
     (initialised
     ∷ step (0x32 is 0xF100 ∷ 0x34 is 0xFFFE ∷ []) attention quiet (0x30 is 0x0200 ∷ []) low
     ∷ turned (0xFFFE is 0x4000 ∷ 0 is 0 ∷ [])
     ∷ step [] (turn 0) edge (0xFFFE is 0xA000 ∷ 0x30 is 0x2000 ∷ []) high
     ∷ [])
-    (startOn (put (131068 is 0x20 ∷ 0x10000 is 0x8000 ∷ board) (replicate 131072 0))))
+    (startOn (put (64512 is 0x20 ∷ 0x10000 is 0x8000 ∷ board) (replicate 65540 0))))
 unfolding passes
 noWrap = tt
 

@@ -23,7 +23,7 @@ use Rattle.device.specs.declared.Ru.the-variants as ru
 use Rattle.device.specs.declared.Storing.{Storing}
 use Rattle.device.specs.declared.Walk.{Walk}
 use Rattle.command.specs.Part as command
-use Rattle.command.specs.Actions.{Acted, act, sent, notSent}
+use Rattle.actions.specs.Actions.{Acted, act, sent, notSent}
 use Rattle.command.specs.Begin as command-begin
 use Rattle.command.specs.Buffer as command-buffer
 use Rattle.command.specs.End.{end, nextAfter}

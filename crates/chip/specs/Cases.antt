@@ -17,7 +17,7 @@ use Rattle.device.specs.declared.Answer.{Answer}
 use Rattle.filter.specs.Match.{agree, isListed, matches}
 use Rattle.command.specs.Begin as command-begin
 use Rattle.command.specs.Buffer as command-buffer
-use Rattle.command.specs.Actions.{settingsBy, listing, act, reported, isSent, sent}
+use Rattle.actions.specs.Actions.{settingsBy, listing, act, reported, isSent, sent}
 use Rattle.command.specs.End.{nextAfter, end}
 use Rattle.command.specs.Service as command-service
 use Rattle.receive.specs.Arrival.{lengthOf, judged, fateOf, arrival}
@@ -25,8 +25,11 @@ use Rattle.receive.specs.Begin as receive-begin
 use Rattle.receive.specs.Buffer as receive-buffer
 use Rattle.receive.specs.End.{frameStatus, settles, close, lack}
 use Rattle.receive.specs.Service as receive-service
-use Rattle.chip.specs.World.{World, Ran, afterwards, statusTo, resetOf}
-use Rattle.chip.specs.Attention as attentions
+use Rattle.attention.specs.Status.{statusTo}
+use Rattle.attention.specs.Attention as attentions
+use Rattle.chip.specs.World.{World, Ran, afterwards, resetOf}
+use Rattle.control.specs.Obey.{cuFirst, obeyCuc, ruFirst, obeyRuc}
+use Rattle.chip.specs.Attention.{attentionOf}
 use Rattle.chip.specs.Arrival as arrivals
 use Rattle.chip.specs.Turn.{concluded, commandTurn, receiveTurn, turnOf}
 
@@ -102,7 +105,7 @@ start ws = startOn (put ws (replicate 8192 0))
 
 abbrev pub ran : Call → World → Ran
 ran reset w = record { outcome = resetOf; memory = w .memory; holding = w .holding; outgoing = w .outgoing }
-ran attention w = attentions.attentionOf w
+ran attention w = attentionOf w
 ran (arrive f v) w = arrivals.arrivalOf w f v
 ran (turn report) w = turnOf w report
 
@@ -138,7 +141,7 @@ walk (s ∷ ss) w =
     let r = ran (s .call) (altered w s) in stepPasses s r && walk ss (afterwards r)
 
 unfoldable pub passes : Case → Bool
-unfolding byteAt putByte bytesAt putBytes value digits fieldAt place beyond cuNext ruNext field joined acknowledged anyOf eventBits statusWord counts actionOf verdictOf agree isListed matches command-begin.begunBy command-begin.headerOf command-begin.begin command-buffer.descriptorAt command-buffer.buffer settingsBy listing act reported isSent sent nextAfter end command-service.service lengthOf judged fateOf arrival receive-begin.begunBy receive-begin.begin receive-buffer.descriptorAt receive-buffer.buffer frameStatus settles close lack receive-service.service statusTo resetOf attentions.iscpOf attentions.initialise attentions.resetBy attentions.cuFirst attentions.obeyCuc attentions.ruFirst attentions.obeyRuc attentions.unitsAfter attentions.obey attentions.attend attentions.attention attentions.attentionOf arrivals.arrival arrivals.arrivalOf concluded commandTurn receiveTurn turnOf
+unfolding byteAt putByte bytesAt putBytes value digits fieldAt place beyond cuNext ruNext field joined acknowledged anyOf eventBits statusWord counts actionOf verdictOf agree isListed matches command-begin.begunBy command-begin.headerOf command-begin.begin command-buffer.descriptorAt command-buffer.buffer settingsBy listing act reported isSent sent nextAfter end command-service.service lengthOf judged fateOf arrival receive-begin.begunBy receive-begin.begin receive-buffer.descriptorAt receive-buffer.buffer frameStatus settles close lack receive-service.service statusTo resetOf attentions.iscpOf attentions.initialise attentions.resetBy cuFirst obeyCuc ruFirst obeyRuc attentions.unitsAfter attentions.obey attentions.attend attentions.attention attentionOf arrivals.arrival arrivals.arrivalOf concluded commandTurn receiveTurn turnOf
 passes c = walk (c .steps) (start (c .given))
 
 abbrev pub allPass : List Case → Bool

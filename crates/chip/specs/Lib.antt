@@ -1,6 +1,5 @@
 -- The four calls, over a device and the three lists that are lent with it.
 pub mod World
-pub mod Control
 pub mod Attention
 pub mod Arrival
 pub mod Turn

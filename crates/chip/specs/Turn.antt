@@ -20,7 +20,8 @@ use Rattle.receive.specs.Part as receive
 use Rattle.receive.specs.Service as receive-service
 use Rattle.chip.specs.declared.Served.{Served}
 use Rattle.chip.specs.declared.Served.the-variants as served
-use Rattle.chip.specs.World.{World, Ran, writing, statusTo}
+use Rattle.attention.specs.Status.{statusTo}
+use Rattle.chip.specs.World.{World, Ran, writing}
 
 -- ---- which unit is served
 

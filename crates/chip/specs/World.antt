@@ -1,18 +1,15 @@
 -- What a call is given and what it leaves. Assumes nothing.
 use mathlib.Core.Path.{_≡_}
-use mathlib.Core.List.{List, [], _∷_}
+use mathlib.Core.List.{List}
 use Prim.Native.Nat.{ℕ}
-use Rattle.memory.specs.Memory.{Write, wordTo, apply}
-use Rattle.memory.specs.Address.{place}
-use Rattle.scb.specs.Words.{statusWord, statusAt}
-use Rattle.device.specs.State.{cuState, ruState, fresh}
+use Rattle.memory.specs.Memory.{Write, apply}
+use Rattle.device.specs.State.{fresh}
 use Rattle.device.specs.Answers.{answered, outcomeOf}
 use Rattle.device.specs.declared.Answer.{Answer}
 use Rattle.device.specs.declared.Device.{Device}
 use Rattle.device.specs.declared.Fate.{Fate}
 use Rattle.device.specs.declared.Fate.the-variants as fate
 use Rattle.device.specs.declared.Outcome.{Outcome}
-use Rattle.device.specs.declared.Units.{Units}
 use mathlib.Core.Bool.{false}
 
 -- a device, and the three areas that are lent with it
@@ -48,10 +45,6 @@ writing w writes o =
 abbrev pub afterwards : Ran → World
 afterwards r =
     record { device = r .outcome .device; memory = r .memory; holding = r .holding; outgoing = r .outgoing }
-
--- 01, "The SCB": status is kept in the record, and so written
-unfoldable pub statusTo : Units → Write
-statusTo u = wordTo (place (u .base) (u .scb) statusAt) (statusWord (u .events) (cuState (u .cu)) (ruState (u .ru)))
 
 -- 01, "Calls, lent areas, refusals": reset takes the record alone, ignores its content and writes a fresh one
 unfoldable pub resetOf : Outcome

@@ -14,7 +14,7 @@ use Rattle.device.specs.declared.Action.the-variants as action
 use Rattle.device.specs.declared.Begun.{Begun}
 use Rattle.device.specs.declared.Cu.{Cu}
 use Rattle.device.specs.declared.Cu.the-variants as cu
-use Rattle.command.specs.Actions.{act}
+use Rattle.actions.specs.Actions.{act}
 use Rattle.command.specs.Begin.{begin, begunBy}
 use Rattle.command.specs.Buffer.{descriptorAt, buffer}
 use Rattle.command.specs.End.{nextAfter, end}

@@ -15,7 +15,8 @@ use Rattle.device.specs.Numbers.{transmit, actionOf}
 use Rattle.device.specs.declared.Begun.{Begun}
 use Rattle.device.specs.declared.Cu.{Cu}
 use Rattle.device.specs.declared.Cu.the-variants as cu
-use Rattle.command.specs.Part.{Part, Service, withUnit, withOutgoing, quietly, statusAt, commandAt, argumentAt, destinationAt, typeAt}
+use Rattle.command.specs.Part.{Part, Service, withUnit, withOutgoing, quietly}
+use Rattle.actions.specs.Block.{statusAt, commandAt, argumentAt, destinationAt, typeAt}
 
 -- +2 command: 15 EL, 14 S, 13 I, 2-0 CMD
 abbrev pub cmd : ℕ → ℕ

@@ -12,8 +12,9 @@ use Rattle.device.specs.State.{cuState, isActive}
 use Rattle.device.specs.declared.Begun.{Begun}
 use Rattle.device.specs.declared.Cu.{Cu}
 use Rattle.device.specs.declared.Cu.the-variants as cu
-use Rattle.command.specs.Part.{Part, Service, statusAt, linkAt}
-use Rattle.command.specs.Actions.{Acted}
+use Rattle.command.specs.Part.{Part, Service}
+use Rattle.actions.specs.Block.{statusAt, linkAt}
+use Rattle.actions.specs.Actions.{Acted}
 
 -- EL wins over S
 abbrev pub afterEnd : (el suspends : Bool) → Offset → Cu

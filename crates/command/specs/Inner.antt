@@ -8,10 +8,9 @@ use Rattle.device.specs.Change.{withCu, withUnits}
 use Rattle.device.specs.declared.Begun.{Begun}
 use Rattle.device.specs.declared.Cu.{Cu}
 use Rattle.device.specs.declared.Device.{Device}
+use Rattle.actions.specs.declared.Done.{Done}
 use Rattle.command.specs.declared.Commanded.{Commanded}
-use Rattle.command.specs.declared.Done.{Done}
-use Rattle.command.specs.Part.{Part, Service, withPart, withSetup}
-use Rattle.command.specs.Actions.{Acted}
+use Rattle.command.specs.Part.{Part, Service, withPart}
 use Rattle.command.specs.Service.{commandedBy}
 use Rattle.command.specs.End.{statusTo, nextAfter, raisedBy}
 
@@ -27,18 +26,6 @@ quietIn d = record { device = d; raised = noEvents; length = 0 }
 pub record Changes (said : Part) (d : Device) (r : Device) (out : List ℕ) : Type 0 where
   pub device : r ≡ withPart d said
   pub outgoing : out ≡ said .outgoing
-
--- an action was done: the device, the status, the length, and the action's writes in memory
-unfoldable pub doneBy : Device → Acted → Done
-doneBy d a = record { device = withSetup d (a .setup); status = a .status; length = a .length }
-
-pub record Acts (said : Acted) (d : Device) (before : List ℕ) (r : Done) (m : List ℕ) : Type 0 where
-  pub result : r ≡ doneBy d said
-  pub memory : m ≡ apply (said .writes) before
-
--- a status and a length, with the device as it is
-abbrev pub plainIn : Device → ℕ → ℕ → Done
-plainIn d status length = record { device = d; status = status; length = length }
 
 -- a command was ended after its action
 unfoldable pub endedBy : Done → Begun → List ℕ → Commanded

@@ -1,8 +1,7 @@
--- The command unit's service, in document 01's order: what it works with, begin, buffer, the actions, end.
+-- The command unit's service, in document 01's order: what it works with, begin, buffer, end.
 pub mod Part
 pub mod Begin
 pub mod Buffer
-pub mod Actions
 pub mod End
 pub mod Service
 pub mod Inner

@@ -10,7 +10,7 @@ use Rattle.command.specs.declared.Commanded.{Commanded}
 use Rattle.command.specs.Part.{Part, Service, withPart, quietly}
 use Rattle.command.specs.Begin.{begin}
 use Rattle.command.specs.Buffer.{buffer}
-use Rattle.command.specs.Actions.{act, sent, notSent}
+use Rattle.actions.specs.Actions.{act, sent, notSent}
 use Rattle.command.specs.End.{end}
 
 -- by the unit's phase; Idle and Suspended have no work

@@ -6,7 +6,7 @@ ghost use Prim.Native.Nat.{_+_, _-_, _%_, _<_, min};
 ghost use lib.ListN.{take, drop};
 ghost use lib.Seq.{sets};
 ghost use Rattle.memory.specs.Memory.{byteAt, putByte, wordAt, bytesAt, putBytes, digits};
-ghost use Rattle.memory.specs.Address.{place, beyond, offsetAt, addressAt, realOf, origin, scp};
+ghost use Rattle.memory.specs.Address.{place, beyond, offsetAt, isNone, addressAt, realOf, origin, scp};
 ghost use Rattle.memory.specs.Size.{sizeAllowed};
 
 // The distance from the SCB base.
@@ -14,6 +14,13 @@ pub struct Offset(pub u16);
 
 // An address of 24 bits.
 pub struct RealAddress(pub u32);
+
+// Whether an offset stands for none.
+pub fn is_none(o: Offset) -> bool
+    ensures { λ r. ⌜ r ≡ isNone o ⌝ }
+{
+    o.0 == 0xFFFF
+}
 
 // Where a field of what lies at offset o from base is: the only function that makes a real address of an offset.
 // The base has 24 bits. The sum may have more; reads and writes take it modulo the length as it is.

@@ -296,13 +296,6 @@ fn quiet(unit: Ru) -> Received
     }
 }
 
-// Whether an offset is FFFFh, which stands for none where the rules say so.
-fn is_none(o: Offset) -> bool
-    ensures { λ r. ⌜ r ≡ isNone o ⌝ }
-{
-    o.0 == NONE
-}
-
 // Whether a frame has no data behind its header.
 fn is_bare(f: Frame) -> bool
     ensures { λ r. ⌜ r ≡ begins.isBare f ⌝ }
@@ -332,7 +325,7 @@ fn to_first(bare: bool, s: Storing, first: Offset) -> Ru
     if bare {
         return Ru::Closing(s, first, false);
     }
-    if is_none(first) {
+    if memory::is_none(first) {
         return Ru::Lacking(s);
     }
     Ru::Filling(
@@ -418,7 +411,7 @@ fn after_buffer(s: Storing, w: Walk, d: Descriptor) -> Ru
     if d.el {
         return Ru::Lacking(s);
     }
-    if is_none(next) {
+    if memory::is_none(next) {
         return Ru::Lacking(s);
     }
     if MOST_BUFFERS <= w.used as u16 + 1 {

@@ -1,8 +1,9 @@
 -- `command::by_phase` meets its contract: a function for each phase. Assumes nothing.
 use mathlib.Core.Path.{refl}
-use Rattle.command.specs.Actions.{sent}
+use Rattle.actions.specs.Actions.{sent}
 use Rattle.command.specs.End.{end}
-use Rattle.command.specs.Inner.{doneBy, endedBy}
+use Rattle.command.specs.Inner.{endedBy}
+use Rattle.actions.specs.Inner.{doneBy}
 use borrow.Author.Needs.{needs}
 use Rattle.command.proofs.by_phase.Statement.{statement}
 use Rattle.command.proofs.by_phase.Tie as tie

@@ -1,7 +1,8 @@
 -- `command::end_action` meets its contract. Assumes nothing.
 use Rattle.memory.proofs.Laws.{apply-append}
 use Rattle.command.specs.End.{end}
-use Rattle.command.specs.Inner.{doneBy, endedBy}
+use Rattle.command.specs.Inner.{endedBy}
+use Rattle.actions.specs.Inner.{doneBy}
 use borrow.Author.Needs.{needs}
 use Rattle.command.proofs.end_action.Statement.{statement}
 use Rattle.command.proofs.end_action.Tie as tie

@@ -1,0 +1,19 @@
+-- `control::ru_writes` meets its contract: a case for each variant. Assumes nothing.
+use borrow.Author.Needs.{needs}
+use Rattle.control.proofs.ru_writes.Statement.{statement}
+use Rattle.control.proofs.ru_writes.Tie as tie
+
+pub ru-writes-spec : {M : Type 1} → statement M
+ru-writes-spec =
+    tie.close
+    (tie.spec
+    (λ c. search needs)
+    (λ c κs. search needs)
+    (λ c. search needs)
+    (λ c. search needs)
+    (λ c. search needs)
+    (λ c. search needs)
+    (λ c. rw (c .before .before .before .before .enum-told .given .1) (c .before .before .abort-ru .ensures))
+    (λ c. rw (c .enum-told2 .given .1))
+    (λ c. rw (c .enum-told3 .given .1))
+    (λ c. rw (c .enum-told4 .given .1)))
