@@ -1,4 +1,3 @@
--- Document 01's rules at their edges, shown of the definitions by computation.
+-- Points that could be read two ways, and larger memories, shown of the definitions by computation.
 pub mod Readings
-pub mod Edges
 pub mod Wide

@@ -4,7 +4,8 @@ use mathlib.Core.List.{List, [], _∷_, _++_}
 use Prim.Native.Nat.{ℕ, _*_}
 use lib.Dec.{T}
 use lib.ListN.{replicate}
-use Rattle.chip.specs.Cases.{Word, _is_, reset, attention, arrive, turn, unsaid, high, low, Step, Case, passes, allPass}
+use Rattle.chip.specs.Cases.{Word, _is_, unsaid, high, low, Step, Case, passes, allPass}
+use Rattle.chip.specs.Call.{reset, attention, arrive, turn}
 use Rattle.chip.proofs.Board.{board, descriptors, bufferAt, good, crc, misaligned, counting, broadcast, quiet, edge, step, ends, turned, came, initialised, receiving, commanding, attended, raising, settling, configured, saving, working, counters}
 
 -- ---- the first attention

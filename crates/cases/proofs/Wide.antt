@@ -6,7 +6,8 @@ use lib.Dec.{T, eqb}
 use lib.ListN.{replicate}
 use Rattle.memory.specs.Address.{place, beyond, origin}
 use Rattle.memory.specs.Memory.{byteAt, putByte, bytesAt, putBytes, value, digits, fieldAt, realAt}
-use Rattle.chip.specs.Cases.{Word, _is_, attention, arrive, turn, unsaid, high, low, Step, Case, put, startOn, walk, passes}
+use Rattle.chip.specs.Cases.{Word, _is_, unsaid, high, low, Step, Case, put, startOn, walk, passes}
+use Rattle.chip.specs.Call.{attention, arrive, turn}
 use Rattle.chip.proofs.Board.{board, good, broadcast, quiet, edge, step, turned, came, initialised}
 
 -- a field of offset FFFEh is not folded at 65,536; a real address has three bytes, and the fourth says nothing; a base has 24 bits

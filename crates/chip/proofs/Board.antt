@@ -4,7 +4,8 @@ use mathlib.Core.Bool.{Bool, true, false}
 use mathlib.Core.List.{List, [], _∷_, _++_}
 use Prim.Native.Nat.{ℕ, zero, suc, _+_}
 use lib.ListN.{replicate}
-use Rattle.chip.specs.Cases.{Word, _is_, Call, attention, arrive, turn, Level, unsaid, high, low, Said, Step}
+use Rattle.chip.specs.Cases.{Word, _is_, Level, unsaid, high, low, Said, Step}
+use Rattle.chip.specs.Call.{Call, attention, arrive, turn}
 
 -- SCP's pointer, at N - 4; ISCP at 20h: BUSY, SCB offset 30h, the base
 abbrev pub boardAt : ℕ → List Word

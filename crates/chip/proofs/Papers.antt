@@ -3,7 +3,8 @@ use mathlib.Core.Bool.{Bool, true, false}
 use mathlib.Core.List.{List, [], _∷_, _++_}
 use Prim.Native.Nat.{ℕ}
 use lib.Dec.{T}
-use Rattle.chip.specs.Cases.{Word, _is_, Call, attention, arrive, turn, Level, unsaid, high, low, Said, Step, Case, passes, allPass}
+use Rattle.chip.specs.Cases.{Word, _is_, Level, unsaid, high, low, Said, Step, Case, passes, allPass}
+use Rattle.chip.specs.Call.{Call, attention, arrive, turn}
 use Rattle.chip.proofs.Board.{board, descriptors, bufferAt, good, crc, misaligned, broadcast, quiet, edge, step, ends, turned, came, initialised, receiving, commanding}
 
 -- (P1) after initialisation A000h: BUSY is cleared, the command too

@@ -3,7 +3,8 @@
 use mathlib.Core.List.{List, [], _∷_, _++_}
 use Prim.Native.Nat.{ℕ}
 use lib.Dec.{T}
-use Rattle.chip.specs.Cases.{Word, _is_, attention, arrive, turn, unsaid, high, low, Step, Case, passes, allPass}
+use Rattle.chip.specs.Cases.{Word, _is_, unsaid, high, low, Step, Case, passes, allPass}
+use Rattle.chip.specs.Call.{attention, arrive, turn}
 use Rattle.chip.proofs.Board.{boardAt, board, descriptors, bufferAt, good, crc, misaligned, broadcast, quiet, edge, step, ends, turned, came, initialised, receiving, commanding}
 
 -- ---- Adding the base to a buffer's real address. With a base of 10h the SCB is at 40h, and offset 90h is address A0h; the buffer is at C0h

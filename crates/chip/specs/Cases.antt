@@ -31,6 +31,7 @@ use Rattle.chip.specs.World.{World, Ran, afterwards, resetOf}
 use Rattle.control.specs.Obey.{cuFirst, obeyCuc, ruFirst, obeyRuc}
 use Rattle.chip.specs.Attention.{attentionOf}
 use Rattle.chip.specs.Arrival as arrivals
+use Rattle.chip.specs.Call.{Call, ran}
 use Rattle.chip.specs.Turn.{concluded, commandTurn, receiveTurn, turnOf}
 
 -- an address and the word there
@@ -42,13 +43,6 @@ abbrev pub _is_ : ℕ → ℕ → Word
 _is_ a w = record { place = a; value = w }
 
 infix 80 _is_
--- the four calls: a frame with its verdict, a line report
-pub data Call : Type 0 where
-  reset : Call
-  attention : Call
-  arrive : List ℕ → ℕ → Call
-  turn : ℕ → Call
-
 -- the interrupt's level, where a case speaks of it
 pub data Level : Type 0 where
   unsaid : Level
@@ -102,12 +96,6 @@ startOn m =
 -- 8,192 bytes of memory, zero but for the words given
 abbrev pub start : List Word → World
 start ws = startOn (put ws (replicate 8192 0))
-
-abbrev pub ran : Call → World → Ran
-ran reset w = record { outcome = resetOf; memory = w .memory; holding = w .holding; outgoing = w .outgoing }
-ran attention w = attentionOf w
-ran (arrive f v) w = arrivals.arrivalOf w f v
-ran (turn report) w = turnOf w report
 
 -- ---- what must be so after a step
 

@@ -3,4 +3,5 @@ pub mod World
 pub mod Attention
 pub mod Arrival
 pub mod Turn
+pub mod Call
 pub mod Cases

@@ -1,0 +1,1 @@
+-- No definitions: the cases are in proofs/.

@@ -1,0 +1,1 @@
+// No code: demand 2 of frames: what becomes of each frame, at an arrival, at every call, and over whole traces.

@@ -1,0 +1,4 @@
+-- What follows of any machine that has the laws.
+pub mod Same
+pub mod Machine
+pub mod Holder
