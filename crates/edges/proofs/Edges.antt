@@ -619,9 +619,72 @@ counterAfterHeader =
           ∷ []);
     }
 
+-- RESUME does nothing to a unit that is Idle, nor to a receive unit without resources
+resumeIdle : Case
+resumeIdle =
+    record {
+      given = descriptors ++ board;
+      steps =
+          initialised
+          ∷ step (0x32 is 0xF220 ∷ 0x34 is 0x40 ∷ 0x36 is 0x60 ∷ []) attention quiet (0x30 is 0 ∷ 0x32 is 0 ∷ []) low
+          ∷ came (broadcast 46) good (counters 0 0 0 0)
+          ∷ turned (0x40 is 0 ∷ 0x60 is 0 ∷ 0x30 is 0 ∷ [])
+          ∷ [];
+    }
+
+resumeNoResources : Case
+resumeNoResources =
+    record {
+      given = (0x62 is 0x8000 ∷ descriptors) ++ bufferAt 0xA0 0xAA 0xC0 46 ++ board;
+      steps =
+          initialised
+          ∷ receiving
+          ∷ came (broadcast 46) good []
+          ∷ turned []
+          ∷ turned []
+          ∷ settling (0x30 is 0x5020 ∷ [])
+          ∷ attended 0xF020 (0x30 is 0x0020 ∷ [])
+          ∷ came (broadcast 46) good (0x30 is 0x0020 ∷ counters 0 0 1 0)
+          ∷ [];
+    }
+
+-- an attention that leaves a single event set reports an edge, whichever it is
+oneLeft : (acknowledged left : ℕ) → Case
+oneLeft acknowledged left = record { given = board; steps = initialised ∷ raising acknowledged (0x30 is left ∷ []) ∷ [] }
+
+oneLeftStored : (acknowledged left : ℕ) → Case
+oneLeftStored acknowledged left =
+    record {
+      given = (0x62 is 0x8000 ∷ descriptors) ++ bufferAt 0xA0 0xAA 0xC0 46 ++ board;
+      steps =
+          initialised
+          ∷ receiving
+          ∷ came (broadcast 46) good []
+          ∷ turned []
+          ∷ turned []
+          ∷ settling (0x30 is 0x5020 ∷ [])
+          ∷ raising acknowledged (0x30 is left ∷ [])
+          ∷ [];
+    }
+
+-- a short frame that is saved and runs out of buffers has both bits, and no counter moves
+shortSavedLacks : Case
+shortSavedLacks =
+    record {
+      given = saving ++ (0x64 is 0x80 ∷ 0x66 is 0xA0 ∷ bufferAt 0xA0 0xAA 0xC0 0x8014) ++ board;
+      steps =
+          configured
+          ++ (receiving
+          ∷ came (broadcast 45) good []
+          ∷ turned (0x60 is 0x4000 ∷ [])
+          ∷ turned (0xA0 is 0x4014 ∷ [])
+          ∷ settling (0x60 is 0x8280 ∷ 0x30 is 0x5020 ∷ counters 0 0 0 0)
+          ∷ []);
+    }
+
 -- resets, attentions, the units and what arrives
 pub calls : List Case
-unfolding resetCall resettingWithEvents resettingForgets resettingServesReceiveFirst servedLastAlone idleTurn edgeAgain failedGoesOn saysNothing abortThenStatus startWhileWaiting startWhileSuspended frameSuspends startWhileReady waitingApart abortIdle abortNotBegun abortDoesNothing whileHeld inNoResources otherVerdicts suspendedCountsNothing settingsAtArrival
+unfolding resetCall resettingWithEvents resettingForgets resettingServesReceiveFirst servedLastAlone idleTurn edgeAgain failedGoesOn saysNothing abortThenStatus startWhileWaiting startWhileSuspended frameSuspends startWhileReady waitingApart abortIdle abortNotBegun abortDoesNothing whileHeld inNoResources otherVerdicts suspendedCountsNothing settingsAtArrival resumeIdle resumeNoResources oneLeft oneLeftStored
 calls =
     resetCall
     ∷ resettingWithEvents
@@ -650,16 +713,24 @@ calls =
     ∷ suspendedCountsNothing
     ∷ settingsAtArrival 0x0680 0x0600 0x8200 0x7020
     ∷ settingsAtArrival 0x0600 0x0680 0x0000 0x3020
+    ∷ resumeIdle
+    ∷ resumeNoResources
+    ∷ oneLeft 0x2000 0x8000
+    ∷ oneLeft 0x8000 0x2000
+    ∷ oneLeftStored 0x1000 0x4020
+    ∷ oneLeftStored 0x4000 0x1020
     ∷ []
 
 -- the filter, the commands, and how frames are stored
 pub works : List Case
-unfolding ownGroup listedOnes thirdByte takesMinimum takesPromiscuous rejectedKeeps listedThen sixteenth readAtBegin sourceSent alteredOutgoing alteredHolding reportOfNop tooLong endlessBuffers storedAsRead noResourcesWins freeOfOnes frameLinkOfOnes freeThenStatus counterAfterHeader
+unfolding ownGroup listedOnes thirdByte takesMinimum takesPromiscuous rejectedKeeps listedThen sixteenth readAtBegin sourceSent alteredOutgoing alteredHolding reportOfNop tooLong endlessBuffers storedAsRead noResourcesWins freeOfOnes frameLinkOfOnes freeThenStatus counterAfterHeader shortSavedLacks
 works =
     ownGroup
     ∷ listedOnes 2 0
     ∷ listedOnes 3 0x4000
     ∷ thirdByte 0x36 0xA000
+    ∷ thirdByte 0x02 0x8000
+    ∷ thirdByte 0x04 0x8000
     ∷ thirdByte 0x07 0x8000
     ∷ thirdByte 0x0E 0x8000
     ∷ thirdByte 0x46 0x8000
@@ -689,6 +760,7 @@ works =
     ∷ frameLinkOfOnes
     ∷ freeThenStatus
     ∷ counterAfterHeader
+    ∷ shortSavedLacks
     ∷ []
 
 -- two statements, since one over all of them would take much memory to check
