@@ -1,1 +1,5 @@
--- No laws yet.
+-- Every state that a call leaves is in range, and demand 1.
+pub mod Units
+pub mod Command
+pub mod Receive
+pub mod Control

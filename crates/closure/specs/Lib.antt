@@ -1,1 +1,2 @@
--- No definitions yet.
+-- What every call keeps, and the table of refusals.
+pub mod Sound
