@@ -75,18 +75,26 @@ setup-good d h =
       listed-bytes = record { each = h .listed-bytes };
     }
 
-pub running-of : (d : Device) → inRange d ≡ true → Wide d → d .units .initialised ≡ true → Running d
+-- what the ranges say of the units, initialised or not
+fits-of : (d : Device) → inRange d ≡ true → (d .units .base .0 < 16777216) × (cuFits (d .units .cu) ≡ true) × (ruFits (d .units .ru) ≡ true)
 unfolding inRange unitsFit
-running-of d e h i =
+fits-of d e =
     let x = both (unitsFit (d .units)) (initialisedOrFresh d) e in
     let y = both (ltb (d .units .base .0) 16777216 && cuFits (d .units .cu)) (ruFits (d .units .ru)) (x .0) in
     let z = both (ltb (d .units .base .0) 16777216) (cuFits (d .units .cu)) (y .0) in
+    (ltb-true _ _ (z .0), z .1, y .1)
+
+pub cu-good : (d : Device) → inRange d ≡ true → Wide d → CuGood (d .units .cu)
+cu-good d e h = record { fits = fits-of d e .1; wide = h .cu }
+
+pub running-of : (d : Device) → inRange d ≡ true → Wide d → d .units .initialised ≡ true → Running d
+running-of d e h i =
     record {
       initialised = i;
-      base = ltb-true _ _ (z .0);
+      base = fits-of d e .0;
       scb = h .scb;
-      cu = record { fits = z .1; wide = h .cu };
-      ru = record { fits = y .1; wide = h .ru };
+      cu = cu-good d e h;
+      ru = record { fits = fits-of d e .2; wide = h .ru };
       setup = setup-good d h;
     }
 

@@ -3,3 +3,6 @@ pub mod Units
 pub mod Command
 pub mod Receive
 pub mod Control
+pub mod Closed
+pub mod Lengths
+pub mod Answers
