@@ -6,3 +6,4 @@ pub mod Control
 pub mod Closed
 pub mod Lengths
 pub mod Answers
+pub mod Refusals

@@ -1,2 +1,3 @@
 -- What every call keeps, and the table of refusals.
 pub mod Sound
+pub mod Refusals
