@@ -7,3 +7,5 @@ pub mod Closed
 pub mod Lengths
 pub mod Answers
 pub mod Refusals
+pub mod Carried
+pub mod Runs

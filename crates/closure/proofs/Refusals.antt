@@ -80,7 +80,7 @@ lengths-right a e =
     let y = both (eqb (length (a .kept)) recordSize) (eqb (length (a .holding)) areaSize) (x .0) in
     (eqb-true _ _ (y .0), record { holding = eqb-true _ _ (y .1); outgoing = eqb-true _ _ (x .1) })
 
-right-lengths : (a : Areas) → length (a .kept) ≡ recordSize → AreasRight a → areasRight a ≡ true
+pub right-lengths : (a : Areas) → length (a .kept) ≡ recordSize → AreasRight a → areasRight a ≡ true
 unfolding areasRight
 right-lengths a k h =
     rw (eq-eqb (length (a .kept)) recordSize k, eq-eqb (length (a .holding)) areaSize (h .holding), eq-eqb (length (a .outgoing)) areaSize (h .outgoing))
