@@ -12,9 +12,9 @@ use Rattle.device.specs.declared.Answer.{Answer}
 use Rattle.device.specs.declared.Refusal.the-variants as refusal
 use Rattle.control.specs.Obey.{ofScb}
 use Rattle.attention.specs.Attention as attending
-use Rattle.chip.specs.World.{World, Ran, resetOf}
+use Rattle.chip.specs.World.{World, resetOf}
 use Rattle.chip.specs.Attention.{attentionOf}
-use Rattle.chip.specs.Arrival.{arrival, arrivalOf}
+use Rattle.chip.specs.Arrival.{arrivalOf}
 use Rattle.chip.specs.Turn.{servedBy, concluded, commandTurn, receiveTurn, turnBy, turnOf}
 use Rattle.chip.specs.Call.{Call, reset, attention, arrive, turn, ran}
 use Rattle.closure.specs.Sound.{Sound}

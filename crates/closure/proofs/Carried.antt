@@ -1,40 +1,56 @@
 -- Closure on the areas that are lent: a call that is not refused does what it does on the state that the record holds, and leaves a record that is
 -- accepted again; bytes stay bytes and lengths stay. Assumes nothing.
-use mathlib.Core.Path.{_≡_, refl, sym, ap, _∙_, subst}
-use mathlib.Core.Bool.{Bool, true, false, not}
-use mathlib.Core.List.{List, [], _∷_}
-use Prim.Native.Nat.{ℕ, _%_, _≤_, _<_}
+use mathlib.Core.Path.{_≡_, refl, sym, ap, _∙_}
+use mathlib.Core.Bool.{Bool, true, false, false≢true}
+use mathlib.Core.List.{List, []}
+use Prim.Native.Nat.{ℕ, _≤_}
 use native.Mathlib.Omega.{arith}
-use borrow.Author.Tests.{eqb-true, eq-eqb, le-leb, not-false}
-use lib.Dec.{eqb, leb}
+use borrow.Author.Tests.{eqb-true, eqb-false, eq-eqb, le-leb, not-false}
+use lib.Dec.{eqb}
 use lib.ListN.{length}
-use Rattle.memory.specs.Size.{sizeAllowed, Allowed}
+use Rattle.memory.specs.Size.{Allowed}
 use Rattle.memory.proofs.Bytes.{Bytes}
 use Rattle.memory.proofs.Power.{size-allowed}
+use Rattle.scb.specs.Words.{one}
 use Rattle.device.specs.Limits.{recordSize, longest}
+use Rattle.device.specs.Numbers.{refusalNumber}
 use Rattle.device.specs.State.{fresh}
+use Rattle.device.specs.declared.Answer.{Answer}
 use Rattle.device.specs.declared.Device.{Device}
 use Rattle.device.specs.declared.Refusal.the-variants as refusal
+use Rattle.device.specs.declared.Units.{Units}
 use Rattle.image.specs.Image.{imageOf, decodeOf, deviceAt}
 use Rattle.image.specs.declared.Decoded.the-variants as is
-use Rattle.image.proofs.Steps.{length-image}
-use Rattle.image.proofs.Exact.{decode-image, device-back, image-bytes, fresh-range, fresh-wide}
-use Rattle.chip.specs.World.{World, Ran, worldOf, afterwards, resetOf}
+use Rattle.image.proofs.Steps.{length-image, decode-other}
+use Rattle.image.proofs.Exact.{decode-image, device-back, image-bytes}
+use Rattle.chip.specs.World.{World, Ran, afterwards}
 use Rattle.chip.specs.Attention.{attentionOf}
 use Rattle.chip.specs.Arrival.{arrivalOf}
 use Rattle.chip.specs.Turn.{turnOf}
 use Rattle.chip.specs.Call.{Call, reset, attention, arrive, turn, ran}
-use Rattle.lentoquist.specs.Calls.{Areas, areasOf, Called, areasRight, refusalOf, keptBy, calledBy, attentionCall, arrivalCall, turnCall, renewed, resetCall}
+use Rattle.lentoquist.specs.Calls.{Areas, Called, packed, isImage, refusalOf, keptBy, calledBy, attentionCall, arrivalCall, turnCall, resetCall}
 use Rattle.lentoquist.proofs.Laws.{accepted}
-use Rattle.traces.specs.Bytes.{renewedIn, called, number, isRefused}
+use Rattle.traces.specs.Bytes.{called, number, sentLength, edge, isRefused}
 use Rattle.closure.specs.Sound.{Sound, Fit}
-use Rattle.closure.specs.Refusals.{TakesAll, AreasRight, Holds, When}
+use Rattle.closure.specs.Refusals.{TakesAll, AreasRight, Holds, RecordRight, When}
 use Rattle.closure.specs.Carried.{Lent, AsLong, worldIn, Carried, Again}
 use Rattle.closure.proofs.Closed.{closed, reset-closed}
 use Rattle.closure.proofs.Lengths.{lengths-kept}
-use Rattle.closure.proofs.Refusals.{right-lengths, table, untouched}
+use Rattle.closure.proofs.Answers.{number-accepted, sent-most}
+use Rattle.closure.proofs.Refusals.{packed-number, packed-length, packed-edge, holds-of, right-lengths, table, untouched}
 
 -- ---- a record that holds a state
+
+foreign-units : (u : Units) → is.Foreign ≡ is.Units u → ⊥
+foreign-units u e = false≢true (ap isImage e)
+
+decoded-length-by : (x : Bool) (r : List ℕ) (u : Units) → eqb (length r) recordSize ≡ x → decodeOf r ≡ is.Units u → length r ≡ recordSize
+decoded-length-by true r u l e = eqb-true _ _ l
+decoded-length-by false r u l e = absurd (foreign-units u (decode-other r (eqb-false _ _ l) ∙ e))
+
+-- what is decoded has 256 bytes
+decoded-length : (r : List ℕ) (u : Units) → decodeOf r ≡ is.Units u → length r ≡ recordSize
+decoded-length r u e = decoded-length-by (eqb (length r) recordSize) r u refl e
 
 -- is decoded to that state
 pub holds-decoded : (r : List ℕ) (d : Device) → Holds r d → decodeOf r ≡ is.Units (d .units)
@@ -42,6 +58,10 @@ holds-decoded r d h = rw (h .image) (decode-image d (h .wide) (h .range))
 
 pub holds-back : (r : List ℕ) (d : Device) → Holds r d → deviceAt r (d .units) ≡ d
 holds-back r d h = rw (h .image) (device-back d (h .wide))
+
+-- and what is decoded holds the state that it is decoded to
+pub accepted-holds : (r : List ℕ) → Bytes r → (u : Units) → decodeOf r ≡ is.Units u → Holds r (deviceAt r u)
+accepted-holds r b u e = holds-of r (decoded-length r u e) b u e
 
 -- has 256 bytes
 pub holds-length : (r : List ℕ) (d : Device) → Holds r d → length r ≡ 256
@@ -121,6 +141,21 @@ accepted-again (turn report) a f l e =
     let h = not-refused (turn report) a (l .kept) e .3 in
     record { device = h .0; held = h .1; carried = carry (turn report) a (h .0) f l (h .1) e }
 
+-- so the next call with that record is not refused with 4, whichever it is and whatever else is lent
+record-right : (c : Call) (a : Areas) (d : Device) → Holds (a .kept) d → RecordRight c a
+record-right reset a d h = tt
+record-right attention a d h = (d, h)
+record-right (arrive f v) a d h = (d, h)
+record-right (turn report) a d h = (d, h)
+
+pub never-foreign : (c : Call) (a : Areas) → Fit c → Lent a → isRefused (called c a) ≡ false
+    → (next : Call) (b : Areas) → b .kept ≡ called c a .areas .kept → number (called next b .answer) ≡ 4 → ⊥
+never-foreign c a f l e next b k n =
+    let g = accepted-again c a f l e in
+    let d = ran c (worldIn (g .device) a) .outcome .device in
+    let h : Holds (b .kept) d = rw k (g .carried .holds) in
+    table next b (holds-bytes (b .kept) d h) refusal.Foreign .0 n .3 (record-right next b d h)
+
 -- ---- all elements of the four areas stay bytes, and the areas keep their lengths, refused or not
 
 again-sound : (c : Call) (a : Areas) → Fit c → Lent a → (d : Device) → TakesAll c (Holds (a .kept) d) → Sound (afterwards (ran c (worldIn d a)))
@@ -161,3 +196,26 @@ long-by false c a e f l =
 
 pub areas-as-long : (c : Call) (a : Areas) → Fit c → Lent a → AsLong a (called c a .areas)
 areas-as-long c a f l = long-by (isRefused (called c a)) c a refl f l
+
+-- ---- the answer of a call that is not refused, taken apart: number 0, the length and the edge of the call on the state
+
+pub record Parts (answer : ℕ) (said : Answer) : Type 0 where
+  pub number : number answer ≡ 0
+  pub length : sentLength answer ≡ said .length
+  pub most : sentLength answer ≤ 2048
+  pub edge : edge answer ≡ one (said .edge)
+
+pub answer-parts : (c : Call) (a : Areas) (d : Device) → Lent a → Holds (a .kept) d → isRefused (called c a) ≡ false
+    → Parts (called c a .answer) (ran c (worldIn d a) .outcome .answer)
+answer-parts c a d l h e =
+    let x = ran c (worldIn d a) .outcome .answer in
+    let m : x .length ≤ 2048 = sent-most c (worldIn d a) (lent-sound a d l h) in
+    let s : called c a .answer ≡ packed x = ap (λ (r : Called). r .answer) (called-same c a d h (not-refused c a (l .kept) e)) in
+    let k : sentLength (packed x) ≡ x .length = packed-length x (omega arith) in
+    rw s
+    (record {
+      number = packed-number x ∙ ap refusalNumber (number-accepted c (worldIn d a));
+      length = k;
+      most = omega arith;
+      edge = packed-edge x (omega arith);
+    })

@@ -9,7 +9,7 @@ use lib.Dec.{eqb, leb, ltb}
 use lib.ListN.{length, getD, set, replicate, length-replicate}
 use lib.Seq.{sets, length-sets}
 use Rattle.memory.specs.Address.{place, offsetAt, isNone}
-use Rattle.memory.specs.Memory.{Write, byteAt, wordAt, bytesAt, digits, apply}
+use Rattle.memory.specs.Memory.{wordAt, bytesAt, apply}
 use Rattle.memory.specs.declared.Offset.{Offset}
 use Rattle.memory.specs.declared.RealAddress.{RealAddress}
 use Rattle.memory.proofs.Bytes.{Bytes, AllBytes, all-append, apply-bytes, bytes-cons, bytes-tail, set-bytes, read-bytes, byte-bound, field-bound, digits-bytes}
@@ -25,13 +25,13 @@ use Rattle.device.specs.declared.Settings.{Settings}
 use Rattle.device.specs.declared.Walk.{Walk}
 use Rattle.actions.specs.Block.{commandAt, linkAt, argumentAt, destinationAt, typeAt}
 use Rattle.actions.specs.Setup.{Setup}
-use Rattle.actions.specs.Actions.{Acted, plainly, setting, iaSetup, clamped, byteOf, settingsBy, acceptable, groups, listing, act, isSent, sent, notSent}
+use Rattle.actions.specs.Actions.{Acted, plainly, setting, clamped, byteOf, settingsBy, acceptable, groups, listing, act, isSent, sent}
 use Rattle.command.specs.Part.{Part, Service}
 use Rattle.command.specs.Begin.{cmd, begunBy, toFirst, headerOf, toBegun, begin}
 use Rattle.command.specs.Buffer.{descriptorAt, past, afterBuffer, fits, isLast, gathered, buffer}
 use Rattle.command.specs.End.{afterEnd, statusTo, nextAfter, end}
 use Rattle.command.specs.Service.{serviceBy}
-use Rattle.closure.proofs.Units.{CuGood, WalkGood, cu-idle, cu-suspended, cu-waiting, cu-acting, cu-failing, cu-ending, cu-sending, at-waiting, at-acting, at-failing, at-ending, ending-size, at-sending, sending-walk}
+use Rattle.closure.proofs.Units.{CuGood, WalkGood, cu-idle, cu-suspended, cu-waiting, cu-acting, cu-failing, cu-ending, cu-sending, at-waiting, ending-size, at-sending, sending-walk}
 
 -- ---- runs of bytes
 

@@ -1,14 +1,13 @@
 -- An attention leaves a state in range, and writes bytes. Assumes nothing.
 use mathlib.Core.Path.{_≡_, refl}
-use mathlib.Core.Bool.{Bool, true, false, cond, _&&_, _||_}
-use mathlib.Core.List.{List, [], _∷_, _++_}
+use mathlib.Core.Bool.{Bool, true, false, cond, _&&_}
+use mathlib.Core.List.{List, [], _++_}
 use Prim.Native.Nat.{ℕ, _<_}
 use native.Mathlib.Omega.{arith}
 use borrow.Author.Tests.{lt-ltb, ltb-true}
 use lib.Dec.{eqb, ltb}
-use lib.ListN.{length}
-use Rattle.memory.specs.Address.{place, beyond, offsetAt, addressAt}
-use Rattle.memory.specs.Memory.{Write, wordAt, wordTo, digits, apply}
+use Rattle.memory.specs.Address.{beyond}
+use Rattle.memory.specs.Memory.{wordAt, apply}
 use Rattle.memory.specs.declared.Offset.{Offset}
 use Rattle.memory.specs.declared.RealAddress.{RealAddress}
 use Rattle.memory.proofs.Bytes.{Bytes, AllBytes, all-append, apply-bytes, field-bound, digits-bytes, bytes-cons, bytes-nil}
@@ -18,8 +17,8 @@ use Rattle.scb.specs.declared.CuState.{CuState}
 use Rattle.scb.specs.declared.CuState.the-variants as cus
 use Rattle.scb.specs.declared.RuState.{RuState}
 use Rattle.scb.specs.declared.RuState.the-variants as rus
-use Rattle.device.specs.Change.{withUnits, withCu, withRu, initialisedAt, pausingBegun, pausingStoring}
-use Rattle.device.specs.State.{cuState, ruState, fresh}
+use Rattle.device.specs.Change.{withUnits, pausingBegun, pausingStoring}
+use Rattle.device.specs.State.{cuState, ruState}
 use Rattle.device.specs.declared.Cu.{Cu}
 use Rattle.device.specs.declared.Cu.the-variants as cu
 use Rattle.device.specs.declared.Device.{Device}
@@ -27,15 +26,15 @@ use Rattle.device.specs.declared.Ru.{Ru}
 use Rattle.device.specs.declared.Ru.the-variants as ru
 use Rattle.device.specs.declared.Storing.{Storing}
 use Rattle.device.specs.declared.Units.{Units}
-use Rattle.actions.specs.Setup.{Setup, setupOf}
+use Rattle.actions.specs.Setup.{setupOf}
 use Rattle.control.specs.Control.{cuActive, cuSuspended, cuGoes, resumesAt, abortedCu, cuWrites, ruReady, ruSuspended, ruGoes, readyAt, abortedRu, ruWrites}
 use Rattle.control.specs.Obey.{ofScb, Obeyed, cuFirst, obeyCuc, ruFirst, obeyRuc}
 use Rattle.attention.specs.Status.{statusTo}
-use Rattle.attention.specs.Attention.{Attended, iscpOf, initialEvents, initialise, resetBy, unitsAfter, settledWrites, obeyedBy, obey, attendBy, attend, attentionBy, attention}
-use Rattle.image.specs.Ranges.{cuFits, ruFits, unitsFit, unitsFresh, addressesFresh, initialisedOrFresh, inRange, Wide}
+use Rattle.attention.specs.Attention.{Attended, iscpOf, initialise, resetBy, unitsAfter, settledWrites, obeyedBy, obey, attendBy, attend, attentionBy, attention}
+use Rattle.image.specs.Ranges.{cuFits, ruFits, unitsFit, initialisedOrFresh, inRange, Wide}
 use Rattle.image.proofs.Exact.{fresh-range, fresh-wide}
 use Rattle.phases.proofs.Units.{both}
-use Rattle.closure.proofs.Units.{CuGood, RuGood, WalkGood, cu-idle, cu-suspended, cu-waiting, cu-acting, cu-failing, cu-ending, cu-sending, at-suspended, at-waiting, at-acting, at-failing, at-ending, ending-size, at-sending, sending-walk, StoringGood, ru-idle, ru-none, ru-suspended, ru-ready, ru-held, ru-filling, ru-closing, ru-lacking, fd-suspended, fd-ready, fd-held, held-frame, filling-storing, filling-left, filling-walk, closing-storing, closing-free, closing-full, lacking-storing, lacking-left}
+use Rattle.closure.proofs.Units.{CuGood, RuGood, cu-idle, cu-suspended, cu-waiting, cu-acting, cu-failing, cu-ending, cu-sending, at-suspended, at-waiting, at-acting, at-failing, at-ending, ending-size, at-sending, sending-walk, StoringGood, ru-idle, ru-suspended, ru-ready, ru-held, ru-filling, ru-closing, ru-lacking, fd-suspended, fd-ready, fd-held, held-frame, filling-storing, filling-left, filling-walk, closing-storing, closing-free, closing-full, lacking-storing, lacking-left}
 use Rattle.closure.proofs.Command.{SetupGood}
 
 -- ---- a state in range after the first attention, piece by piece

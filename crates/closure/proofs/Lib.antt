@@ -9,3 +9,4 @@ pub mod Answers
 pub mod Refusals
 pub mod Carried
 pub mod Runs
+pub mod Witness

@@ -1,15 +1,14 @@
 -- An arrival and a service of the receive unit leave a unit in range and bytes in the holding area, and write bytes. Assumes nothing.
 use mathlib.Core.Path.{_≡_, refl}
 use mathlib.Core.Bool.{Bool, true, false, not, cond, _||_, false≢true}
-use mathlib.Core.List.{List, [], _∷_, _++_}
+use mathlib.Core.List.{List, [], _∷_}
 use Prim.Native.Nat.{ℕ, _+_, _≤_, _<_}
 use native.Mathlib.Omega.{arith}
-use borrow.Author.Tests.{leb-true, leb-false, ltb-false, lt-ltb}
+use borrow.Author.Tests.{leb-false, ltb-false, lt-ltb}
 use lib.Dec.{leb, ltb}
-use lib.ListN.{length, take, drop}
-use lib.Seq.{sets}
+use lib.ListN.{length, drop}
 use Rattle.memory.specs.Address.{place, offsetAt, isNone, none}
-use Rattle.memory.specs.Memory.{Write, wordAt, wordTo, digits, apply}
+use Rattle.memory.specs.Memory.{Write, wordAt, wordTo, apply}
 use Rattle.memory.specs.declared.Offset.{Offset}
 use Rattle.memory.specs.declared.RealAddress.{RealAddress}
 use Rattle.memory.proofs.Bytes.{Bytes, AllBytes, all-append, apply-bytes, take-bytes, drop-bytes, field-bound, digits-bytes}
@@ -24,14 +23,14 @@ use Rattle.device.specs.declared.Ru.the-variants as ru
 use Rattle.device.specs.declared.Settings.{Settings}
 use Rattle.device.specs.declared.Storing.{Storing}
 use Rattle.device.specs.declared.Walk.{Walk}
-use Rattle.receive.specs.Arrival.{lengthOf, judged, counterFor, inReady, inNoResources, fateIn, fateBy, fateOf, holding, unitBy, areaBy}
-use Rattle.receive.specs.Part.{Part, Service, controlAt, firstAt, linkAt, statusAt, headerAt}
+use Rattle.receive.specs.Arrival.{lengthOf, judged, counterFor, inReady, inNoResources, fateIn, fateBy, fateOf, unitBy, areaBy}
+use Rattle.receive.specs.Part.{Part, Service, controlAt, firstAt, linkAt}
 use Rattle.receive.specs.Begin.{begunBy, isBare, toFirst, begin}
 use Rattle.receive.specs.Buffer.{descriptorAt, past, count, isDone, afterBuffer, buffer}
-use Rattle.receive.specs.End.{frameStatus, bareMark, descriptorBy, settles, endAt, before, goesOn, close, lack, fateOf as endFate}
+use Rattle.receive.specs.End.{frameStatus, bareMark, descriptorBy, settles, before, goesOn, close, lack, fateOf as endFate}
 use Rattle.receive.specs.Service.{serviceBy}
 use Rattle.image.specs.Ranges.{frameFits}
-use Rattle.closure.proofs.Units.{RuGood, StoringGood, WalkGood, frame-size, frame-true, ru-none, ru-suspended, ru-ready, ru-held, ru-filling, ru-closing, ru-lacking, fd-ready, fd-held, held-frame, filling-storing, filling-left, filling-walk, closing-storing, lacking-storing}
+use Rattle.closure.proofs.Units.{RuGood, StoringGood, frame-size, frame-true, ru-none, ru-suspended, ru-ready, ru-held, ru-filling, ru-closing, ru-lacking, fd-ready, fd-held, held-frame, filling-storing, filling-left, filling-walk}
 use Rattle.closure.proofs.Command.{sets-bytes}
 
 or-left : (a b : Bool) → a ≡ true → (a || b) ≡ true
@@ -180,9 +179,10 @@ mark-bytes true a = (digits-bytes 2 (none .0), tt)
 mark-bytes false a = tt
 
 described-bytes : (stored lacking : Bool) (p : Part) (s : Storing) → Bytes (p .holding) → AllBytes (descriptorBy stored lacking p s)
-described-bytes true lacking p s h =
-    (take-bytes header (drop heldFrom (p .holding)) (drop-bytes heldFrom (p .holding) h),
-    (digits-bytes 2 (frameStatus lacking (s .frame)), mark-bytes (isBare (s .frame)) (place (p .base) (s .fd) firstAt)))
+described-bytes true lacking p s h = (
+  take-bytes header (drop heldFrom (p .holding)) (drop-bytes heldFrom (p .holding) h),
+  (digits-bytes 2 (frameStatus lacking (s .frame)), mark-bytes (isBare (s .frame)) (place (p .base) (s .fd) firstAt)),
+)
 described-bytes false lacking p s h = (digits-bytes 2 0x0000, tt)
 
 settles-bytes : (lacking : Bool) (p : Part) (s : Storing) (m : List ℕ) → Bytes (p .holding) → AllBytes (settles lacking p s m)

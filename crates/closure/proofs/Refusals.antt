@@ -2,9 +2,9 @@
 use mathlib.Core.Path.{_≡_, refl, sym, ap, _∙_, subst}
 use mathlib.Core.Bool.{Bool, true, false, not, cond, _&&_, true≢false, false≢true}
 use mathlib.Core.List.{List, []}
-use Prim.Native.Nat.{ℕ, _+_, _*_, _/_, _%_, _^_, _≤_, _<_}
+use Prim.Native.Nat.{ℕ, _+_, _*_, _/_, _%_, _≤_, _<_}
 use native.Mathlib.Omega.{arith}
-use borrow.Author.Tests.{leb-true, leb-false, le-leb, eqb-true, eqb-false, eq-eqb}
+use borrow.Author.Tests.{leb-true, le-leb, eqb-true, eqb-false, eq-eqb}
 use lib.Dec.{eqb, leb}
 use lib.ListN.{length}
 use Rattle.memory.specs.Size.{sizeAllowed, Allowed}
@@ -18,7 +18,7 @@ use Rattle.device.specs.declared.Device.{Device}
 use Rattle.device.specs.declared.Refusal.{Refusal}
 use Rattle.device.specs.declared.Refusal.the-variants as refusal
 use Rattle.device.specs.declared.Units.{Units}
-use Rattle.phases.proofs.Units.{both, one-below}
+use Rattle.phases.proofs.Units.{both}
 use Rattle.image.specs.Image.{decodeOf, deviceAt}
 use Rattle.image.specs.declared.Decoded.{Decoded}
 use Rattle.image.specs.declared.Decoded.the-variants as is
@@ -27,7 +27,7 @@ use Rattle.chip.specs.World.{World, Ran, worldOf, resetOf}
 use Rattle.chip.specs.Attention.{attentionOf}
 use Rattle.chip.specs.Arrival.{arrivalOf}
 use Rattle.chip.specs.Turn.{turnOf}
-use Rattle.chip.specs.Call.{Call, reset, attention, arrive, turn, ran}
+use Rattle.chip.specs.Call.{Call, reset, attention, arrive, turn}
 use Rattle.lentoquist.specs.Calls.{Areas, Called, packed, areasRight, refusalOf, refusedAnswer, refused, keptBy, calledOn, calledBy, attentionCall, arrivalCall, turnCall, renewed, resetCall}
 use Rattle.lentoquist.proofs.Laws.{bad-size, bad-area, too-long, no-image, accepted}
 use Rattle.traces.specs.Bytes.{renewedIn, called, number, sentLength, edge, isRefused}
@@ -149,9 +149,10 @@ module _ (S L F R : Type 0) where
   -- so the number and the line say the same
   exactly : (x : Called) → Given x → (r : Refusal)
       → (number (x .answer) ≡ refusalNumber r → Lowest S L F R r) × (Lowest S L F R r → number (x .answer) ≡ refusalNumber r)
-  exactly x g r =
-      ((λ e. subst (λ (q : Refusal). Lowest S L F R q) (one-number (g .which) r (sym (g .given) ∙ e)) (g .line)),
-      (λ l. g .given ∙ ap refusalNumber (one-line (g .which) r (g .line) l)))
+  exactly x g r = (
+    (λ e. subst (λ (q : Refusal). Lowest S L F R q) (one-number (g .which) r (sym (g .given) ∙ e)) (g .line)),
+    (λ l. g .given ∙ ap refusalNumber (one-line (g .which) r (g .line) l)),
+  )
 
 -- ---- what a call that takes all four gives
 

@@ -1,21 +1,24 @@
 -- Any run of calls on the areas that are lent, with what the host does between them, is a run on states: the calls that are not refused, with the
 -- same answers. So what is shown of runs on states holds of runs on bytes. Assumes nothing.
-use mathlib.Core.Path.{_≡_, refl, ap, _∙_, subst}
+use mathlib.Core.Path.{_≡_, refl, ap, subst}
 use mathlib.Core.Bool.{Bool, true, false}
 use mathlib.Core.List.{List, [], _∷_}
-use Prim.Native.Nat.{ℕ}
 use Rattle.memory.proofs.Bytes.{Bytes}
-use Rattle.chip.specs.World.{World, Ran, afterwards}
-use Rattle.chip.specs.Call.{Call, ran}
+use Rattle.device.specs.State.{fresh}
+use Rattle.device.specs.declared.Units.{Units}
+use Rattle.image.specs.Image.{decodeOf, deviceAt}
+use Rattle.image.specs.declared.Decoded.the-variants as is
+use Rattle.chip.specs.World.{World, worldOf, afterwards, resetOf}
+use Rattle.chip.specs.Call.{Call, reset, ran}
 use Rattle.lentoquist.specs.Calls.{Areas, areasOf, Called, packed}
 use Rattle.traces.specs.Bytes.{called, isRefused}
 use Rattle.traces.specs.Event.{Event, call, host, step}
-use Rattle.closure.specs.Sound.{Fit}
-use Rattle.closure.specs.Refusals.{Holds}
-use Rattle.closure.specs.Carried.{Lent, worldIn, Carried}
-use Rattle.closure.specs.Runs.{stepOn, runOn, run, skips, unless, taken, answerOn, unlessRefused, answersOn, answerOf, answersOf, Brings, Shows}
+use Rattle.closure.specs.Sound.{Sound, Fit}
+use Rattle.closure.specs.Carried.{Lent, worldIn}
+use Rattle.closure.specs.Runs.{runOn, run, unless, taken, unlessRefused, answersOn, answersOf, Brings, Shows}
+use Rattle.closure.proofs.Closed.{closed}
 use Rattle.closure.proofs.Refusals.{untouched}
-use Rattle.closure.proofs.Carried.{carry, lent-kept}
+use Rattle.closure.proofs.Carried.{accepted-holds, carry, carry-reset, lent-kept}
 
 -- ---- one event
 
@@ -28,14 +31,15 @@ carry-shown c a w f l s e =
     let x = carry c a (w .device) f l (s .kept) e in
     subst
     (λ (v : World). Shows (called c a .areas) (afterwards (ran c v)) × (called c a .answer ≡ packed (ran c v .outcome .answer)))
-    (shows-world a w s)
-    (record {
-      memory = ap (λ (r : Called). r .areas .memory) (x .same);
-      holding = ap (λ (r : Called). r .areas .holding) (x .same);
-      outgoing = ap (λ (r : Called). r .areas .outgoing) (x .same);
-      kept = x .holds;
-    },
-    ap (λ (r : Called). r .answer) (x .same))
+    (shows-world a w s) (
+      record {
+        memory = ap (λ (r : Called). r .areas .memory) (x .same);
+        holding = ap (λ (r : Called). r .areas .holding) (x .same);
+        outgoing = ap (λ (r : Called). r .areas .outgoing) (x .same);
+        kept = x .holds;
+      },
+      ap (λ (r : Called). r .answer) (x .same),
+    )
 
 refused-shown : (c : Call) (a : Areas) (w : World) → Shows a w → isRefused (called c a) ≡ true → Shows (called c a .areas) w
 refused-shown c a w s e = rw (untouched c a e .areas) s
@@ -78,3 +82,20 @@ same-answers (host m h out ∷ es) a w b l s =
     same-answers es (areasOf m h out (a .kept)) (step (host m h out) w) (b .1)
     (record { memory = b .0 .0; holding = b .0 .1; outgoing = b .0 .2; kept = l .kept })
     (record { memory = refl; holding = refl; outgoing = refl; kept = s .kept })
+
+-- ---- and on states: a run from a state in range stays in range
+
+pub closed-along : (es : List Event) (w : World) → Brings es → Sound w → Sound (run es w)
+closed-along [] w b s = s
+closed-along (call c ∷ es) w b s = closed-along es (afterwards (ran c w)) (b .1) (closed c w (b .0) s)
+closed-along (host m h out ∷ es) w b s =
+    closed-along es (worldOf (w .device) m h out) (b .1)
+    (record { range = s .range; wide = s .wide; memory = b .0 .0; holding = b .0 .1; outgoing = b .0 .2 })
+
+-- the areas of an accepted record show a world; so does what a reset leaves, whatever the record held
+pub accepted-shows : (a : Areas) → Bytes (a .kept) → (u : Units) → decodeOf (a .kept) ≡ is.Units u → Shows a (worldIn (deviceAt (a .kept) u) a)
+accepted-shows a b u e = record { memory = refl; holding = refl; outgoing = refl; kept = accepted-holds (a .kept) b u e }
+
+pub reset-shows : (a : Areas) → Lent a → isRefused (called reset a) ≡ false → Shows (called reset a .areas) (worldIn fresh a)
+unfolding resetOf
+reset-shows a l e = record { memory = refl; holding = refl; outgoing = refl; kept = carry-reset a fresh l e .holds }
