@@ -86,10 +86,12 @@ not-refused : (c : Call) (a : Areas) → Bytes (a .kept) → isRefused (called c
 not-refused c a k e = table c a k refusal.Accepted .0 (zero-number c a e)
 
 -- of the calls that take all four
-same-by : (a : Areas) (f : List ℕ) (go : World → Ran) (d : Device) → Holds (a .kept) d → Allowed (length (a .memory)) → AreasRight a → length f ≤ longest
+same-by : (a : Areas) (f : List ℕ) (go : World → Ran) (d : Device) → Holds (a .kept) d → Allowed (length (a .memory)) → AreasRight a
+    → length f ≤ longest
     → calledBy (refusalOf a f) go a ≡ keptBy (go (worldIn d a))
 same-by a f go d h s r l =
-    accepted a f go (d .units) (size-allowed (length (a .memory)) s) (right-lengths a (holds-length (a .kept) d h) r) (le-leb _ _ l) (holds-decoded (a .kept) d h)
+    accepted a f go (d .units) (size-allowed (length (a .memory)) s) (right-lengths a (holds-length (a .kept) d h) r) (le-leb _ _ l)
+    (holds-decoded (a .kept) d h)
     ∙ ap (λ (x : Device). keptBy (go (worldIn x a))) (holds-back (a .kept) d h)
 
 -- reset, whatever the record holds
@@ -104,7 +106,8 @@ called-same attention a d h x = same-by a [] attentionOf d h (x .0) (x .1 .1) (x
 called-same (arrive f v) a d h x = same-by a f (λ w. arrivalOf w f v) d h (x .0) (x .1 .1) (x .2)
 called-same (turn report) a d h x = same-by a [] (λ w. turnOf w report) d h (x .0) (x .1 .1) (x .2)
 
-carried-by : (c : Call) (d : Device) (a : Areas) → Sound (afterwards (ran c (worldIn d a))) → called c a ≡ keptBy (ran c (worldIn d a)) → Carried c d a
+carried-by : (c : Call) (d : Device) (a : Areas) → Sound (afterwards (ran c (worldIn d a))) → called c a ≡ keptBy (ran c (worldIn d a))
+    → Carried c d a
 carried-by c d a g e =
     let r = ran c (worldIn d a) in
     let k : called c a .areas .kept ≡ imageOf (r .outcome .device) = ap (λ (x : Called). x .areas .kept) e in

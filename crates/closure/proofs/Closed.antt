@@ -92,7 +92,8 @@ unfolding arriving.arrival
 arrival-area u matched f v m h p q = area-bytes (isHeld (arriving.fateOf (u .settings) matched (u .ru) f v)) h f p q
 
 -- the fresh state is left as it is: its receive unit is Idle
-arrival-fresh : (matched : Bool) (f : List ℕ) (v : ℕ) (m h : List ℕ) → withUnits fresh (withRu freshUnits (arriving.arrival freshUnits matched f v m h .unit)) ≡ fresh
+arrival-fresh : (matched : Bool) (f : List ℕ) (v : ℕ) (m h : List ℕ)
+    → withUnits fresh (withRu freshUnits (arriving.arrival freshUnits matched f v m h .unit)) ≡ fresh
 unfolding arriving.arrival
 arrival-fresh matched f v m h =
     ap (λ (u : Ru). withUnits fresh (withRu freshUnits u))

@@ -90,7 +90,8 @@ listing-length base block m n =
 listing-bytes : (base : RealAddress) (block : Offset) (m : List ℕ) (n : ℕ) → Bytes m → Bytes (listing base block m n)
 unfolding listing
 listing-bytes base block m n h =
-    sets-bytes (replicate listedSize 0) 0 _ (replicate-bytes listedSize 0 (omega arith)) (read-bytes m (place base block destinationAt) (n * addressLength) h)
+    sets-bytes (replicate listedSize 0) 0 _ (replicate-bytes listedSize 0 (omega arith))
+    (read-bytes m (place base block destinationAt) (n * addressLength) h)
 
 act-good : (x : Action) (base : RealAddress) (s : Setup) (block : Offset) (m : List ℕ) → SetupGood s → Bytes m → ActedGood (act x base s block m)
 unfolding act
@@ -165,7 +166,8 @@ header-bytes base own block m h b =
     (append-bytes _ own (read-bytes m (place base block destinationAt) addressLength b) h)
     (read-bytes m (place base block typeAt) typeLength b)
 
-begun-good : (transmits : Bool) (p : Part) (b : Begun) (word : ℕ) (m : List ℕ) → b .block .0 < 65536 → SetupGood (p .setup) → Bytes (p .outgoing) → Bytes m
+begun-good : (transmits : Bool) (p : Part) (b : Begun) (word : ℕ) (m : List ℕ) → b .block .0 < 65536 → SetupGood (p .setup)
+    → Bytes (p .outgoing) → Bytes m
     → PartGood (toBegun transmits p b word m)
 begun-good true p b word m h s o mb =
     let first = offsetAt m (place (p .base) (b .block) argumentAt) in
@@ -180,7 +182,8 @@ begun-block : (block : Offset) (word : ℕ) → block .0 < 65536 → begunBy blo
 unfolding begunBy
 begun-block block word h = h
 
-begin-good : (p : Part) (block : Offset) (m : List ℕ) → block .0 < 65536 → SetupGood (p .setup) → Bytes (p .outgoing) → Bytes m → ServiceGood (begin p block m)
+begin-good : (p : Part) (block : Offset) (m : List ℕ) → block .0 < 65536 → SetupGood (p .setup) → Bytes (p .outgoing) → Bytes m
+    → ServiceGood (begin p block m)
 unfolding begin
 begin-good p block m h s o mb =
     let word = wordAt m (place (p .base) block commandAt) in
@@ -223,7 +226,8 @@ buffer-good p b w m h k s o mb =
       part =
           record {
             unit =
-                after-good (fits d w) (d .eof) (isNone (d .next)) (isLast (w .used)) b (past d w) h (next-below (p .base) (w .next) m mb) l refl refl refl;
+                after-good (fits d w) (d .eof) (isNone (d .next)) (isLast (w .used)) b (past d w) h
+                (next-below (p .base) (w .next) m mb) l refl refl refl;
             setup = s;
             outgoing = gathered-bytes (fits d w) (p .outgoing) (p .base) (w .next) w m o mb;
           };

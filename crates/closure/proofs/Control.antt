@@ -278,7 +278,8 @@ unfolding unitsAfter
 after-good d command c cl r rl h p q =
     record { initialised = h .initialised; base = h .base; scb = h .scb; cu = p; ru = q; setup = h .setup }
 
-obeyed-good : (d : Device) (command : ℕ) (c : Obeyed Cu) (r : Obeyed Ru) → Running d → CuGood (c .unit) → AllBytes (c .writes) → RuGood (r .unit) → AllBytes (r .writes)
+obeyed-good : (d : Device) (command : ℕ) (c : Obeyed Cu) (r : Obeyed Ru) → Running d → CuGood (c .unit) → AllBytes (c .writes)
+    → RuGood (r .unit) → AllBytes (r .writes)
     → AttendedGood (obeyedBy d command c r)
 obeyed-good d command c r h p v q w =
     let u = unitsAfter (d .units) command (c .unit) (c .left) (r .unit) (r .left) in

@@ -47,7 +47,8 @@ arrival-length : (u : Units) (matched : Bool) (f : List ℕ) (v : ℕ) (m h : Li
 unfolding arriving.arrival
 arrival-length u matched f v m h = area-length (isHeld (arriving.fateOf (u .settings) matched (u .ru) f v)) h f
 
-begun-length : (t : Bool) (p : command.Part) (b : Begun) (word : ℕ) (m : List ℕ) → length (command-begin.toBegun t p b word m .outgoing) ≡ length (p .outgoing)
+begun-length : (t : Bool) (p : command.Part) (b : Begun) (word : ℕ) (m : List ℕ)
+    → length (command-begin.toBegun t p b word m .outgoing) ≡ length (p .outgoing)
 begun-length true p b word m = length-sets (p .outgoing) 0 (command-begin.headerOf (p .base) (p .setup .own) (b .block) m)
 begun-length false p b word m = refl
 
@@ -57,7 +58,8 @@ gathered-length true out base o w m =
     let d = command-buffer.descriptorAt base o m in length-sets out (w .filled) (bytesAt m (d .buffer .0) (d .count))
 gathered-length false out base o w m = refl
 
-service-length : (u : Cu) (p : command.Part) (m : List ℕ) (report : ℕ) → length (command-service.serviceBy u p m report .part .outgoing) ≡ length (p .outgoing)
+service-length : (u : Cu) (p : command.Part) (m : List ℕ) (report : ℕ)
+    → length (command-service.serviceBy u p m report .part .outgoing) ≡ length (p .outgoing)
 unfolding command-begin.begin command-buffer.buffer command-end.end
 service-length cu.Idle p m report = refl
 service-length (cu.Suspended o) p m report = refl
@@ -71,7 +73,8 @@ service-length (cu.Sending b w) p m report =
 service-length (cu.Ending b n) p m report = refl
 service-length (cu.Failing b) p m report = refl
 
-command-length : (d : Device) (m out : List ℕ) (report : ℕ) → length (command-service.service (command.partOf d out) m report .part .outgoing) ≡ length out
+command-length : (d : Device) (m out : List ℕ) (report : ℕ)
+    → length (command-service.service (command.partOf d out) m report .part .outgoing) ≡ length out
 unfolding command-service.service
 command-length d m out report = service-length (d .units .cu) (command.partOf d out) m report
 

@@ -109,7 +109,8 @@ pub record ServiceGood (s : Service) : Type 0 where
 
 -- ---- begin
 
-first-good : (bare none : Bool) (s : Storing) (first : Offset) → StoringGood s → first .0 < 65536 → leb (s .frame .length) 14 ≡ bare → isNone first ≡ none
+first-good : (bare none : Bool) (s : Storing) (first : Offset) → StoringGood s → first .0 < 65536 → leb (s .frame .length) 14 ≡ bare
+    → isNone first ≡ none
     → RuGood (toFirst bare none s first)
 first-good true none s first h k b e = ru-closing s first false h k (or-right (ltb 14 (s .frame .length)) true refl)
 first-good false true s first h k b e = ru-lacking s h (leb-false _ _ b)
@@ -168,8 +169,11 @@ buffer-good p s w m h a mb =
       unit =
           after-good (isDone s (past s w d)) (d .el) (isNone (d .next)) (leb 64 (w .used + 1)) s (past s w d) (filling-storing s w h) l
           (next-below (p .base) (w .next) m mb) g refl refl refl;
-      writes =
-          (take-bytes (count s w d) (drop (heldFrom + w .filled) (p .holding)) (drop-bytes (heldFrom + w .filled) (p .holding) a), (digits-bytes 2 _, tt));
+      writes = (
+        take-bytes (count s w d) (drop (heldFrom + w .filled) (p .holding))
+            (drop-bytes (heldFrom + w .filled) (p .holding) a),
+        (digits-bytes 2 _, tt),
+      );
     }
 
 -- ---- end

@@ -83,7 +83,11 @@ lengths-right a e =
 pub right-lengths : (a : Areas) → length (a .kept) ≡ recordSize → AreasRight a → areasRight a ≡ true
 unfolding areasRight
 right-lengths a k h =
-    rw (eq-eqb (length (a .kept)) recordSize k, eq-eqb (length (a .holding)) areaSize (h .holding), eq-eqb (length (a .outgoing)) areaSize (h .outgoing))
+    rw (
+      eq-eqb (length (a .kept)) recordSize k,
+      eq-eqb (length (a .holding)) areaSize (h .holding),
+      eq-eqb (length (a .outgoing)) areaSize (h .outgoing),
+    )
 
 lengths-wrong : (a : Areas) → areasRight a ≡ false → (length (a .kept) ≡ recordSize) × AreasRight a → ⊥
 lengths-wrong a e h = true≢false (sym (right-lengths a (h .0) (h .1)) ∙ e)
@@ -98,7 +102,11 @@ foreign-holds r e h = foreign-exact r e (h .0) (h .1 .wide) (h .1 .range) (h .1 
 -- ---- one number, and one line of the table
 
 back : ℕ → Refusal
-back n = cond (eqb n 1) refusal.Memory (cond (eqb n 2) refusal.Area (cond (eqb n 3) refusal.Overlong (cond (eqb n 4) refusal.Foreign refusal.Accepted)))
+back n =
+    cond (eqb n 1) refusal.Memory
+    (cond (eqb n 2) refusal.Area
+    (cond (eqb n 3) refusal.Overlong
+    (cond (eqb n 4) refusal.Foreign refusal.Accepted)))
 
 back-same : (r : Refusal) → back (refusalNumber r) ≡ r
 unfolding back
@@ -166,8 +174,13 @@ abbrev GivenBy : Areas → List ℕ → Called → Type 0
 GivenBy a f x =
     Given (Allowed (length (a .memory))) ((length (a .kept) ≡ recordSize) × AreasRight a) (length f ≤ longest) ((d : Device) × Holds (a .kept) d) x
 
-module _ (a : Areas) (f : List ℕ) (run : World → Ran) (k : Bytes (a .kept)) (n : (w : World) → run w .outcome .answer .number ≡ refusal.Accepted) where
-  given-record : (x : Decoded) → decodeOf (a .kept) ≡ x → sizeAllowed (length (a .memory)) ≡ true → areasRight a ≡ true → leb (length f) longest ≡ true
+-- every run of the chip gives number 0
+abbrev Accepts : (World → Ran) → Type 0
+Accepts run = (w : World) → run w .outcome .answer .number ≡ refusal.Accepted
+
+module _ (a : Areas) (f : List ℕ) (run : World → Ran) (k : Bytes (a .kept)) (n : Accepts run) where
+  given-record : (x : Decoded) → decodeOf (a .kept) ≡ x → sizeAllowed (length (a .memory)) ≡ true → areasRight a ≡ true
+      → leb (length f) longest ≡ true
       → GivenBy a f (calledBy (refusalOf a f) run a)
   given-record (is.Units u) e s r l =
       let d = deviceAt (a .kept) u in
@@ -257,7 +270,7 @@ refused-untouched r a =
 not-zero : (x : ℕ) → x ≡ 0 → not (eqb x 0) ≡ true → ⊥
 not-zero x e h = false≢true (sym (ap not (eq-eqb x 0 e)) ∙ h)
 
-module _ (a : Areas) (run : World → Ran) (n : (w : World) → run w .outcome .answer .number ≡ refusal.Accepted) where
+module _ (a : Areas) (run : World → Ran) (n : Accepts run) where
   on-untouched : (x : Decoded) → isRefused (calledOn run a x) ≡ true → Untouched a (calledOn run a x)
   on-untouched (is.Units u) h =
       let w = worldOf (deviceAt (a .kept) u) (a .memory) (a .holding) (a .outgoing) in
@@ -275,7 +288,7 @@ reset-untouched : (a : Areas) (x : Bool) → isRefused (renewedIn a (renewed x (
 unfolding resetOf
 reset-untouched a true h = absurd (not-zero (number (packed (resetOf .answer))) (packed-number (resetOf .answer)) h)
 reset-untouched a false h =
-    record { areas = refl; length = packed-length (refusedAnswer refusal.Area) (omega arith); edge = packed-edge (refusedAnswer refusal.Area) (omega arith) }
+    let x = refused-untouched refusal.Area a in record { areas = refl; length = x .length; edge = x .edge }
 
 pub untouched : (c : Call) (a : Areas) → isRefused (called c a) ≡ true → Untouched a (called c a)
 unfolding attentionCall arrivalCall turnCall resetCall

@@ -70,20 +70,37 @@ zeros-shaped = refl
 zeros-foreign : decodeOf (zeros 256) ≡ is.Foreign
 zeros-foreign = sym (decode-full (zeros 256) (zeros-length 256)) ∙ sym (full-other (zeros 256) zeros-shaped)
 
+-- everything right but, it may be, the frame
+fine : (m h o : ℕ) → Areas
+fine m h o = areasOf (zeros m) (zeros h) (zeros o) (imageOf fresh)
+
+fine-lent : (m h o : ℕ) → Lent (fine m h o)
+unfolding fine
+fine-lent m h o = lent m h o (imageOf fresh) (image-bytes fresh fresh-wide)
+
 pub each-number : (r : Refusal) → Seen r
-each-number refusal.Memory = seen refusal.Memory attention (areasOf (zeros 0) (zeros 0) (zeros 0) []) (lent 0 0 0 [] bytes-nil) (λ h. omega (arith, h .least, zeros-length 0))
+unfolding fine
+each-number refusal.Memory = seen refusal.Memory attention (fine 0 2048 2048) (fine-lent 0 2048 2048) (λ h. omega (arith, h .least, zeros-length 0))
 each-number refusal.Area =
-    seen refusal.Area attention (areasOf (zeros 8192) (zeros 0) (zeros 0) []) (lent 8192 0 0 [] bytes-nil)
-    (smallest (zeros 8192) (zeros-length 8192), λ h. omega (arith, h .0))
+    seen refusal.Area attention (fine 8192 0 2048) (fine-lent 8192 0 2048)
+    (smallest (zeros 8192) (zeros-length 8192), λ h. omega (arith, h .1 .holding, zeros-length 0))
 each-number refusal.Overlong =
-    seen refusal.Overlong (arrive (zeros 2049) 0) (areasOf (zeros 8192) (zeros 2048) (zeros 2048) (imageOf fresh))
-    (lent 8192 2048 2048 (imageOf fresh) (image-bytes fresh fresh-wide))
-    (smallest (zeros 8192) (zeros-length 8192), (fresh-length, areas-right (zeros 8192) (imageOf fresh)), λ h. omega (arith, h, zeros-length 2049))
+    seen refusal.Overlong (arrive (zeros 2049) 0) (fine 8192 2048 2048) (fine-lent 8192 2048 2048) (
+      smallest (zeros 8192) (zeros-length 8192),
+      (fresh-length, areas-right (zeros 8192) (imageOf fresh)),
+      λ h. omega (arith, h, zeros-length 2049),
+    )
 each-number refusal.Foreign =
-    seen refusal.Foreign attention (areasOf (zeros 8192) (zeros 2048) (zeros 2048) (zeros 256))
-    (lent 8192 2048 2048 (zeros 256) (zeros-bytes 256))
-    (smallest (zeros 8192) (zeros-length 8192), (zeros-length 256, areas-right (zeros 8192) (zeros 256)), omega arith, foreign-holds (zeros 256) zeros-foreign)
+    seen refusal.Foreign attention (areasOf (zeros 8192) (zeros 2048) (zeros 2048) (zeros 256)) (lent 8192 2048 2048 (zeros 256) (zeros-bytes 256)) (
+      smallest (zeros 8192) (zeros-length 8192),
+      (zeros-length 256, areas-right (zeros 8192) (zeros 256)),
+      omega arith,
+      foreign-holds (zeros 256) zeros-foreign,
+    )
 each-number refusal.Accepted =
-    seen refusal.Accepted attention (areasOf (zeros 8192) (zeros 2048) (zeros 2048) (imageOf fresh))
-    (lent 8192 2048 2048 (imageOf fresh) (image-bytes fresh fresh-wide))
-    (smallest (zeros 8192) (zeros-length 8192), (fresh-length, areas-right (zeros 8192) (imageOf fresh)), omega arith, (fresh, fresh-holds))
+    seen refusal.Accepted attention (fine 8192 2048 2048) (fine-lent 8192 2048 2048) (
+      smallest (zeros 8192) (zeros-length 8192),
+      (fresh-length, areas-right (zeros 8192) (imageOf fresh)),
+      omega arith,
+      (fresh, fresh-holds),
+    )
