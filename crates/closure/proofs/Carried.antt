@@ -11,11 +11,9 @@ use lib.ListN.{length}
 use Rattle.memory.specs.Size.{Allowed}
 use Rattle.memory.proofs.Bytes.{Bytes}
 use Rattle.memory.proofs.Power.{size-allowed}
-use Rattle.scb.specs.Words.{one}
 use Rattle.device.specs.Limits.{recordSize, longest}
 use Rattle.device.specs.Numbers.{refusalNumber}
 use Rattle.device.specs.State.{fresh}
-use Rattle.device.specs.declared.Answer.{Answer}
 use Rattle.device.specs.declared.Device.{Device}
 use Rattle.device.specs.declared.Refusal.the-variants as refusal
 use Rattle.device.specs.declared.Units.{Units}
@@ -31,9 +29,9 @@ use Rattle.chip.specs.Call.{Call, reset, attention, arrive, turn, ran}
 use Rattle.lentoquist.specs.Calls.{Areas, Called, packed, isImage, refusalOf, keptBy, calledBy, attentionCall, arrivalCall, turnCall, resetCall}
 use Rattle.lentoquist.proofs.Laws.{accepted}
 use Rattle.traces.specs.Bytes.{called, number, sentLength, edge, isRefused}
-use Rattle.closure.specs.Sound.{Sound, Fit}
+use Rattle.closure.specs.Sound.{Sound, Lent, Fit}
 use Rattle.closure.specs.Refusals.{TakesAll, AreasRight, Holds, RecordRight, When}
-use Rattle.closure.specs.Carried.{Lent, AsLong, worldIn, Carried, Again}
+use Rattle.closure.specs.Carried.{AsLong, worldIn, Carried, Again, Parts}
 use Rattle.closure.proofs.Closed.{closed, reset-closed}
 use Rattle.closure.proofs.Lengths.{lengths-kept}
 use Rattle.closure.proofs.Answers.{number-accepted, sent-most}
@@ -201,12 +199,6 @@ pub areas-as-long : (c : Call) (a : Areas) → Fit c → Lent a → AsLong a (ca
 areas-as-long c a f l = long-by (isRefused (called c a)) c a refl f l
 
 -- ---- the answer of a call that is not refused, taken apart: number 0, the length and the edge of the call on the state
-
-pub record Parts (answer : ℕ) (said : Answer) : Type 0 where
-  pub number : number answer ≡ 0
-  pub length : sentLength answer ≡ said .length
-  pub most : sentLength answer ≤ 2048
-  pub edge : edge answer ≡ one (said .edge)
 
 pub answer-parts : (c : Call) (a : Areas) (d : Device) → Lent a → Holds (a .kept) d → isRefused (called c a) ≡ false
     → Parts (called c a .answer) (ran c (worldIn d a) .outcome .answer)

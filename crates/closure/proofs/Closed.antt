@@ -41,7 +41,7 @@ use Rattle.closure.proofs.Control.{Running, running-range, running-wide
 
 -- ---- the fresh state
 
-fresh-sound : (m h out : List ℕ) → Bytes m → Bytes h → Bytes out → Sound (worldOf fresh m h out)
+pub fresh-sound : (m h out : List ℕ) → Bytes m → Bytes h → Bytes out → Sound (worldOf fresh m h out)
 fresh-sound m h out p q r = record { range = fresh-range; wide = fresh-wide; memory = p; holding = q; outgoing = r }
 
 running-sound : (d : Device) (m h out : List ℕ) → Running d → Bytes m → Bytes h → Bytes out → Sound (worldOf d m h out)

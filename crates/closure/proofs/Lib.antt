@@ -1,4 +1,4 @@
--- Every state that a call leaves is in range, and demand 1.
+-- Every state that a call leaves is in range (Units to Closed, Lengths, Answers); demand 1 (Refusals, Witness); both on bytes (Carried, Runs).
 pub mod Units
 pub mod Command
 pub mod Receive
@@ -7,6 +7,6 @@ pub mod Closed
 pub mod Lengths
 pub mod Answers
 pub mod Refusals
+pub mod Witness
 pub mod Carried
 pub mod Runs
-pub mod Witness

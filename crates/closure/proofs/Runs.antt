@@ -13,8 +13,8 @@ use Rattle.chip.specs.Call.{Call, reset, ran}
 use Rattle.lentoquist.specs.Calls.{Areas, areasOf, Called, packed}
 use Rattle.traces.specs.Bytes.{called, isRefused}
 use Rattle.traces.specs.Event.{Event, call, host, step}
-use Rattle.closure.specs.Sound.{Sound, Fit}
-use Rattle.closure.specs.Carried.{Lent, worldIn}
+use Rattle.closure.specs.Sound.{Sound, Lent, Fit}
+use Rattle.closure.specs.Carried.{worldIn}
 use Rattle.closure.specs.Runs.{runOn, run, unless, taken, unlessRefused, answersOn, answersOf, Brings, Shows}
 use Rattle.closure.proofs.Closed.{closed}
 use Rattle.closure.proofs.Refusals.{untouched}

@@ -1,14 +1,13 @@
 -- Each number of the table is given at some call: nothing shown of refusals is empty, and not every call is refused. Assumes nothing.
 use mathlib.Core.Path.{_≡_, refl, sym, _∙_}
 use mathlib.Core.Bool.{false}
-use mathlib.Core.List.{List, []}
+use mathlib.Core.List.{List}
 use Prim.Native.Nat.{ℕ}
 use native.Mathlib.Omega.{arith}
 use lib.ListN.{length, replicate, length-replicate}
 use Rattle.memory.specs.Memory.{value}
 use Rattle.memory.specs.Size.{Allowed}
-use Rattle.memory.proofs.Bytes.{Bytes, bytes-nil}
-use Rattle.device.specs.Numbers.{refusalNumber}
+use Rattle.memory.proofs.Bytes.{Bytes}
 use Rattle.device.specs.State.{fresh}
 use Rattle.device.specs.declared.Refusal.{Refusal}
 use Rattle.device.specs.declared.Refusal.the-variants as refusal
@@ -19,18 +18,10 @@ use Rattle.image.proofs.Exact.{fresh-range, fresh-wide, image-bytes}
 use Rattle.image.proofs.Steps.{length-image, decode-full, full-other}
 use Rattle.chip.specs.Call.{Call, attention, arrive}
 use Rattle.lentoquist.specs.Calls.{Areas, areasOf}
-use Rattle.traces.specs.Bytes.{called, number}
-use Rattle.closure.specs.Refusals.{AreasRight, Holds, When}
-use Rattle.closure.specs.Carried.{Lent}
+use Rattle.closure.specs.Sound.{Lent}
+use Rattle.closure.specs.Refusals.{AreasRight, Holds, When, Seen}
 use Rattle.closure.proofs.Command.{replicate-bytes}
 use Rattle.closure.proofs.Refusals.{foreign-holds, table}
-
--- a call, and what is lent with it, at which a number is given
-pub record Seen (r : Refusal) : Type 0 where
-  pub call : Call
-  pub areas : Areas
-  pub lent : Lent areas
-  pub given : number (called call areas .answer) ≡ refusalNumber r
 
 seen : (r : Refusal) (c : Call) (a : Areas) → Lent a → When r c a → Seen r
 seen r c a l w = record { call = c; areas = a; lent = l; given = table c a (l .kept) r .1 w }

@@ -1,22 +1,17 @@
 -- From states to the areas that are lent: what is shown of a call on a state holds of the call on the bytes. Assumes nothing.
 use mathlib.Core.Path.{_≡_}
+use Prim.Native.Nat.{ℕ, _≤_}
 use lib.ListN.{length}
-use Rattle.memory.proofs.Bytes.{Bytes}
+use Rattle.scb.specs.Words.{one}
+use Rattle.device.specs.declared.Answer.{Answer}
 use Rattle.device.specs.declared.Device.{Device}
 use Rattle.image.specs.Image.{decodeOf, deviceAt}
 use Rattle.image.specs.declared.Decoded.the-variants as is
 use Rattle.chip.specs.World.{World, worldOf}
 use Rattle.chip.specs.Call.{Call, ran}
 use Rattle.lentoquist.specs.Calls.{Areas, keptBy}
-use Rattle.traces.specs.Bytes.{called}
+use Rattle.traces.specs.Bytes.{called, number, sentLength, edge}
 use Rattle.closure.specs.Refusals.{TakesAll, Holds}
-
--- every element of what is lent is a byte
-pub record Lent (a : Areas) : Type 0 where
-  pub memory : Bytes (a .memory)
-  pub holding : Bytes (a .holding)
-  pub outgoing : Bytes (a .outgoing)
-  pub kept : Bytes (a .kept)
 
 -- each area is as long as it was
 pub record AsLong (a b : Areas) : Type 0 where
@@ -42,3 +37,10 @@ pub record Again (c : Call) (a : Areas) : Type 0 where
   pub device : Device
   pub held : TakesAll c (Holds (a .kept) device)
   pub carried : Carried c device a
+
+-- the answer of a call that is not refused, taken apart: number 0, and the length, no more than 2,048, and the edge that the call on a state answers
+pub record Parts (answer : ℕ) (said : Answer) : Type 0 where
+  pub number : number answer ≡ 0
+  pub length : sentLength answer ≡ said .length
+  pub most : sentLength answer ≤ 2048
+  pub edge : edge answer ≡ one (said .edge)

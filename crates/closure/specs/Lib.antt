@@ -1,4 +1,4 @@
--- What every call keeps, and the table of refusals.
+-- What every call keeps; the table of refusals; from states to bytes, for a call and for a run.
 pub mod Sound
 pub mod Refusals
 pub mod Carried

@@ -6,6 +6,7 @@ use Prim.Native.Nat.{ℕ, _≤_}
 use lib.ListN.{length}
 use Rattle.memory.specs.Size.{Allowed}
 use Rattle.device.specs.Limits.{areaSize, recordSize, longest}
+use Rattle.device.specs.Numbers.{refusalNumber}
 use Rattle.device.specs.declared.Device.{Device}
 use Rattle.device.specs.declared.Refusal.{Refusal}
 use Rattle.device.specs.declared.Refusal.the-variants as refusal
@@ -13,7 +14,8 @@ use Rattle.image.specs.Ranges.{inRange, Wide}
 use Rattle.image.specs.Image.{imageOf}
 use Rattle.chip.specs.Call.{Call, reset, attention, arrive, turn}
 use Rattle.lentoquist.specs.Calls.{Areas, Called}
-use Rattle.traces.specs.Bytes.{sentLength, edge}
+use Rattle.traces.specs.Bytes.{called, number, sentLength, edge}
+use Rattle.closure.specs.Sound.{Lent}
 
 -- ---- what each line of the table asks
 
@@ -67,6 +69,13 @@ Lowest S L F R refusal.Accepted = S × L × F × R
 -- when a number is given for a call on what is lent
 abbrev pub When : Refusal → Call → Areas → Type 0
 When r c a = Lowest (SizeRight c a) (LengthsRight c a) (FrameRight c) (RecordRight c a) r
+
+-- a call, and what is lent with it, at which a number is given
+pub record Seen (r : Refusal) : Type 0 where
+  pub call : Call
+  pub areas : Areas
+  pub lent : Lent areas
+  pub given : number (called call areas .answer) ≡ refusalNumber r
 
 -- ---- a refusal changes nothing lent; length 0, no interrupt edge
 

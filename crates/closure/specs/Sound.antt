@@ -7,6 +7,7 @@ use Rattle.memory.proofs.Bytes.{Bytes}
 use Rattle.image.specs.Ranges.{inRange, Wide}
 use Rattle.chip.specs.World.{World, Ran}
 use Rattle.chip.specs.Call.{Call, reset, attention, arrive, turn}
+use Rattle.lentoquist.specs.Calls.{Areas}
 
 -- the state is in range, and every element of the three areas is a byte
 pub record Sound (w : World) : Type 0 where
@@ -15,6 +16,13 @@ pub record Sound (w : World) : Type 0 where
   pub memory : Bytes (w .memory)
   pub holding : Bytes (w .holding)
   pub outgoing : Bytes (w .outgoing)
+
+-- every element of what is lent is a byte
+pub record Lent (a : Areas) : Type 0 where
+  pub memory : Bytes (a .memory)
+  pub holding : Bytes (a .holding)
+  pub outgoing : Bytes (a .outgoing)
+  pub kept : Bytes (a .kept)
 
 -- what a call brings: an arriving frame, of any length, is made of bytes; nothing is asked of a verdict or of a line report
 abbrev pub Fit : Call → Type 0
