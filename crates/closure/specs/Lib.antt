@@ -1,1 +1,5 @@
--- No definitions yet.
+-- What every call keeps; the table of refusals; from states to bytes, for a call and for a run.
+pub mod Sound
+pub mod Refusals
+pub mod Carried
+pub mod Runs

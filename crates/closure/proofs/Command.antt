@@ -1,0 +1,276 @@
+-- A service of the command unit leaves a unit in range, a setup in range, bytes in the outgoing area, and writes bytes. Assumes nothing.
+use mathlib.Core.Path.{_≡_, refl, _∙_}
+use mathlib.Core.Bool.{Bool, true, false, cond, _||_}
+use mathlib.Core.List.{List, [], _∷_, _++_}
+use Prim.Native.Nat.{ℕ, zero, suc, _+_, _*_, _≤_, _<_}
+use native.Mathlib.Omega.{arith}
+use borrow.Author.Tests.{leb-true, leb-false}
+use lib.Dec.{eqb, leb, ltb}
+use lib.ListN.{length, getD, set, replicate, length-replicate}
+use lib.Seq.{sets, length-sets}
+use Rattle.memory.specs.Address.{place, offsetAt, isNone}
+use Rattle.memory.specs.Memory.{wordAt, bytesAt, apply}
+use Rattle.memory.specs.declared.Offset.{Offset}
+use Rattle.memory.specs.declared.RealAddress.{RealAddress}
+use Rattle.memory.proofs.Bytes.{Bytes, AllBytes, all-append, apply-bytes, bytes-cons, bytes-tail, set-bytes, read-bytes, byte-bound, field-bound, digits-bytes}
+use Rattle.memory.proofs.Laws.{length-bytesAt}
+use Rattle.device.specs.Limits.{addressLength, typeLength, header, listedSize, mostListed}
+use Rattle.device.specs.Numbers.{transmit, actionOf}
+use Rattle.device.specs.declared.Action.{Action}
+use Rattle.device.specs.declared.Action.the-variants as action
+use Rattle.device.specs.declared.Begun.{Begun}
+use Rattle.device.specs.declared.Cu.{Cu}
+use Rattle.device.specs.declared.Cu.the-variants as cu
+use Rattle.device.specs.declared.Settings.{Settings}
+use Rattle.device.specs.declared.Walk.{Walk}
+use Rattle.actions.specs.Block.{commandAt, linkAt, argumentAt, destinationAt, typeAt}
+use Rattle.actions.specs.Setup.{Setup}
+use Rattle.actions.specs.Actions.{Acted, plainly, setting, clamped, byteOf, settingsBy, acceptable, groups, listing, act, isSent, sent}
+use Rattle.command.specs.Part.{Part, Service}
+use Rattle.command.specs.Begin.{cmd, begunBy, toFirst, headerOf, toBegun, begin}
+use Rattle.command.specs.Buffer.{descriptorAt, past, afterBuffer, fits, isLast, gathered, buffer}
+use Rattle.command.specs.End.{afterEnd, statusTo, nextAfter, end}
+use Rattle.command.specs.Service.{serviceBy}
+use Rattle.closure.proofs.Units.{CuGood, WalkGood, cu-idle, cu-suspended, cu-waiting, cu-acting, cu-failing, cu-ending, cu-sending, at-waiting, ending-size, at-sending, sending-walk}
+
+-- ---- runs of bytes
+
+pub append-bytes : (xs ys : List ℕ) → Bytes xs → Bytes ys → Bytes (xs ++ ys)
+append-bytes [] ys p q = q
+append-bytes (x ∷ xs) ys p q = bytes-cons x (xs ++ ys) (p .each 0) (append-bytes xs ys (bytes-tail x xs p) q)
+
+pub sets-bytes : (d : List ℕ) (at : ℕ) (bs : List ℕ) → Bytes d → Bytes bs → Bytes (sets d at bs)
+sets-bytes d at [] h p = h
+sets-bytes d at (b ∷ bs) h p = sets-bytes (set d at b) (suc at) bs (set-bytes d at b h (p .each 0)) (bytes-tail b bs p)
+
+replicate-each : (n v i : ℕ) → v < 256 → getD (replicate n v) i 0 < 256
+replicate-each zero v i h = omega arith
+replicate-each (suc n) v zero h = h
+replicate-each (suc n) v (suc i) h = replicate-each n v i h
+
+pub replicate-bytes : (n v : ℕ) → v < 256 → Bytes (replicate n v)
+replicate-bytes n v h = record { each = λ i. replicate-each n v i h }
+
+-- ---- settings and addresses
+
+pub record SetupGood (s : Setup) : Type 0 where
+  pub minimum : s .settings .minimum < 256
+  pub own : length (s .own) ≡ 6
+  pub listed : length (s .listed) ≡ 96
+  pub own-bytes : Bytes (s .own)
+  pub listed-bytes : Bytes (s .listed)
+
+-- ---- the actions
+
+pub record ActedGood (a : Acted) : Type 0 where
+  pub setup : SetupGood (a .setup)
+  pub writes : AllBytes (a .writes)
+  pub length : a .length ≤ 2048
+
+plain-good : (s : Setup) (status n : ℕ) → SetupGood s → n ≤ 2048 → ActedGood (plainly s status n)
+plain-good s status n h l = record { setup = h; writes = tt; length = l }
+
+set-good : (accepted : Bool) (s new : Setup) → SetupGood s → SetupGood new → ActedGood (setting accepted s new)
+set-good true s new h k = plain-good new _ 0 k (omega arith)
+set-good false s new h k = plain-good s _ 0 h (omega arith)
+
+cond-below : (t : Bool) (x y n : ℕ) → x < n → y < n → cond t x y < n
+cond-below true x y n p q = p
+cond-below false x y n p q = q
+
+minimum-below : (count : ℕ) (byte : ℕ → ℕ) (s : Settings) → byte 10 < 256 → s .minimum < 256 → settingsBy count byte s .minimum < 256
+unfolding settingsBy
+minimum-below count byte s p q = cond-below (ltb 10 count) (byte 10) (s .minimum) 256 p q
+
+listing-length : (base : RealAddress) (block : Offset) (m : List ℕ) (n : ℕ) → length (listing base block m n) ≡ 96
+unfolding listing
+listing-length base block m n =
+    length-sets (replicate listedSize 0) 0 (bytesAt m (place base block destinationAt) (n * addressLength)) ∙ length-replicate {A = ℕ} listedSize 0
+
+listing-bytes : (base : RealAddress) (block : Offset) (m : List ℕ) (n : ℕ) → Bytes m → Bytes (listing base block m n)
+unfolding listing
+listing-bytes base block m n h =
+    sets-bytes (replicate listedSize 0) 0 _ (replicate-bytes listedSize 0 (omega arith))
+    (read-bytes m (place base block destinationAt) (n * addressLength) h)
+
+act-good : (x : Action) (base : RealAddress) (s : Setup) (block : Offset) (m : List ℕ) → SetupGood s → Bytes m → ActedGood (act x base s block m)
+unfolding act
+act-good action.Nop base s block m h b = plain-good s _ 0 h (omega arith)
+act-good action.IaSetup base s block m h b =
+    let own = bytesAt m (place base block argumentAt) addressLength in
+    set-good true s (record { settings = s .settings; own = own; listed = s .listed }) h
+    (record {
+      minimum = h .minimum;
+      own = length-bytesAt m (place base block argumentAt) addressLength;
+      listed = h .listed;
+      own-bytes = read-bytes m (place base block argumentAt) addressLength b;
+      listed-bytes = h .listed-bytes;
+    })
+act-good action.Configure base s block m h b =
+    let byte = byteOf base block m in
+    set-good (acceptable (byte 3)) s
+    (record { settings = settingsBy (clamped (byte 0)) byte (s .settings); own = s .own; listed = s .listed }) h
+    (record {
+      minimum = minimum-below (clamped (byte 0)) byte (s .settings) (byte-bound m (place base block (argumentAt + 10)) b) (h .minimum);
+      own = h .own;
+      listed = h .listed;
+      own-bytes = h .own-bytes;
+      listed-bytes = h .listed-bytes;
+    })
+act-good action.McSetup base s block m h b =
+    let n = groups base block m in
+    set-good (leb n mostListed) s (record { settings = s .settings; own = s .own; listed = listing base block m n }) h
+    (record {
+      minimum = h .minimum;
+      own = h .own;
+      listed = listing-length base block m n;
+      own-bytes = h .own-bytes;
+      listed-bytes = listing-bytes base block m n b;
+    })
+act-good action.Tdr base s block m h b = record { setup = h; writes = (digits-bytes 2 0x8000, tt); length = omega arith }
+act-good action.Dump base s block m h b = plain-good s _ 0 h (omega arith)
+act-good action.Diagnose base s block m h b = plain-good s _ 0 h (omega arith)
+
+cond-most : (t : Bool) (n k : ℕ) → n ≤ k → cond t n 0 ≤ k
+cond-most true n k p = p
+cond-most false n k p = omega arith
+
+sent-good : (s : Setup) (filled report : ℕ) → SetupGood s → filled ≤ 2048 → ActedGood (sent s filled report)
+unfolding sent
+sent-good s filled report h l = plain-good s _ _ h (cond-most (isSent report) filled 2048 l)
+
+-- ---- what a service leaves
+
+pub record PartGood (p : Part) : Type 0 where
+  pub unit : CuGood (p .unit)
+  pub setup : SetupGood (p .setup)
+  pub outgoing : Bytes (p .outgoing)
+
+pub record ServiceGood (s : Service) : Type 0 where
+  pub part : PartGood (s .part)
+  pub writes : AllBytes (s .writes)
+  pub length : s .length ≤ 2048
+
+-- ---- begin
+
+first-good : (none : Bool) (b : Begun) (first : Offset) → b .block .0 < 65536 → first .0 < 65536 → isNone first ≡ none → CuGood (toFirst none b first)
+first-good true b first h k e = cu-ending b 14 h (omega arith) (omega arith)
+first-good false b first h k e =
+    cu-sending b (record { next = first; used = 0; filled = header }) h
+    (record { next = k; used = omega arith; some = e; least = omega arith; most = omega arith })
+
+header-bytes : (base : RealAddress) (own : List ℕ) (block : Offset) (m : List ℕ) → Bytes own → Bytes m → Bytes (headerOf base own block m)
+unfolding headerOf
+header-bytes base own block m h b =
+    append-bytes (bytesAt m (place base block destinationAt) addressLength ++ own) _
+    (append-bytes _ own (read-bytes m (place base block destinationAt) addressLength b) h)
+    (read-bytes m (place base block typeAt) typeLength b)
+
+begun-good : (transmits : Bool) (p : Part) (b : Begun) (word : ℕ) (m : List ℕ) → b .block .0 < 65536 → SetupGood (p .setup)
+    → Bytes (p .outgoing) → Bytes m
+    → PartGood (toBegun transmits p b word m)
+begun-good true p b word m h s o mb =
+    let first = offsetAt m (place (p .base) (b .block) argumentAt) in
+    record {
+      unit = first-good (isNone first) b first h (field-bound m (place (p .base) (b .block) argumentAt) 2 mb) refl;
+      setup = s;
+      outgoing = sets-bytes (p .outgoing) 0 _ o (header-bytes (p .base) (p .setup .own) (b .block) m (s .own-bytes) mb);
+    }
+begun-good false p b word m h s o mb = record { unit = cu-acting b (actionOf (cmd word)) h; setup = s; outgoing = o }
+
+begun-block : (block : Offset) (word : ℕ) → block .0 < 65536 → begunBy block word .block .0 < 65536
+unfolding begunBy
+begun-block block word h = h
+
+begin-good : (p : Part) (block : Offset) (m : List ℕ) → block .0 < 65536 → SetupGood (p .setup) → Bytes (p .outgoing) → Bytes m
+    → ServiceGood (begin p block m)
+unfolding begin
+begin-good p block m h s o mb =
+    let word = wordAt m (place (p .base) block commandAt) in
+    record {
+      part = begun-good (eqb (cmd word) transmit) p (begunBy block word) word m (begun-block block word h) s o mb;
+      writes = (digits-bytes 2 0x4000, tt);
+      length = omega arith;
+    }
+
+-- ---- buffer
+
+after-good : (fits eof none last : Bool) (b : Begun) (w : Walk) → b .block .0 < 65536 → w .next .0 < 65536 → 14 ≤ w .filled
+    → leb (w .filled) 2048 ≡ fits → isNone (w .next) ≡ none → leb 64 (w .used) ≡ last → CuGood (afterBuffer fits eof none last b w)
+after-good false eof none last b w h n l f e u = cu-failing b h
+after-good true true none last b w h n l f e u = cu-ending b (w .filled) h l (leb-true _ _ f)
+after-good true false true last b w h n l f e u = cu-failing b h
+after-good true false false true b w h n l f e u = cu-failing b h
+after-good true false false false b w h n l f e u =
+    let k : w .used < 64 = leb-false _ _ u in
+    cu-sending b w h (record { next = n; used = omega arith; some = e; least = l; most = leb-true _ _ f })
+
+gathered-bytes : (fits : Bool) (out : List ℕ) (base : RealAddress) (o : Offset) (w : Walk) (m : List ℕ) → Bytes out → Bytes m
+    → Bytes (gathered fits out (descriptorAt base o m) w m)
+gathered-bytes true out base o w m h mb =
+    let d = descriptorAt base o m in
+    sets-bytes out (w .filled) (bytesAt m (d .buffer .0) (d .count)) h (read-bytes m (d .buffer .0) (d .count) mb)
+gathered-bytes false out base o w m h mb = h
+
+next-below : (base : RealAddress) (o : Offset) (m : List ℕ) → Bytes m → descriptorAt base o m .next .0 < 65536
+unfolding descriptorAt
+next-below base o m h = field-bound m (place base o 2) 2 h
+
+buffer-good : (p : Part) (b : Begun) (w : Walk) (m : List ℕ) → b .block .0 < 65536 → WalkGood w → SetupGood (p .setup) → Bytes (p .outgoing) → Bytes m
+    → ServiceGood (buffer p b w m)
+unfolding buffer
+buffer-good p b w m h k s o mb =
+    let d = descriptorAt (p .base) (w .next) m in
+    let l : 14 ≤ w .filled + d .count = omega (arith, k .least) in
+    record {
+      part =
+          record {
+            unit =
+                after-good (fits d w) (d .eof) (isNone (d .next)) (isLast (w .used)) b (past d w) h
+                (next-below (p .base) (w .next) m mb) l refl refl refl;
+            setup = s;
+            outgoing = gathered-bytes (fits d w) (p .outgoing) (p .base) (w .next) w m o mb;
+          };
+      writes = tt;
+      length = omega arith;
+    }
+
+-- ---- end
+
+ended-good : (el suspends : Bool) (link : Offset) → link .0 < 65536 → CuGood (afterEnd el suspends link)
+ended-good true suspends link h = cu-idle
+ended-good false true link h = cu-suspended link h
+ended-good false false link h = cu-waiting link h
+
+next-good : (base : RealAddress) (b : Begun) (status : ℕ) (m : List ℕ) → Bytes m → CuGood (nextAfter base b status m)
+unfolding nextAfter
+next-good base b status m h =
+    ended-good (b .el) (b .suspend || b .pausing) _
+    (field-bound (apply (statusTo base b status ∷ []) m) (place base (b .block) linkAt) 2
+    (apply-bytes (statusTo base b status ∷ []) m (digits-bytes 2 status, tt) h))
+
+end-good : (p : Part) (b : Begun) (a : Acted) (m : List ℕ) → ActedGood a → Bytes (p .outgoing) → Bytes m → ServiceGood (end p b a m)
+unfolding end
+end-good p b a m h o mb =
+    record {
+      part =
+          record {
+            unit = next-good (p .base) b (a .status) (apply (a .writes) m) (apply-bytes (a .writes) m (h .writes) mb);
+            setup = h .setup;
+            outgoing = o;
+          };
+      writes = all-append (a .writes) (statusTo (p .base) b (a .status) ∷ []) (h .writes) (digits-bytes 2 (a .status), tt);
+      length = h .length;
+    }
+
+-- ---- one service
+
+pub command-good : (u : Cu) (p : Part) (m : List ℕ) (report : ℕ) → CuGood u → PartGood p → Bytes m → ServiceGood (serviceBy u p m report)
+command-good cu.Idle p m report u h b = record { part = h; writes = tt; length = omega arith }
+command-good (cu.Suspended o) p m report u h b = record { part = h; writes = tt; length = omega arith }
+command-good (cu.Waiting o) p m report u h b = begin-good p o m (at-waiting o u) (h .setup) (h .outgoing) b
+command-good (cu.Acting x a) p m report u h b =
+    end-good p x _ m (act-good a (p .base) (p .setup) (x .block) m (h .setup) b) (h .outgoing) b
+command-good (cu.Sending x w) p m report u h b = buffer-good p x w m (at-sending x w u) (sending-walk x w u) (h .setup) (h .outgoing) b
+command-good (cu.Ending x n) p m report u h b = end-good p x _ m (sent-good (p .setup) n report (h .setup) (ending-size x n u .1)) (h .outgoing) b
+command-good (cu.Failing x) p m report u h b = end-good p x _ m (plain-good (p .setup) 0x8100 0 (h .setup) (omega arith)) (h .outgoing) b

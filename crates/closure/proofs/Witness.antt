@@ -1,0 +1,97 @@
+-- Each number of the table is given at some call: nothing shown of refusals is empty, and not every call is refused. Assumes nothing.
+use mathlib.Core.Path.{_≡_, refl, sym, _∙_}
+use mathlib.Core.Bool.{false}
+use mathlib.Core.List.{List}
+use Prim.Native.Nat.{ℕ}
+use native.Mathlib.Omega.{arith}
+use lib.ListN.{length, replicate, length-replicate}
+use Rattle.memory.specs.Memory.{value}
+use Rattle.memory.specs.Size.{Allowed}
+use Rattle.memory.proofs.Bytes.{Bytes}
+use Rattle.device.specs.State.{fresh}
+use Rattle.device.specs.declared.Refusal.{Refusal}
+use Rattle.device.specs.declared.Refusal.the-variants as refusal
+use Rattle.words.specs.Places.{bytesFrom, field}
+use Rattle.image.specs.Image.{imageOf, decodeOf, shaped, headShaped}
+use Rattle.image.specs.declared.Decoded.the-variants as is
+use Rattle.image.proofs.Exact.{fresh-range, fresh-wide, image-bytes}
+use Rattle.image.proofs.Steps.{length-image, decode-full, full-other}
+use Rattle.chip.specs.Call.{Call, attention, arrive}
+use Rattle.lentoquist.specs.Calls.{Areas, areasOf}
+use Rattle.closure.specs.Sound.{Lent}
+use Rattle.closure.specs.Refusals.{AreasRight, Holds, When, Seen}
+use Rattle.closure.proofs.Command.{replicate-bytes}
+use Rattle.closure.proofs.Refusals.{foreign-holds, table}
+
+seen : (r : Refusal) (c : Call) (a : Areas) → Lent a → When r c a → Seen r
+seen r c a l w = record { call = c; areas = a; lent = l; given = table c a (l .kept) r .1 w }
+
+zeros : ℕ → List ℕ
+zeros n = replicate n 0
+
+zeros-length : (n : ℕ) → length (zeros n) ≡ n
+unfolding zeros
+zeros-length n = length-replicate {A = ℕ} n 0
+
+zeros-bytes : (n : ℕ) → Bytes (zeros n)
+unfolding zeros
+zeros-bytes n = replicate-bytes n 0 (omega arith)
+
+-- memory of 8,192 bytes, and areas as long as they must be
+smallest : (m : List ℕ) → length m ≡ 8192 → Allowed (length m)
+smallest m e = record { least = omega arith; most = omega arith; exponent = 13; power = e }
+
+lent : (n h o : ℕ) (r : List ℕ) → Bytes r → Lent (areasOf (zeros n) (zeros h) (zeros o) r)
+lent n h o r b = record { memory = zeros-bytes n; holding = zeros-bytes h; outgoing = zeros-bytes o; kept = b }
+
+areas-right : (m r : List ℕ) → AreasRight (areasOf m (zeros 2048) (zeros 2048) r)
+areas-right m r = record { holding = zeros-length 2048; outgoing = zeros-length 2048 }
+
+-- the fresh record, and one of zeros, which is the image of no state
+fresh-length : length (imageOf fresh) ≡ 256
+fresh-length = length-image fresh (fresh-wide .own) (fresh-wide .listed)
+
+fresh-holds : Holds (imageOf fresh) fresh
+fresh-holds = record { wide = fresh-wide; range = fresh-range; image = refl }
+
+zeros-shaped : shaped (zeros 256) ≡ false
+unfolding zeros shaped headShaped field bytesFrom value
+zeros-shaped = refl
+
+zeros-foreign : decodeOf (zeros 256) ≡ is.Foreign
+zeros-foreign = sym (decode-full (zeros 256) (zeros-length 256)) ∙ sym (full-other (zeros 256) zeros-shaped)
+
+-- everything right but, it may be, the frame
+fine : (m h o : ℕ) → Areas
+fine m h o = areasOf (zeros m) (zeros h) (zeros o) (imageOf fresh)
+
+fine-lent : (m h o : ℕ) → Lent (fine m h o)
+unfolding fine
+fine-lent m h o = lent m h o (imageOf fresh) (image-bytes fresh fresh-wide)
+
+pub each-number : (r : Refusal) → Seen r
+unfolding fine
+each-number refusal.Memory = seen refusal.Memory attention (fine 0 2048 2048) (fine-lent 0 2048 2048) (λ h. omega (arith, h .least, zeros-length 0))
+each-number refusal.Area =
+    seen refusal.Area attention (fine 8192 0 2048) (fine-lent 8192 0 2048)
+    (smallest (zeros 8192) (zeros-length 8192), λ h. omega (arith, h .1 .holding, zeros-length 0))
+each-number refusal.Overlong =
+    seen refusal.Overlong (arrive (zeros 2049) 0) (fine 8192 2048 2048) (fine-lent 8192 2048 2048) (
+      smallest (zeros 8192) (zeros-length 8192),
+      (fresh-length, areas-right (zeros 8192) (imageOf fresh)),
+      λ h. omega (arith, h, zeros-length 2049),
+    )
+each-number refusal.Foreign =
+    seen refusal.Foreign attention (areasOf (zeros 8192) (zeros 2048) (zeros 2048) (zeros 256)) (lent 8192 2048 2048 (zeros 256) (zeros-bytes 256)) (
+      smallest (zeros 8192) (zeros-length 8192),
+      (zeros-length 256, areas-right (zeros 8192) (zeros 256)),
+      omega arith,
+      foreign-holds (zeros 256) zeros-foreign,
+    )
+each-number refusal.Accepted =
+    seen refusal.Accepted attention (fine 8192 2048 2048) (fine-lent 8192 2048 2048) (
+      smallest (zeros 8192) (zeros-length 8192),
+      (fresh-length, areas-right (zeros 8192) (imageOf fresh)),
+      omega arith,
+      (fresh, fresh-holds),
+    )
