@@ -1,1 +1,2 @@
--- No laws yet.
+-- What follows for a command list.
+pub mod Laws
