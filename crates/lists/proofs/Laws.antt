@@ -106,7 +106,8 @@ byte-local base o m q n k l h =
     h .bytes (place base o (argumentAt + k)) (rw (place-beyond base o argumentAt k) (in-range (place base o argumentAt) k n l))
 
 settings-local : (above-8 above-10 : Bool) (base : RealAddress) (o : Offset) (m q : List ℕ) (n : ℕ) (s : Settings)
-    → ltb 8 n ≡ above-8 → ltb 10 n ≡ above-10 → 4 ≤ n → Same (range (place base o argumentAt) n) m q → settingsBy n (byteOf base o m) s ≡ settingsBy n (byteOf base o q) s
+    → ltb 8 n ≡ above-8 → ltb 10 n ≡ above-10 → 4 ≤ n → Same (range (place base o argumentAt) n) m q
+    → settingsBy n (byteOf base o m) s ≡ settingsBy n (byteOf base o q) s
 unfolding settingsBy
 settings-local true true base o m q n s e₈ e₁₀ l h =
     let b₈ : byteOf base o m 8 ≡ byteOf base o q 8 = byte-local base o m q n 8 (ltb-true 8 n e₈) h in

@@ -1,2 +1,3 @@
 -- What follows for a command list.
 pub mod Laws
+pub mod Start
