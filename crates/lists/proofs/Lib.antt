@@ -1,3 +1,5 @@
 -- What follows for a command list.
 pub mod Laws
 pub mod Start
+pub mod Tests
+pub mod Witness
