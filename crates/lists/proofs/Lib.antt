@@ -3,3 +3,4 @@ pub mod Laws
 pub mod Start
 pub mod Tests
 pub mod Witness
+pub mod Exact
