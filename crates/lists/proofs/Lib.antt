@@ -1,1 +1,2 @@
--- No laws yet.
+-- Laws
+pub mod Blocks
