@@ -1,2 +1,4 @@
 -- Laws
 pub mod Blocks
+pub mod Stands
+pub mod Begins
