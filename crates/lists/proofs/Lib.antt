@@ -2,3 +2,5 @@
 pub mod Blocks
 pub mod Stands
 pub mod Begins
+pub mod Chain
+pub mod Ends

@@ -1,0 +1,107 @@
+-- An end of the command unit alone leads on in its list: to the next block, or out of Active after the last. Assumes nothing.
+use mathlib.Core.Path.{_≡_, refl, sym, ap, _∙_}
+use mathlib.Core.Logic.{_≢_}
+use mathlib.Core.Bool.{Bool, true, false, cond, _||_, true≢false, false≢true}
+use mathlib.Core.List.{List, [], _∷_, _++_, map}
+use Prim.Native.Nat.{ℕ, zero, suc, _+_, _-_, _*_, _%_, _≤_, _<_, min, max}
+use native.Mathlib.Omega.{arith}
+use lib.Dec.{eqb, leb}
+use lib.ListN.{length}
+use Rattle.memory.specs.Memory.{byteAt, wordAt, Write, wordTo, apply}
+use Rattle.memory.specs.Address.{place, offsetAt}
+use Rattle.memory.specs.declared.Offset.{Offset}
+use Rattle.memory.specs.declared.RealAddress.{RealAddress}
+use Rattle.memory.proofs.Laws.{apply-append, length-apply}
+use Rattle.scb.specs.Words.{bit, field}
+use Rattle.device.specs.Limits.{addressLength, mostListed}
+use Rattle.device.specs.Numbers.{transmit, actionOf, actionNumber}
+use Rattle.device.specs.State.{cuState, isActive}
+use Rattle.device.specs.declared.Action.{Action}
+use Rattle.device.specs.declared.Action.the-variants as action
+use Rattle.device.specs.declared.Begun.{Begun}
+use Rattle.device.specs.declared.Cu.{Cu}
+use Rattle.device.specs.declared.Cu.the-variants as cu
+use Rattle.actions.specs.Actions.{Acted, act, sent, notSent, clamped, byteOf, groups}
+use Rattle.actions.specs.Block.{statusAt, commandAt, linkAt, argumentAt, destinationAt}
+use Rattle.actions.specs.Setup.{Setup}
+use Rattle.command.specs.Begin.{cmd, begunBy}
+use Rattle.command.specs.End.{afterEnd, statusTo, results, nextAfter, end}
+use Rattle.command.specs.Part.{Part}
+use Rattle.command.specs.Service.{service}
+use Rattle.progress.specs.Machine.{Tag, begun, done, eachOnce}
+use Rattle.progress.specs.Same.{In, here, there, range, targets, Same}
+use Rattle.progress.proofs.Same.{Sub, sub-nil, in-left, in-right, same-trans, same-part, same-field, apart-writes}
+use Rattle.lists.specs.Uses.{block, from, wordOf, marked, uses, ownBytes, argumentBytes, listedBytes, resultBytes, tdrBytes, NoClash, Listed, stops}
+use Rattle.lists.specs.Unit.{endReads, readsBy}
+use Rattle.lists.proofs.Blocks.{sub-refl, sub-append, range-first, word-targets, targets-append, link-in, own-in, status-result, tdr-result, link-apart, marked-same, marked-size, later}
+use Rattle.lists.proofs.Stands.{todo, rank, Begins, Walks, Now, Lies, Stands, Leads, partWith}
+
+-- ---- what an action writes besides the status: TDR its word, and no other anything
+
+act-writes : (b0 b1 b2 b3 b5 b6 : Bool) (base : RealAddress) (s : Setup) (c : ℕ) (m : List ℕ)
+    → Sub (targets (act (cond b0 action.Nop
+        (cond b1 action.IaSetup
+        (cond b2 action.Configure
+        (cond b3 action.McSetup
+        (cond b5 action.Tdr
+        (cond b6 action.Dump action.Diagnose)))))) base s (block c) m .writes)) (tdrBytes b5 base c)
+unfolding act
+act-writes true b1 b2 b3 b5 b6 base s c m = sub-nil (tdrBytes b5 base c)
+act-writes false true b2 b3 b5 b6 base s c m = sub-nil (tdrBytes b5 base c)
+act-writes false false true b3 b5 b6 base s c m = sub-nil (tdrBytes b5 base c)
+act-writes false false false true b5 b6 base s c m = sub-nil (tdrBytes b5 base c)
+act-writes false false false false true b6 base s c m = word-targets (place base (block c) argumentAt) 0x8000
+act-writes false false false false false true base s c m = sub-nil []
+act-writes false false false false false false base s c m = sub-nil []
+
+pub acted-writes : (n : ℕ) (base : RealAddress) (s : Setup) (c : ℕ) (m : List ℕ)
+    → Sub (targets (act (actionOf n) base s (block c) m .writes)) (tdrBytes (eqb n (actionNumber action.Tdr)) base c)
+unfolding actionOf
+acted-writes n base s c m = act-writes (eqb n 0) (eqb n 1) (eqb n 2) (eqb n 3) (eqb n 5) (eqb n 6) base s c m
+
+-- ---- where an end leads: EL or S, and no SUSPEND waits
+
+end-stops : (el s : Bool) (link : Offset) → (el || s) ≡ true → isActive (cuState (afterEnd el (s || false) link)) ≡ false
+end-stops true s link h = refl
+end-stops false true link h = refl
+end-stops false false link h = absurd (false≢true h)
+
+end-goes : (el s : Bool) (link : Offset) → (el || s) ≡ false → afterEnd el (s || false) link ≡ cu.Waiting link
+end-goes true s link h = absurd (true≢false h)
+end-goes false true link h = absurd (true≢false h)
+end-goes false false link h = refl
+
+-- out of Active nothing is left
+rank-out : (unit : Cu) → isActive (cuState unit) ≡ false → rank unit 0 ≡ 0
+rank-out cu.Idle h = refl
+rank-out (cu.Suspended o) h = refl
+rank-out (cu.Waiting o) h = refl
+rank-out (cu.Acting b a) h = absurd (true≢false h)
+rank-out (cu.Sending b w) h = absurd (true≢false h)
+rank-out (cu.Ending b n) h = absurd (true≢false h)
+rank-out (cu.Failing b) h = absurd (true≢false h)
+
+module _ (base : RealAddress) (m₀ : List ℕ) (big : 8192 ≤ length m₀) where
+  abbrev tdrOf : ℕ → List ℕ
+  tdrOf c = tdrBytes (eqb (cmd (wordOf base m₀ c)) (actionNumber action.Tdr)) base c
+
+  -- the results of an end are results of its command
+  end-writes : (c : ℕ) (ws : List Write) (status : ℕ) → Sub (targets ws) (tdrOf c)
+      → Sub (targets (ws ++ (wordTo (place base (block c) statusAt) status ∷ []))) (resultBytes base m₀ c)
+  end-writes c ws status h =
+      targets-append ws (wordTo (place base (block c) statusAt) status ∷ []) (λ a i. tdr-result base m₀ c a (h a i))
+      (λ a i. status-result base m₀ c a (word-targets (place base (block c) statusAt) status a i))
+
+  -- the link, read after them, is that of the start
+  end-link : (c : ℕ) (ws : List Write) (status : ℕ) (q : List ℕ) → Sub (targets ws) (tdrOf c) → Same (uses base m₀ c) q (marked base m₀ c)
+      → wordAt (apply (wordTo (place base (block c) statusAt) status ∷ []) (apply ws q)) (place base (block c) linkAt)
+        ≡ wordAt m₀ (place base (block c) linkAt)
+  end-link c ws status q h s =
+      let last = wordTo (place base (block c) statusAt) status ∷ [] in
+      let n : length q ≡ length m₀ = s .size ∙ marked-size base m₀ c in
+      let a : Same (from base c linkAt 2) (apply (ws ++ last) q) q =
+      apart-writes (from base c linkAt 2) (ws ++ last) q
+      (λ x y i j. link-apart (length q) (rw n big) base m₀ c x y i (end-writes c ws status h y j)) in
+      rw (← apply-append)
+      (same-field 2 (place base (block c) linkAt) (sub-refl (from base c linkAt 2))
+      (same-trans a (same-trans (same-part (link-in base m₀ c) s) (marked-same base m₀ big c linkAt 2 (omega arith) (omega arith)))))
