@@ -105,3 +105,50 @@ module _ (base : RealAddress) (m₀ : List ℕ) (big : 8192 ≤ length m₀) whe
       rw (← apply-append)
       (same-field 2 (place base (block c) linkAt) (sub-refl (from base c linkAt 2))
       (same-trans a (same-trans (same-part (link-in base m₀ c) s) (marked-same base m₀ big c linkAt 2 (omega arith) (omega arith)))))
+
+  -- ---- the unit that an end leaves
+
+  -- the end of the command at c: the unit, and memory
+  abbrev unitAfter : ℕ → Acted → List ℕ → Cu
+  unitAfter c a q = nextAfter base (begunBy (block c) (wordOf base m₀ c)) (a .status) (apply (a .writes) q)
+
+  abbrev writesAt : ℕ → Acted → List Write
+  writesAt c a = a .writes ++ (wordTo (place base (block c) statusAt) (a .status) ∷ [])
+
+  -- the last block's end leaves Active
+  last-stops : (c : ℕ) (a : Acted) (q : List ℕ) → stops (wordOf base m₀ c) ≡ true → isActive (cuState (unitAfter c a q)) ≡ false
+  unfolding nextAfter begunBy
+  last-stops c a q h = end-stops (bit (wordOf base m₀ c) 15) (bit (wordOf base m₀ c) 14) _ h
+
+  -- any other block's end leads to the next
+  end-next : (c d : ℕ) (a : Acted) (q : List ℕ) → stops (wordOf base m₀ c) ≡ false → wordAt m₀ (place base (block c) linkAt) ≡ d
+      → Sub (targets (a .writes)) (tdrOf c) → Same (uses base m₀ c) q (marked base m₀ c) → unitAfter c a q ≡ cu.Waiting (block d)
+  unfolding nextAfter begunBy
+  end-next c d a q h e t s =
+      end-goes (bit (wordOf base m₀ c) 15) (bit (wordOf base m₀ c) 14) _ h
+      ∙ ap (λ (x : ℕ). cu.Waiting (block x)) (end-link c (a .writes) (a .status) q t s ∙ e)
+
+  -- what follows of it, whatever the action was
+  pub record Goes (unit : Cu) (c : ℕ) (cs : List ℕ) (q : List ℕ) : Type 0 where
+    pub stands : (s : Setup) (out : List ℕ) → Stands base m₀ cs (partWith base unit s out) q
+    pub todo : todo unit cs ≡ eachOnce cs
+    pub rank : rank unit (length cs) < 1 + 66 * length cs
+
+  pub at-end : (c : ℕ) (cs : List ℕ) (a : Acted) (q : List ℕ) → Sub (targets (a .writes)) (tdrOf c) → Same (uses base m₀ c) q (marked base m₀ c)
+      → Lies base m₀ c cs q → Goes (unitAfter c a q) c cs (apply (writesAt c a) q)
+  at-end c [] a q t s l =
+      let h : isActive (cuState (unitAfter c a q)) ≡ false = last-stops c a q (l .listed) in
+      record { stands = λ x out. h; todo = refl; rank = rw (rank-out (unitAfter c a q) h) (omega arith) }
+  at-end c (d ∷ ds) a q t s l =
+      let e : unitAfter c a q ≡ cu.Waiting (block d) = end-next c d a q (l .listed .0) (l .listed .1) t s in
+      let h : (b : ℕ) → In b (d ∷ ds) → Same (uses base m₀ b) (apply (writesAt c a) q) m₀ =
+      later base m₀ c (writesAt c a) (d ∷ ds) q (end-writes c (a .writes) (a .status) t) (s .size ∙ marked-size base m₀ c) (l .apart) (l .later) in
+      record {
+        stands = λ x out. (
+          refl,
+          rw e (refl, h d here),
+          record { listed = l .listed .2; apart = l .apart .1; later = λ b i. h b (there i) },
+        );
+        todo = rw e;
+        rank = rw e (omega arith);
+      }
