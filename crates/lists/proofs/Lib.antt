@@ -4,3 +4,4 @@ pub mod Stands
 pub mod Begins
 pub mod Chain
 pub mod Ends
+pub mod Acts

@@ -1,0 +1,107 @@
+-- The three ends of the command unit alone, of an action, of a frame gathered and of one that fails: each leads on in its list, and reads bytes
+-- of its command alone. Assumes nothing.
+use mathlib.Core.Path.{_≡_, refl, sym, ap, _∙_, subst}
+use mathlib.Core.Bool.{Bool, true, false}
+use mathlib.Core.List.{List, [], _∷_, _++_, map}
+use Prim.Native.Nat.{ℕ, zero, suc, _+_, _-_, _*_, _≤_, _<_, min, max}
+use native.Mathlib.Omega.{arith}
+use lib.Dec.{eqb, leb}
+use lib.ListN.{length}
+use Rattle.memory.specs.Memory.{byteAt, wordAt}
+use Rattle.memory.specs.Address.{place}
+use Rattle.memory.specs.declared.RealAddress.{RealAddress}
+use Rattle.scb.specs.Words.{field}
+use Rattle.device.specs.Limits.{addressLength, mostListed}
+use Rattle.device.specs.Numbers.{transmit, actionOf, actionNumber}
+use Rattle.device.specs.declared.Action.{Action}
+use Rattle.device.specs.declared.Action.the-variants as action
+use Rattle.device.specs.declared.Begun.{Begun}
+use Rattle.device.specs.declared.Cu.{Cu}
+use Rattle.device.specs.declared.Cu.the-variants as cu
+use Rattle.actions.specs.Actions.{Acted, act, sent, notSent, clamped, byteOf, groups}
+use Rattle.actions.specs.Block.{linkAt, argumentAt, destinationAt}
+use Rattle.actions.specs.Setup.{Setup}
+use Rattle.command.specs.Begin.{cmd, begunBy}
+use Rattle.command.specs.End.{end}
+use Rattle.command.specs.Service.{service}
+use Rattle.progress.specs.Machine.{Tag, begun, done, eachOnce}
+use Rattle.progress.specs.Same.{In, there, range, Same}
+use Rattle.progress.proofs.Same.{Sub, sub-nil, in-left, in-right, same-trans, same-part, same-field}
+use Rattle.lists.specs.Uses.{block, from, wordOf, marked, uses, ownBytes, argumentBytes, listedBytes, tdrBytes}
+use Rattle.lists.specs.Unit.{endReads, readsBy}
+use Rattle.lists.proofs.Blocks.{sub-append, range-first, link-in, own-in, marked-same}
+use Rattle.lists.proofs.Stands.{Begins, Lies, Leads, partWith}
+use Rattle.lists.proofs.Ends.{acted-writes, Goes, at-end}
+
+module _ (base : RealAddress) (m₀ : List ℕ) (big : 8192 ≤ length m₀) where
+  -- ---- each end leads on
+
+  abbrev begunAt : ℕ → Begun
+  begunAt c = begunBy (block c) (wordOf base m₀ c)
+
+  acting : (s : Setup) (out : List ℕ) (c : ℕ) (cs q : List ℕ) (r : ℕ) → Same (uses base m₀ c) q (marked base m₀ c) → Lies base m₀ c cs q
+      → Leads base m₀ (c ∷ cs) (partWith base (cu.Acting (begunAt c) (actionOf (cmd (wordOf base m₀ c)))) s out) q r
+  unfolding service end begunBy
+  acting s out c cs q r h l =
+      let a : Acted = act (actionOf (cmd (wordOf base m₀ c))) base s (block c) q in
+      let g = at-end base m₀ big c cs a q (acted-writes (cmd (wordOf base m₀ c)) base s c q) h l in
+      record { left = cs; stands = g .stands (a .setup) out; part = λ x i. there i; noted = ap (λ (t : List Tag). done c ∷ t) (g .todo); fewer = g .rank }
+
+  ending : (s : Setup) (out : List ℕ) (c : ℕ) (cs q : List ℕ) (r filled : ℕ) → Same (uses base m₀ c) q (marked base m₀ c) → Lies base m₀ c cs q
+      → Leads base m₀ (c ∷ cs) (partWith base (cu.Ending (begunAt c) filled) s out) q r
+  unfolding service end begunBy sent
+  ending s out c cs q r filled h l =
+      let a : Acted = sent s filled r in
+      let g = at-end base m₀ big c cs a q (sub-nil _) h l in
+      record { left = cs; stands = g .stands (a .setup) out; part = λ x i. there i; noted = ap (λ (t : List Tag). done c ∷ t) (g .todo); fewer = g .rank }
+
+  failing : (s : Setup) (out : List ℕ) (c : ℕ) (cs q : List ℕ) (r : ℕ) → Same (uses base m₀ c) q (marked base m₀ c) → Lies base m₀ c cs q
+      → Leads base m₀ (c ∷ cs) (partWith base (cu.Failing (begunAt c)) s out) q r
+  unfolding service end begunBy
+  failing s out c cs q r h l =
+      let a : Acted = notSent s in
+      let g = at-end base m₀ big c cs a q (sub-nil _) h l in
+      record { left = cs; stands = g .stands (a .setup) out; part = λ x i. there i; noted = ap (λ (t : List Tag). done c ∷ t) (g .todo); fewer = g .rank }
+
+  pub at-acting : (s : Setup) (out : List ℕ) (c : ℕ) (cs q : List ℕ) (r : ℕ) (b : Begun) (a : Action) → Begins base m₀ b c q
+      → a ≡ actionOf (cmd (wordOf base m₀ c)) → Lies base m₀ c cs q → Leads base m₀ (c ∷ cs) (partWith base (cu.Acting b a) s out) q r
+  at-acting s out c cs q r b a i e l =
+      subst (λ (x : Begun). Leads base m₀ (c ∷ cs) (partWith base (cu.Acting x a) s out) q r) (sym (i .begun))
+      (subst (λ (x : Action). Leads base m₀ (c ∷ cs) (partWith base (cu.Acting (begunAt c) x) s out) q r) (sym e) (acting s out c cs q r (i .same) l))
+
+  pub at-ending : (s : Setup) (out : List ℕ) (c : ℕ) (cs q : List ℕ) (r : ℕ) (b : Begun) (filled : ℕ) → Begins base m₀ b c q
+      → Lies base m₀ c cs q → Leads base m₀ (c ∷ cs) (partWith base (cu.Ending b filled) s out) q r
+  at-ending s out c cs q r b filled i l =
+      subst (λ (x : Begun). Leads base m₀ (c ∷ cs) (partWith base (cu.Ending x filled) s out) q r) (sym (i .begun)) (ending s out c cs q r filled (i .same) l)
+
+  pub at-failing : (s : Setup) (out : List ℕ) (c : ℕ) (cs q : List ℕ) (r : ℕ) (b : Begun) → Begins base m₀ b c q
+      → Lies base m₀ c cs q → Leads base m₀ (c ∷ cs) (partWith base (cu.Failing b) s out) q r
+  at-failing s out c cs q r b i l =
+      subst (λ (x : Begun). Leads base m₀ (c ∷ cs) (partWith base (cu.Failing x) s out) q r) (sym (i .begun)) (failing s out c cs q r (i .same) l)
+
+  -- ---- what an end reads: the link, and what its kind and its count make the action read
+
+  -- a field behind the status word is that of the start
+  behind-same : (c k f n : ℕ) (q : List ℕ) → 2 ≤ f → f + n ≤ 8192 → Sub (from base c f n) (uses base m₀ c)
+      → Same (uses base m₀ c) q (marked base m₀ c) → Same (from base c f n) q m₀
+  behind-same c k f n q h t s a = same-trans (same-part s a) (marked-same base m₀ big c f n h t)
+
+  -- the count that an action reads is that of the start
+  argument-same : (a : Action) (c : ℕ) (q : List ℕ) → Sub (argumentBytes a base m₀ c) (uses base m₀ c)
+      → Same (uses base m₀ c) q (marked base m₀ c) → argumentBytes a base q c ≡ argumentBytes a base m₀ c
+  argument-same action.Nop c q s h = refl
+  argument-same action.IaSetup c q s h = refl
+  argument-same action.Configure c q s h =
+      let n : ℕ = clamped (byteOf base (block c) m₀ 0) in
+      let p : 0 < n = omega arith in
+      let k : n ≤ 12 = omega arith in
+      let b : byteAt q (place base (block c) argumentAt) ≡ byteAt m₀ (place base (block c) argumentAt) =
+      behind-same c 0 argumentAt n q (omega arith) (omega arith) s h .bytes (place base (block c) argumentAt) (range-first (place base (block c) argumentAt) n p) in
+      rw b
+  argument-same action.McSetup c q s h =
+      let w : wordAt q (place base (block c) argumentAt) ≡ wordAt m₀ (place base (block c) argumentAt) =
+      same-field 2 (place base (block c) argumentAt) (λ x i. i) (behind-same c 0 argumentAt 2 q (omega arith) (omega arith) (λ x i. s x (in-left _ i)) h) in
+      rw w
+  argument-same action.Tdr c q s h = refl
+  argument-same action.Dump c q s h = refl
+  argument-same action.Diagnose c q s h = refl
