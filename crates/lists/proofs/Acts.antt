@@ -1,37 +1,35 @@
 -- The three ends of the command unit alone, of an action, of a frame gathered and of one that fails: each leads on in its list, and reads bytes
 -- of its command alone. Assumes nothing.
-use mathlib.Core.Path.{_≡_, refl, sym, ap, _∙_, subst}
-use mathlib.Core.Bool.{Bool, true, false}
-use mathlib.Core.List.{List, [], _∷_, _++_, map}
-use Prim.Native.Nat.{ℕ, zero, suc, _+_, _-_, _*_, _≤_, _<_, min, max}
+use mathlib.Core.Path.{_≡_, refl, sym, ap, subst}
+use mathlib.Core.Bool.{false}
+use mathlib.Core.List.{List, [], _∷_}
+use Prim.Native.Nat.{ℕ, _+_, _-_, _≤_, _<_}
 use native.Mathlib.Omega.{arith}
-use lib.Dec.{eqb, leb}
+use lib.Dec.{eqb}
 use lib.ListN.{length}
 use Rattle.memory.specs.Memory.{byteAt, wordAt}
 use Rattle.memory.specs.Address.{place}
 use Rattle.memory.specs.declared.RealAddress.{RealAddress}
-use Rattle.scb.specs.Words.{field}
-use Rattle.device.specs.Limits.{addressLength, mostListed}
-use Rattle.device.specs.Numbers.{transmit, actionOf, actionNumber}
+use Rattle.device.specs.Numbers.{transmit, actionOf}
 use Rattle.device.specs.declared.Action.{Action}
 use Rattle.device.specs.declared.Action.the-variants as action
 use Rattle.device.specs.declared.Begun.{Begun}
 use Rattle.device.specs.declared.Cu.{Cu}
 use Rattle.device.specs.declared.Cu.the-variants as cu
-use Rattle.actions.specs.Actions.{Acted, act, sent, notSent, clamped, byteOf, groups}
-use Rattle.actions.specs.Block.{linkAt, argumentAt, destinationAt}
+use Rattle.actions.specs.Actions.{Acted, act, sent, notSent, clamped, byteOf}
+use Rattle.actions.specs.Block.{argumentAt}
 use Rattle.actions.specs.Setup.{Setup}
 use Rattle.command.specs.Begin.{cmd, begunBy}
 use Rattle.command.specs.End.{end}
 use Rattle.command.specs.Service.{service}
-use Rattle.progress.specs.Machine.{Tag, begun, done, eachOnce}
-use Rattle.progress.specs.Same.{In, there, range, Same}
-use Rattle.progress.proofs.Same.{Sub, sub-nil, in-left, in-right, same-trans, same-part, same-field}
-use Rattle.lists.specs.Uses.{block, from, wordOf, marked, uses, ownBytes, argumentBytes, listedBytes, tdrBytes}
+use Rattle.progress.specs.Machine.{Tag, begun, done}
+use Rattle.progress.specs.Same.{there, Same}
+use Rattle.progress.proofs.Same.{Sub, sub-nil, in-left, same-trans, same-part, same-field}
+use Rattle.lists.specs.Uses.{block, from, wordOf, marked, uses, argumentBytes}
 use Rattle.lists.specs.Unit.{endReads, readsBy}
 use Rattle.lists.proofs.Blocks.{sub-append, range-first, link-in, own-in, marked-same}
 use Rattle.lists.proofs.Stands.{Begins, Lies, Leads, partWith}
-use Rattle.lists.proofs.Ends.{acted-writes, Goes, at-end}
+use Rattle.lists.proofs.Ends.{acted-writes, at-end}
 
 module _ (base : RealAddress) (m₀ : List ℕ) (big : 8192 ≤ length m₀) where
   -- ---- each end leads on
@@ -82,9 +80,9 @@ module _ (base : RealAddress) (m₀ : List ℕ) (big : 8192 ≤ length m₀) whe
   -- ---- what an end reads: the link, and what its kind and its count make the action read
 
   -- a field behind the status word is that of the start
-  behind-same : (c k f n : ℕ) (q : List ℕ) → 2 ≤ f → f + n ≤ 8192 → Sub (from base c f n) (uses base m₀ c)
+  behind-same : (c f n : ℕ) (q : List ℕ) → 2 ≤ f → f + n ≤ 8192 → Sub (from base c f n) (uses base m₀ c)
       → Same (uses base m₀ c) q (marked base m₀ c) → Same (from base c f n) q m₀
-  behind-same c k f n q h t s a = same-trans (same-part s a) (marked-same base m₀ big c f n h t)
+  behind-same c f n q h t s a = same-trans (same-part s a) (marked-same base m₀ big c f n h t)
 
   -- the count that an action reads is that of the start
   argument-same : (a : Action) (c : ℕ) (q : List ℕ) → Sub (argumentBytes a base m₀ c) (uses base m₀ c)
@@ -96,12 +94,26 @@ module _ (base : RealAddress) (m₀ : List ℕ) (big : 8192 ≤ length m₀) whe
       let p : 0 < n = omega arith in
       let k : n ≤ 12 = omega arith in
       let b : byteAt q (place base (block c) argumentAt) ≡ byteAt m₀ (place base (block c) argumentAt) =
-      behind-same c 0 argumentAt n q (omega arith) (omega arith) s h .bytes (place base (block c) argumentAt) (range-first (place base (block c) argumentAt) n p) in
+      behind-same c argumentAt n q (omega arith) (omega arith) s h .bytes (place base (block c) argumentAt) (range-first (place base (block c) argumentAt) n p) in
       rw b
   argument-same action.McSetup c q s h =
       let w : wordAt q (place base (block c) argumentAt) ≡ wordAt m₀ (place base (block c) argumentAt) =
-      same-field 2 (place base (block c) argumentAt) (λ x i. i) (behind-same c 0 argumentAt 2 q (omega arith) (omega arith) (λ x i. s x (in-left _ i)) h) in
+      same-field 2 (place base (block c) argumentAt) (λ x i. i) (behind-same c argumentAt 2 q (omega arith) (omega arith) (λ x i. s x (in-left _ i)) h) in
       rw w
   argument-same action.Tdr c q s h = refl
   argument-same action.Dump c q s h = refl
   argument-same action.Diagnose c q s h = refl
+
+  pub acting-reads : (unit : Cu) (s : Setup) (out : List ℕ) (c : ℕ) (q : List ℕ) (b : Begun) (a : Action) → Begins base m₀ b c q
+      → eqb (cmd (wordOf base m₀ c)) transmit ≡ false → a ≡ actionOf (cmd (wordOf base m₀ c))
+      → Sub (readsBy (cu.Acting b a) (partWith base unit s out) q) (uses base m₀ c)
+  unfolding begunBy
+  acting-reads unit s out c q b a i t e =
+      let k : Action = actionOf (cmd (wordOf base m₀ c)) in
+      let u : Sub (argumentBytes k base m₀ c) (uses base m₀ c) = own-in base m₀ c false t in
+      rw (e, i .begun, argument-same k c q u (i .same)) (sub-append (argumentBytes k base m₀ c) u (link-in base m₀ c))
+
+  pub end-reads : (unit : Cu) (s : Setup) (out : List ℕ) (c : ℕ) (q : List ℕ) (b : Begun) → Begins base m₀ b c q
+      → Sub (endReads (partWith base unit s out) (b .block .0)) (uses base m₀ c)
+  unfolding begunBy
+  end-reads unit s out c q b i = rw (i .begun) (link-in base m₀ c)

@@ -1,8 +1,8 @@
 -- A begin of the command unit alone leads on in its list. Assumes nothing.
-use mathlib.Core.Path.{_≡_, refl, sym, ap, _∙_}
+use mathlib.Core.Path.{_≡_, refl, ap}
 use mathlib.Core.Bool.{Bool, true, false}
-use mathlib.Core.List.{List, [], _∷_, _++_, map}
-use Prim.Native.Nat.{ℕ, suc, _+_, _-_, _*_, _≤_, _<_}
+use mathlib.Core.List.{List, [], _∷_}
+use Prim.Native.Nat.{ℕ, suc, _-_, _*_, _<_}
 use native.Mathlib.Omega.{arith}
 use lib.Dec.{eqb}
 use lib.ListN.{length}
@@ -11,7 +11,7 @@ use Rattle.memory.specs.Address.{place, offsetAt, isNone}
 use Rattle.memory.specs.declared.Offset.{Offset}
 use Rattle.memory.specs.declared.RealAddress.{RealAddress}
 use Rattle.device.specs.Limits.{header, mostBuffers, addressLength, typeLength}
-use Rattle.device.specs.Numbers.{transmit, actionOf}
+use Rattle.device.specs.Numbers.{transmit}
 use Rattle.device.specs.declared.Begun.{Begun}
 use Rattle.device.specs.declared.Cu.{Cu}
 use Rattle.device.specs.declared.Cu.the-variants as cu
@@ -21,12 +21,12 @@ use Rattle.command.specs.Begin.{cmd, begunBy, toFirst, toBegun, begin}
 use Rattle.command.specs.Part.{Part}
 use Rattle.command.specs.Service.{service}
 use Rattle.progress.specs.Machine.{Tag, begun, done, eachOnce}
-use Rattle.progress.specs.Same.{In, range, Same}
+use Rattle.progress.specs.Same.{range, Same}
 use Rattle.progress.proofs.Same.{Sub, sub-nil, in-left, in-right, same-apply, same-field}
-use Rattle.lists.specs.Uses.{block, from, wordOf, marked, uses, chainBytes, firstBytes, transmitBytes, ownBytes, resultBytes, NoClash, Listed}
+use Rattle.lists.specs.Uses.{block, from, wordOf, marked, uses, chainBytes, firstBytes}
 use Rattle.lists.specs.Unit.{beginReads, readsBy}
 use Rattle.lists.proofs.Blocks.{sub-refl, sub-append, command-in, own-in, word-targets, status-result, later}
-use Rattle.lists.proofs.Stands.{todo, rank, Begins, Walks, Now, Lies, Stands, Leads, partWith}
+use Rattle.lists.proofs.Stands.{todo, rank, Begins, Now, Lies, Leads, partWith}
 
 -- ---- the unit that a begin leaves
 

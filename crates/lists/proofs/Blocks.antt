@@ -1,13 +1,13 @@
 -- The bytes of a block and of what its command uses: where they lie, and what the command's own results leave alone. Assumes nothing.
-use mathlib.Core.Path.{_≡_, refl, sym, _∙_}
+use mathlib.Core.Path.{_≡_, sym}
 use mathlib.Core.Logic.{_≢_}
 use mathlib.Core.Bool.{Bool, true, false}
 use mathlib.Core.List.{List, [], _∷_, _++_}
-use Prim.Native.Nat.{ℕ, zero, suc, _+_, _-_, _*_, _%_, _≤_, _<_}
+use Prim.Native.Nat.{ℕ, zero, suc, _+_, _-_, _%_, _≤_, _<_}
 use native.Mathlib.Omega.{arith}
 use lib.Dec.{eqb}
 use lib.ListN.{length}
-use Rattle.memory.specs.Memory.{wordAt, Write, wordTo, bytesTo, apply, digits}
+use Rattle.memory.specs.Memory.{Write, wordTo, apply, digits}
 use Rattle.memory.specs.Address.{place}
 use Rattle.memory.specs.declared.RealAddress.{RealAddress}
 use Rattle.memory.proofs.Laws.{apart, length-apply}
@@ -16,7 +16,7 @@ use Rattle.device.specs.declared.Action.the-variants as action
 use Rattle.actions.specs.Block.{statusAt, commandAt, linkAt, argumentAt}
 use Rattle.command.specs.Begin.{cmd}
 use Rattle.progress.specs.Same.{In, here, there, range, targets, Same}
-use Rattle.progress.proofs.Same.{Sub, sub-nil, each-nil, each-cons, in-left, in-right, same-trans, same-part, apart-writes}
+use Rattle.progress.proofs.Same.{Sub, sub-nil, each-nil, each-cons, in-left, in-right, same-trans, apart-writes}
 use Rattle.lists.specs.Uses.{block, from, wordOf, marked, uses, ownBytes, resultBytes, tdrBytes, listBytes, NoClash}
 
 -- ---- parts of lists

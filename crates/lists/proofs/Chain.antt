@@ -1,8 +1,8 @@
 -- A buffer of the command unit alone leads on in its list: every descriptor counts. Assumes nothing.
-use mathlib.Core.Path.{_≡_, refl, sym, ap, _∙_}
+use mathlib.Core.Path.{_≡_, refl}
 use mathlib.Core.Bool.{Bool, true, false}
-use mathlib.Core.List.{List, [], _∷_, _++_, map}
-use Prim.Native.Nat.{ℕ, zero, suc, _+_, _-_, _*_, _≤_, _<_}
+use mathlib.Core.List.{List, [], _∷_, _++_}
+use Prim.Native.Nat.{ℕ, zero, suc, _+_, _-_, _*_, _<_}
 use native.Mathlib.Omega.{arith}
 use borrow.Author.Tests.{leb-false}
 use lib.Dec.{leb}
@@ -10,22 +10,21 @@ use lib.ListN.{length}
 use Rattle.memory.specs.Address.{place, isNone}
 use Rattle.memory.specs.declared.Offset.{Offset}
 use Rattle.memory.specs.declared.RealAddress.{RealAddress}
-use Rattle.device.specs.Limits.{longest, mostBuffers}
+use Rattle.device.specs.Limits.{mostBuffers}
 use Rattle.device.specs.declared.Begun.{Begun}
 use Rattle.device.specs.declared.Cu.{Cu}
 use Rattle.device.specs.declared.Cu.the-variants as cu
 use Rattle.device.specs.declared.Walk.{Walk}
 use Rattle.actions.specs.Setup.{Setup}
 use Rattle.command.specs.Buffer.{descriptorAt, past, isLast, afterBuffer, fits, buffer}
-use Rattle.command.specs.Part.{Part}
 use Rattle.command.specs.Service.{service}
-use Rattle.progress.specs.Machine.{Tag, begun, done, eachOnce}
-use Rattle.progress.specs.Same.{In, range, Same}
+use Rattle.progress.specs.Machine.{done, eachOnce}
+use Rattle.progress.specs.Same.{range, Same}
 use Rattle.progress.proofs.Same.{Sub, sub-nil, in-left, in-right, same-part, same-field}
 use Rattle.lists.specs.Uses.{marked, uses, descriptorBytes, behind, chainBytes}
 use Rattle.lists.specs.Unit.{dataReads, readsBy}
 use Rattle.lists.proofs.Blocks.{sub-refl, sub-append}
-use Rattle.lists.proofs.Stands.{todo, rank, Begins, Walks, Now, Lies, Stands, Leads, partWith}
+use Rattle.lists.proofs.Stands.{todo, rank, Begins, Walks, Now, Lies, Leads, partWith}
 
 -- ---- a descriptor is the same where its seven bytes are
 
@@ -97,8 +96,8 @@ module _ (base : RealAddress) (m₀ : List ℕ) where
         stands = (
           refl,
           rw e
-          (next-now (fits d w) (d .eof) (isNone (d .next)) (isLast (w .used)) b (range (d .buffer .0) (d .count)) (d .next) (w .used) (w .filled + d .count)
-          c q (k .0) i (k .1) refl (λ a x. k .2 a (in-right (descriptorBytes base (w .next)) x))),
+              (next-now (fits d w) (d .eof) (isNone (d .next)) (isLast (w .used)) b (range (d .buffer .0) (d .count)) (d .next) (w .used) (w .filled + d .count)
+              c q (k .0) i (k .1) refl (λ a x. k .2 a (in-right (descriptorBytes base (w .next)) x))),
           l,
         );
         part = sub-refl (c ∷ cs);

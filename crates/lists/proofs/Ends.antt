@@ -1,50 +1,44 @@
 -- An end of the command unit alone leads on in its list: to the next block, or out of Active after the last. Assumes nothing.
-use mathlib.Core.Path.{_≡_, refl, sym, ap, _∙_}
+use mathlib.Core.Path.{_≡_, refl, ap, _∙_}
 use mathlib.Core.Logic.{_≢_}
 use mathlib.Core.Bool.{Bool, true, false, cond, _||_, true≢false, false≢true}
-use mathlib.Core.List.{List, [], _∷_, _++_, map}
-use Prim.Native.Nat.{ℕ, zero, suc, _+_, _-_, _*_, _%_, _≤_, _<_, min, max}
+use mathlib.Core.List.{List, [], _∷_, _++_}
+use Prim.Native.Nat.{ℕ, _+_, _-_, _*_, _≤_, _<_}
 use native.Mathlib.Omega.{arith}
-use lib.Dec.{eqb, leb}
+use lib.Dec.{eqb}
 use lib.ListN.{length}
-use Rattle.memory.specs.Memory.{byteAt, wordAt, Write, wordTo, apply}
-use Rattle.memory.specs.Address.{place, offsetAt}
+use Rattle.memory.specs.Memory.{wordAt, Write, wordTo, apply}
+use Rattle.memory.specs.Address.{place}
 use Rattle.memory.specs.declared.Offset.{Offset}
 use Rattle.memory.specs.declared.RealAddress.{RealAddress}
-use Rattle.memory.proofs.Laws.{apply-append, length-apply}
-use Rattle.scb.specs.Words.{bit, field}
-use Rattle.device.specs.Limits.{addressLength, mostListed}
-use Rattle.device.specs.Numbers.{transmit, actionOf, actionNumber}
+use Rattle.memory.proofs.Laws.{apply-append}
+use Rattle.scb.specs.Words.{bit}
+use Rattle.device.specs.Numbers.{actionOf, actionNumber}
 use Rattle.device.specs.State.{cuState, isActive}
-use Rattle.device.specs.declared.Action.{Action}
 use Rattle.device.specs.declared.Action.the-variants as action
-use Rattle.device.specs.declared.Begun.{Begun}
 use Rattle.device.specs.declared.Cu.{Cu}
 use Rattle.device.specs.declared.Cu.the-variants as cu
-use Rattle.actions.specs.Actions.{Acted, act, sent, notSent, clamped, byteOf, groups}
-use Rattle.actions.specs.Block.{statusAt, commandAt, linkAt, argumentAt, destinationAt}
+use Rattle.actions.specs.Actions.{Acted, act}
+use Rattle.actions.specs.Block.{statusAt, linkAt, argumentAt}
 use Rattle.actions.specs.Setup.{Setup}
 use Rattle.command.specs.Begin.{cmd, begunBy}
-use Rattle.command.specs.End.{afterEnd, statusTo, results, nextAfter, end}
-use Rattle.command.specs.Part.{Part}
-use Rattle.command.specs.Service.{service}
-use Rattle.progress.specs.Machine.{Tag, begun, done, eachOnce}
-use Rattle.progress.specs.Same.{In, here, there, range, targets, Same}
-use Rattle.progress.proofs.Same.{Sub, sub-nil, in-left, in-right, same-trans, same-part, same-field, apart-writes}
-use Rattle.lists.specs.Uses.{block, from, wordOf, marked, uses, ownBytes, argumentBytes, listedBytes, resultBytes, tdrBytes, NoClash, Listed, stops}
-use Rattle.lists.specs.Unit.{endReads, readsBy}
-use Rattle.lists.proofs.Blocks.{sub-refl, sub-append, range-first, word-targets, targets-append, link-in, own-in, status-result, tdr-result, link-apart, marked-same, marked-size, later}
-use Rattle.lists.proofs.Stands.{todo, rank, Begins, Walks, Now, Lies, Stands, Leads, partWith}
+use Rattle.command.specs.End.{afterEnd, nextAfter}
+use Rattle.progress.specs.Machine.{eachOnce}
+use Rattle.progress.specs.Same.{In, here, there, targets, Same}
+use Rattle.progress.proofs.Same.{Sub, sub-nil, same-trans, same-part, same-field, apart-writes}
+use Rattle.lists.specs.Uses.{block, from, wordOf, marked, uses, resultBytes, tdrBytes, stops}
+use Rattle.lists.proofs.Blocks.{sub-refl, word-targets, targets-append, link-in, status-result, tdr-result, link-apart, marked-same, marked-size, later}
+use Rattle.lists.proofs.Stands.{todo, rank, Lies, Stands, partWith}
 
 -- ---- what an action writes besides the status: TDR its word, and no other anything
 
 act-writes : (b0 b1 b2 b3 b5 b6 : Bool) (base : RealAddress) (s : Setup) (c : ℕ) (m : List ℕ)
     → Sub (targets (act (cond b0 action.Nop
-        (cond b1 action.IaSetup
-        (cond b2 action.Configure
-        (cond b3 action.McSetup
-        (cond b5 action.Tdr
-        (cond b6 action.Dump action.Diagnose)))))) base s (block c) m .writes)) (tdrBytes b5 base c)
+    (cond b1 action.IaSetup
+    (cond b2 action.Configure
+    (cond b3 action.McSetup
+    (cond b5 action.Tdr
+    (cond b6 action.Dump action.Diagnose)))))) base s (block c) m .writes)) (tdrBytes b5 base c)
 unfolding act
 act-writes true b1 b2 b3 b5 b6 base s c m = sub-nil (tdrBytes b5 base c)
 act-writes false true b2 b3 b5 b6 base s c m = sub-nil (tdrBytes b5 base c)
@@ -95,7 +89,7 @@ module _ (base : RealAddress) (m₀ : List ℕ) (big : 8192 ≤ length m₀) whe
   -- the link, read after them, is that of the start
   end-link : (c : ℕ) (ws : List Write) (status : ℕ) (q : List ℕ) → Sub (targets ws) (tdrOf c) → Same (uses base m₀ c) q (marked base m₀ c)
       → wordAt (apply (wordTo (place base (block c) statusAt) status ∷ []) (apply ws q)) (place base (block c) linkAt)
-        ≡ wordAt m₀ (place base (block c) linkAt)
+      ≡ wordAt m₀ (place base (block c) linkAt)
   end-link c ws status q h s =
       let last = wordTo (place base (block c) statusAt) status ∷ [] in
       let n : length q ≡ length m₀ = s .size ∙ marked-size base m₀ c in

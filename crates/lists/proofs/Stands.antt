@@ -1,9 +1,9 @@
 -- The command unit alone at work on a list: what is known of it between two of its services, what is still to be noted, and at most how many
 -- services are left. Assumes nothing.
-use mathlib.Core.Path.{_≡_, refl}
-use mathlib.Core.Bool.{Bool, true, false}
+use mathlib.Core.Path.{_≡_}
+use mathlib.Core.Bool.{false}
 use mathlib.Core.List.{List, [], _∷_, _++_, map}
-use Prim.Native.Nat.{ℕ, suc, _+_, _-_, _*_, _≤_, _<_, pred}
+use Prim.Native.Nat.{ℕ, suc, _+_, _-_, _*_, _<_, pred}
 use lib.Dec.{eqb}
 use lib.ListN.{length}
 use Rattle.memory.specs.Memory.{apply}
