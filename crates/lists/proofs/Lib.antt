@@ -1,4 +1,6 @@
--- A command list is done in list order: the bytes of a block, what is known between two services, and each service in its turn.
+-- A command list is done: the laws of taking turns, the starting attention, list order service by service, and a list that meets the premises.
+pub mod Laws
+pub mod Start
 pub mod Blocks
 pub mod Stands
 pub mod Begins
@@ -6,3 +8,5 @@ pub mod Chain
 pub mod Ends
 pub mod Acts
 pub mod Order
+pub mod Tests
+pub mod Witness
