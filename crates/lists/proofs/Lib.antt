@@ -8,5 +8,6 @@ pub mod Chain
 pub mod Ends
 pub mod Acts
 pub mod Order
+pub mod Whole
 pub mod Tests
 pub mod Witness

@@ -1,0 +1,27 @@
+-- Demand 3, first half, from the starting attention on: 01, "Turns". Assumes nothing.
+use mathlib.Core.Path.{_≡_}
+use mathlib.Core.List.{List}
+use Prim.Native.Nat.{ℕ}
+use Rattle.memory.specs.Memory.{wordAt}
+use Rattle.scb.specs.Words.{cblAt}
+use Rattle.control.specs.Obey.{ofScb}
+use Rattle.chip.specs.World.{World}
+use Rattle.chip.specs.Call.{attention}
+use Rattle.traces.specs.Event.{Event, call, step}
+use Rattle.lists.specs.Uses.{Listed, firstOf}
+use Rattle.lists.specs.Done.{Calm, Starts, Premises, Done}
+use Rattle.lists.proofs.Laws.{calm-laws}
+use Rattle.lists.proofs.Start.{started}
+use Rattle.lists.proofs.Order.{listDone}
+
+-- An attention starts a list: the n blocks from the CBL offset on, up to the first that ends or suspends it, as memory stands after that
+-- attention. Then come turns, arriving frames and host writes, in any order; the host keeps the record, the outgoing area and N; nothing writes
+-- into the list but each command's own results, of which none is a later command's byte. Once 132 n turns have come, all n are done as the
+-- definitions say, once each, in list order, and nothing else is begun
+pub attention-list-done : (bs : List ℕ) (es : List Event) (w : World) → Starts w
+    → firstOf bs ≡ wordAt (w .memory) (ofScb (w .device .units) cblAt)
+    → Listed (step (call attention) w .device .units .base) (step (call attention) w .memory) bs
+    → Premises Calm bs es (step (call attention) w)
+    → Done Calm bs es (step (call attention) w)
+attention-list-done bs es w s first listed premises =
+    listDone Calm calm-laws bs es (step (call attention) w) (started bs w s first listed) premises
