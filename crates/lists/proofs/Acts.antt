@@ -43,7 +43,13 @@ module _ (base : RealAddress) (m₀ : List ℕ) (big : 8192 ≤ length m₀) whe
   acting s out c cs q r h l =
       let a : Acted = act (actionOf (cmd (wordOf base m₀ c))) base s (block c) q in
       let g = at-end base m₀ big c cs a q (acted-writes (cmd (wordOf base m₀ c)) base s c q) h l in
-      record { left = cs; stands = g .stands (a .setup) out; part = λ x i. there i; noted = ap (λ (t : List Tag). done c ∷ t) (g .todo); fewer = g .rank }
+      record {
+        left = cs;
+        stands = g .stands (a .setup) out;
+        part = λ x i. there i;
+        noted = ap (λ (t : List Tag). done c ∷ t) (g .todo);
+        fewer = g .rank;
+      }
 
   ending : (s : Setup) (out : List ℕ) (c : ℕ) (cs q : List ℕ) (r filled : ℕ) → Same (uses base m₀ c) q (marked base m₀ c) → Lies base m₀ c cs q
       → Leads base m₀ (c ∷ cs) (partWith base (cu.Ending (begunAt c) filled) s out) q r
@@ -51,7 +57,13 @@ module _ (base : RealAddress) (m₀ : List ℕ) (big : 8192 ≤ length m₀) whe
   ending s out c cs q r filled h l =
       let a : Acted = sent s filled r in
       let g = at-end base m₀ big c cs a q (sub-nil _) h l in
-      record { left = cs; stands = g .stands (a .setup) out; part = λ x i. there i; noted = ap (λ (t : List Tag). done c ∷ t) (g .todo); fewer = g .rank }
+      record {
+        left = cs;
+        stands = g .stands (a .setup) out;
+        part = λ x i. there i;
+        noted = ap (λ (t : List Tag). done c ∷ t) (g .todo);
+        fewer = g .rank;
+      }
 
   failing : (s : Setup) (out : List ℕ) (c : ℕ) (cs q : List ℕ) (r : ℕ) → Same (uses base m₀ c) q (marked base m₀ c) → Lies base m₀ c cs q
       → Leads base m₀ (c ∷ cs) (partWith base (cu.Failing (begunAt c)) s out) q r
@@ -59,7 +71,13 @@ module _ (base : RealAddress) (m₀ : List ℕ) (big : 8192 ≤ length m₀) whe
   failing s out c cs q r h l =
       let a : Acted = notSent s in
       let g = at-end base m₀ big c cs a q (sub-nil _) h l in
-      record { left = cs; stands = g .stands (a .setup) out; part = λ x i. there i; noted = ap (λ (t : List Tag). done c ∷ t) (g .todo); fewer = g .rank }
+      record {
+        left = cs;
+        stands = g .stands (a .setup) out;
+        part = λ x i. there i;
+        noted = ap (λ (t : List Tag). done c ∷ t) (g .todo);
+        fewer = g .rank;
+      }
 
   pub at-acting : (s : Setup) (out : List ℕ) (c : ℕ) (cs q : List ℕ) (r : ℕ) (b : Begun) (a : Action) → Begins base m₀ b c q
       → a ≡ actionOf (cmd (wordOf base m₀ c)) → Lies base m₀ c cs q → Leads base m₀ (c ∷ cs) (partWith base (cu.Acting b a) s out) q r
@@ -70,12 +88,14 @@ module _ (base : RealAddress) (m₀ : List ℕ) (big : 8192 ≤ length m₀) whe
   pub at-ending : (s : Setup) (out : List ℕ) (c : ℕ) (cs q : List ℕ) (r : ℕ) (b : Begun) (filled : ℕ) → Begins base m₀ b c q
       → Lies base m₀ c cs q → Leads base m₀ (c ∷ cs) (partWith base (cu.Ending b filled) s out) q r
   at-ending s out c cs q r b filled i l =
-      subst (λ (x : Begun). Leads base m₀ (c ∷ cs) (partWith base (cu.Ending x filled) s out) q r) (sym (i .begun)) (ending s out c cs q r filled (i .same) l)
+      subst (λ (x : Begun). Leads base m₀ (c ∷ cs) (partWith base (cu.Ending x filled) s out) q r) (sym (i .begun))
+      (ending s out c cs q r filled (i .same) l)
 
   pub at-failing : (s : Setup) (out : List ℕ) (c : ℕ) (cs q : List ℕ) (r : ℕ) (b : Begun) → Begins base m₀ b c q
       → Lies base m₀ c cs q → Leads base m₀ (c ∷ cs) (partWith base (cu.Failing b) s out) q r
   at-failing s out c cs q r b i l =
-      subst (λ (x : Begun). Leads base m₀ (c ∷ cs) (partWith base (cu.Failing x) s out) q r) (sym (i .begun)) (failing s out c cs q r (i .same) l)
+      subst (λ (x : Begun). Leads base m₀ (c ∷ cs) (partWith base (cu.Failing x) s out) q r) (sym (i .begun))
+      (failing s out c cs q r (i .same) l)
 
   -- ---- what an end reads: the link, and what its kind and its count make the action read
 
@@ -93,12 +113,13 @@ module _ (base : RealAddress) (m₀ : List ℕ) (big : 8192 ≤ length m₀) whe
       let n : ℕ = clamped (byteOf base (block c) m₀ 0) in
       let p : 0 < n = omega arith in
       let k : n ≤ 12 = omega arith in
-      let b : byteAt q (place base (block c) argumentAt) ≡ byteAt m₀ (place base (block c) argumentAt) =
-      behind-same c argumentAt n q (omega arith) (omega arith) s h .bytes (place base (block c) argumentAt) (range-first (place base (block c) argumentAt) n p) in
+      let at : ℕ = place base (block c) argumentAt in
+      let b : byteAt q at ≡ byteAt m₀ at = behind-same c argumentAt n q (omega arith) (omega arith) s h .bytes at (range-first at n p) in
       rw b
   argument-same action.McSetup c q s h =
-      let w : wordAt q (place base (block c) argumentAt) ≡ wordAt m₀ (place base (block c) argumentAt) =
-      same-field 2 (place base (block c) argumentAt) (λ x i. i) (behind-same c argumentAt 2 q (omega arith) (omega arith) (λ x i. s x (in-left _ i)) h) in
+      let at : ℕ = place base (block c) argumentAt in
+      let w : wordAt q at ≡ wordAt m₀ at =
+      same-field 2 at (λ x i. i) (behind-same c argumentAt 2 q (omega arith) (omega arith) (λ x i. s x (in-left _ i)) h) in
       rw w
   argument-same action.Tdr c q s h = refl
   argument-same action.Dump c q s h = refl

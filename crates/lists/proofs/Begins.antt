@@ -35,7 +35,8 @@ first-todo : (none : Bool) (b : Begun) (o : Offset) (c : ℕ) (cs : List ℕ) �
 first-todo true b o c cs = refl
 first-todo false b o c cs = refl
 
-begun-todo : (t : Bool) (p : Part) (b : Begun) (word : ℕ) (m : List ℕ) (c : ℕ) (cs : List ℕ) → todo (toBegun t p b word m .unit) (c ∷ cs) ≡ done c ∷ eachOnce cs
+begun-todo : (t : Bool) (p : Part) (b : Begun) (word : ℕ) (m : List ℕ) (c : ℕ) (cs : List ℕ)
+    → todo (toBegun t p b word m .unit) (c ∷ cs) ≡ done c ∷ eachOnce cs
 begun-todo true p b word m c cs =
     let first = offsetAt m (place (p .base) (b .block) argumentAt) in first-todo (isNone first) b first c cs
 begun-todo false p b word m c cs = refl
@@ -127,7 +128,9 @@ module _ (base : RealAddress) (m₀ : List ℕ) where
           record {
             listed = l .listed;
             apart = l .apart;
-            later = later base m₀ c ws cs q (λ a i. status-result base m₀ c a (word-targets (place base (block c) statusAt) 0x4000 a i)) (h .size) (l .apart) (l .later);
+            later =
+                later base m₀ c ws cs q (λ a i. status-result base m₀ c a (word-targets (place base (block c) statusAt) 0x4000 a i))
+                (h .size) (l .apart) (l .later);
           },
         );
         part = sub-refl (c ∷ cs);

@@ -84,7 +84,8 @@ pub link-in : (base : RealAddress) (m : List ℕ) (c : ℕ) → Sub (from base c
 unfolding uses range
 link-in base m c a i = in-right (from base c statusAt 2) (in-right (from base c commandAt 2) (in-left _ i))
 
-pub own-in : (base : RealAddress) (m : List ℕ) (c : ℕ) (t : Bool) → eqb (cmd (wordOf base m c)) transmit ≡ t → Sub (ownBytes t base m c) (uses base m c)
+pub own-in : (base : RealAddress) (m : List ℕ) (c : ℕ) (t : Bool) → eqb (cmd (wordOf base m c)) transmit ≡ t
+    → Sub (ownBytes t base m c) (uses base m c)
 unfolding uses range
 own-in base m c t e =
     rw (← e) (λ a i. in-right (from base c statusAt 2) (in-right (from base c commandAt 2) (in-right (from base c linkAt 2) i)))
@@ -102,11 +103,13 @@ tdr-result base m c a i = in-right (from base c statusAt 2) i
 -- ---- what a command's own results leave alone
 
 -- results reach no field that lies between the status word and +6
-tdr-apart : (t : Bool) (n : ℕ) → 8192 ≤ n → (base : RealAddress) (c x y : ℕ) → In x (from base c linkAt 2) → In y (tdrBytes t base c) → x % n ≢ y % n
+tdr-apart : (t : Bool) (n : ℕ) → 8192 ≤ n → (base : RealAddress) (c x y : ℕ)
+    → In x (from base c linkAt 2) → In y (tdrBytes t base c) → x % n ≢ y % n
 tdr-apart true n big base c x y i j e = fields-apart n big base c argumentAt 2 linkAt 2 (omega arith) (omega arith) y x j i (sym e)
 tdr-apart false n big base c x y i j e = each-nil (λ z. ⊥) y j
 
-pub link-apart : (n : ℕ) → 8192 ≤ n → (base : RealAddress) (m : List ℕ) (c x y : ℕ) → In x (from base c linkAt 2) → In y (resultBytes base m c) → x % n ≢ y % n
+pub link-apart : (n : ℕ) → 8192 ≤ n → (base : RealAddress) (m : List ℕ) (c x y : ℕ)
+    → In x (from base c linkAt 2) → In y (resultBytes base m c) → x % n ≢ y % n
 unfolding resultBytes
 link-apart n big base m c x y i j =
     each-append (λ z. x % n ≢ z % n) (from base c statusAt 2)
@@ -114,7 +117,8 @@ link-apart n big base m c x y i j =
     (λ z k. tdr-apart (eqb (cmd (wordOf base m c)) (actionNumber action.Tdr)) n big base c x z i k) y j
 
 -- begun or not, a block is the same behind its status word
-pub marked-same : (base : RealAddress) (m : List ℕ) → 8192 ≤ length m → (c f k : ℕ) → 2 ≤ f → f + k ≤ 8192 → Same (from base c f k) (marked base m c) m
+pub marked-same : (base : RealAddress) (m : List ℕ) → 8192 ≤ length m → (c f k : ℕ) → 2 ≤ f → f + k ≤ 8192
+    → Same (from base c f k) (marked base m c) m
 unfolding marked
 marked-same base m big c f k h t =
     apart-writes (from base c f k) (wordTo (place base (block c) statusAt) 0x4000 ∷ []) m

@@ -28,7 +28,8 @@ use Rattle.lists.proofs.Stands.{todo, rank, Begins, Walks, Now, Lies, L
 
 -- ---- a descriptor is the same where its seven bytes are
 
-pub same-descriptor : (base : RealAddress) (o : Offset) (m q : List ℕ) → Same (descriptorBytes base o) m q → descriptorAt base o m ≡ descriptorAt base o q
+pub same-descriptor : (base : RealAddress) (o : Offset) (m q : List ℕ) → Same (descriptorBytes base o) m q
+    → descriptorAt base o m ≡ descriptorAt base o q
 unfolding descriptorAt
 same-descriptor base o m q h =
     rw (
@@ -96,7 +97,8 @@ module _ (base : RealAddress) (m₀ : List ℕ) where
         stands = (
           refl,
           rw e
-              (next-now (fits d w) (d .eof) (isNone (d .next)) (isLast (w .used)) b (range (d .buffer .0) (d .count)) (d .next) (w .used) (w .filled + d .count)
+              (next-now (fits d w) (d .eof) (isNone (d .next)) (isLast (w .used)) b (range (d .buffer .0) (d .count)) (d .next)
+              (w .used) (w .filled + d .count)
               c q (k .0) i (k .1) refl (λ a x. k .2 a (in-right (descriptorBytes base (w .next)) x))),
           l,
         );
@@ -120,4 +122,5 @@ module _ (base : RealAddress) (m₀ : List ℕ) where
       let chain = chainBytes (k .0) base (marked base m₀ c) (d .next) (w .filled + d .count) in
       rw e
       (sub-append (descriptorBytes base (w .next)) (λ a x. k .2 a (in-left _ x))
-      (λ a x. k .2 a (in-right (descriptorBytes base (w .next)) (data-in (fits d w) (d .eof) (isNone (d .next)) (d .buffer .0) (d .count) chain a x))))
+      (λ a x. k .2 a (in-right (descriptorBytes base (w .next))
+      (data-in (fits d w) (d .eof) (isNone (d .next)) (d .buffer .0) (d .count) chain a x))))

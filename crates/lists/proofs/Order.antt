@@ -35,7 +35,8 @@ module _ (base : RealAddress) (m₀ : List ℕ) (big : 8192 ≤ length m₀) whe
   next-at cu.Idle s out c cs q r now l = absurd now
   next-at (cu.Suspended o) s out c cs q r now l = absurd now
   next-at (cu.Waiting o) s out c cs q r now l =
-      subst (λ (x : Offset). Leads base m₀ (c ∷ cs) (partWith base (cu.Waiting x) s out) q r) (sym (now .0)) (at-begin base m₀ s out c cs q r (now .1) l)
+      subst (λ (x : Offset). Leads base m₀ (c ∷ cs) (partWith base (cu.Waiting x) s out) q r) (sym (now .0))
+      (at-begin base m₀ s out c cs q r (now .1) l)
   next-at (cu.Acting b a) s out c cs q r now l = at-acting base m₀ big s out c cs q r b a (now .0) (now .2) l
   next-at (cu.Sending b w) s out c cs q r now l = at-buffer base m₀ s out c cs q r b w (now .0) (now .1) l
   next-at (cu.Ending b n) s out c cs q r now l = at-ending base m₀ big s out c cs q r b n now l
@@ -140,7 +141,8 @@ module _ (May : Event → World → Type 0) where
       let base = w .device .units .base in
       let p = partOf (w .device) (w .outgoing) in
       let o = ordered (machine May) (listing base (w .memory) big May bs) rs bs p (w .memory) (st, sub-refl bs) live in
-      covers-at base (w .memory) big bs (o .0) (part′ (machine May) rs p (w .memory)) (mem′ (machine May) rs p (w .memory)) (o .1 .0 .0) (o .1 .0 .1) act
+      covers-at base (w .memory) big bs (o .0) (part′ (machine May) rs p (w .memory)) (mem′ (machine May) rs p (w .memory))
+      (o .1 .0 .0) (o .1 .0 .1) act
 
   -- Let a list of the blocks bs be started, the last the first that ends or suspends it; let no result be a byte of a later command; let the
   -- events of a trace be such as may occur, and nothing write into the list, as it stands at the start, but each command's own results. Once
