@@ -11,3 +11,4 @@ pub mod Order
 pub mod Whole
 pub mod Tests
 pub mod Witness
+pub mod Exact
