@@ -8,7 +8,7 @@ pub mod Chain
 pub mod Ends
 pub mod Acts
 pub mod Order
-pub mod Whole
 pub mod Tests
 pub mod Witness
 pub mod Exact
+pub mod Whole
