@@ -47,17 +47,17 @@ abbrev before : World
 before = told (step (call attention) cold)
 
 -- the starting attention
-abbrev begun : World
+abbrev pub begun : World
 begun = step (call attention) before
 
 starts : Starts before
 unfolding keptb
 starts = record { initialised = refl; unreset = refl; start = refl; idle = refl }
 
-abbrev three : List ℕ
+abbrev pub three : List ℕ
 three = 0x18 ∷ 0x32 ∷ 0x3A ∷ []
 
-is-started : Started three begun
+pub is-started : Started three begun
 unfolding keptb
 is-started = started three before starts refl (refl, refl, (refl, refl, refl))
 
@@ -96,7 +96,7 @@ abbrev busy : List Event
 busy = early ++ (writes middle ∷ late)
 
 -- and turns without work up to 396
-abbrev trace : List Event
+abbrev pub trace : List Event
 trace = busy ++ replicate 383 (call (turn 0))
 
 kept-busy : Kept (machine Calm) (bytesOf begun three) busy begun
