@@ -1,0 +1,128 @@
+-- Demand 3, first half, over the calls on the areas that are lent: refused calls stand anywhere and count for nothing. Assumes nothing: that a
+-- record which a call leaves holds the state which it leaves is `Carries`, an argument of each statement here.
+use mathlib.Core.Path.{_≡_, refl, sym, ap, _∙_, subst}
+use mathlib.Core.Bool.{Bool, true, false, true≢false, false≢true}
+use mathlib.Core.List.{List, [], _∷_}
+use Prim.Native.Nat.{ℕ, _+_, _*_, _≤_}
+use native.Mathlib.Nat.{zero-add}
+use lib.ListN.{length}
+use Rattle.memory.specs.Memory.{wordAt}
+use Rattle.memory.specs.Size.{sizeAllowed}
+use Rattle.memory.proofs.Power.{allowed}
+use Rattle.scb.specs.Words.{cblAt}
+use Rattle.device.specs.declared.Device.{Device}
+use Rattle.control.specs.Obey.{ofScb}
+use Rattle.chip.specs.Call.{Call, attention}
+use Rattle.chip.specs.Attention.{attentionOf}
+use Rattle.chip.specs.World.{World}
+use Rattle.lentoquist.specs.Calls.{Areas, Called, packed, attentionCall}
+use Rattle.lentoquist.proofs.Laws.{bad-size}
+use Rattle.traces.specs.Bytes.{called, isRefused}
+use Rattle.traces.specs.Event.{Event, call, host, step, isTurn}
+use Rattle.progress.specs.Machine.{Mays, run, turns, bit}
+use Rattle.lists.specs.Uses.{Listed, firstOf}
+use Rattle.lists.specs.Unit.{machine}
+use Rattle.lists.specs.Done.{Calm, Starts, Premises, Done}
+use Rattle.lists.specs.Lent.{Lending, refusedAt, leftBy, left, countsBy, turnsOf, eventsBy, eventsOf, worldIn, Carried, Carries, Shows, Lends, LendsBy, AllLend, LentPremises}
+use Rattle.lists.proofs.Start.{begins}
+use Rattle.lists.proofs.Whole.{attention-list-done}
+
+-- ---- turns that are not refused
+
+turns-by : (r : Bool) (l : Lending) (ls : List Lending) (w : World)
+    → ((v : World) → turns (λ e x. isTurn e) step (eventsOf ls) v ≡ turnsOf ls)
+    → turns (λ e x. isTurn e) step (eventsBy r l (eventsOf ls)) w ≡ countsBy r (l .made) + turnsOf ls
+turns-by true l ls w f = f w ∙ sym (zero-add (turnsOf ls))
+turns-by false l ls w f =
+    zero-add _ ∙ ap (λ (n : ℕ). bit (isTurn (call (l .made))) + n)
+    (f (step (call (l .made)) (step (host (l .lent .memory) (l .lent .holding) (l .lent .outgoing)) w)))
+
+pub turns-same : (ls : List Lending) (w : World) → turns (λ e x. isTurn e) step (eventsOf ls) w ≡ turnsOf ls
+turns-same [] w = refl
+turns-same (l ∷ ls) w = turns-by (refusedAt l) l ls w (turns-same ls)
+
+-- ---- an attention that is not refused has an allowed N
+
+size-by : (b : Bool) (a : Areas) → sizeAllowed (length (a .memory)) ≡ b → isRefused (called attention a) ≡ false → b ≡ true
+unfolding attentionCall packed
+size-by true a s r = refl
+size-by false a s r = absurd (true≢false (sym (ap isRefused (bad-size a [] attentionOf s)) ∙ r))
+
+size-least : (a : Areas) → isRefused (called attention a) ≡ false → 8192 ≤ length (a .memory)
+size-least a r = allowed (length (a .memory)) (size-by (sizeAllowed (length (a .memory))) a refl r) .least
+
+module _ (C : Carries) where
+  open Carries C using (Holds, Given, carry)
+
+  -- ---- the areas show the state, all along a trace
+
+  -- a call that is not refused, on areas with the record of a state
+  call-shows : (c : Call) (a : Areas) (d : Device) → Carried Holds c d a → Shows C (called c a .areas) (step (call c) (worldIn d a))
+  call-shows c a d k =
+      record {
+        memory = ap (λ (x : Called). x .areas .memory) (k .same);
+        holding = ap (λ (x : Called). x .areas .holding) (k .same);
+        outgoing = ap (λ (x : Called). x .areas .outgoing) (k .same);
+        kept = k .holds;
+      }
+
+  next-shows : (l : Lending) (a : Areas) (w : World) → refusedAt l ≡ false → Lends C l a → Shows C a w
+      → Shows C (called (l .made) (l .lent) .areas) (step (call (l .made)) (worldIn (w .device) (l .lent)))
+  next-shows l a w r k s =
+      call-shows (l .made) (l .lent) (w .device)
+      (carry (l .made) (l .lent) (w .device) (k .given) (subst (λ (x : List ℕ). Holds x (w .device)) (sym (k .record-kept)) (s .kept)) r)
+
+  shows-by : (r : Bool) (l : Lending) (ls : List Lending) (a : Areas) (w : World) → refusedAt l ≡ r → LendsBy C r l a → Shows C a w
+      → AllLend C ls (leftBy r l a)
+      → ((b : Areas) (v : World) → AllLend C ls b → Shows C b v → Shows C (left ls b) (run (machine Calm) (eventsOf ls) v))
+      → Shows C (left ls (leftBy r l a)) (run (machine Calm) (eventsBy r l (eventsOf ls)) w)
+  shows-by true l ls a w e k s m f = f a w m s
+  shows-by false l ls a w e k s m f =
+      f (called (l .made) (l .lent) .areas) (step (call (l .made)) (worldIn (w .device) (l .lent))) m (next-shows l a w e k s)
+
+  pub shows : (ls : List Lending) (a : Areas) (w : World) → AllLend C ls a → Shows C a w → Shows C (left ls a) (run (machine Calm) (eventsOf ls) w)
+  shows [] a w m s = s
+  shows (l ∷ ls) a w m s = shows-by (refusedAt l) l ls a w refl (m .0) s (m .1) (λ b v n t. shows ls b v n t)
+
+  -- ---- its events may occur
+
+  mays-by : (r : Bool) (l : Lending) (ls : List Lending) (a : Areas) (w : World) → refusedAt l ≡ r → LendsBy C r l a → Shows C a w
+      → AllLend C ls (leftBy r l a)
+      → ((b : Areas) (v : World) → AllLend C ls b → Shows C b v → Mays (machine Calm) (eventsOf ls) v)
+      → Mays (machine Calm) (eventsBy r l (eventsOf ls)) w
+  mays-by true l ls a w e k s m f = f a w m s
+  mays-by false l ls a w e k s m f = (
+    (refl, k .outgoing-kept ∙ s .outgoing),
+    (
+      (k .calm, tt),
+      f (called (l .made) (l .lent) .areas) (step (call (l .made)) (worldIn (w .device) (l .lent))) m (next-shows l a w e k s),
+    ),
+  )
+
+  mays : (ls : List Lending) (a : Areas) (w : World) → AllLend C ls a → Shows C a w → Mays (machine Calm) (eventsOf ls) w
+  mays [] a w m s = tt
+  mays (l ∷ ls) a w m s = mays-by (refusedAt l) l ls a w refl (m .0) s (m .1) (λ b v n t. mays ls b v n t)
+
+  -- ---- the whole
+
+  -- The starting attention is not refused; a is what it is lent, d the state of the record. Then come calls, refused or not, each with what it
+  -- is lent. Once 132 n turns have come that are not refused, the list is done; and what stands in the areas, the record among them, is what
+  -- the definitions leave
+  pub lent-list-done : (bs : List ℕ) (ls : List Lending) (a : Areas) (d : Device) → Given attention a → Holds (a .kept) d
+      → isRefused (called attention a) ≡ false → Starts (worldIn d a) → firstOf bs ≡ wordAt (a .memory) (ofScb (d .units) cblAt)
+      → Listed (step (call attention) (worldIn d a) .device .units .base) (step (call attention) (worldIn d a) .memory) bs
+      → LentPremises C bs ls (called attention a .areas) (step (call attention) (worldIn d a))
+      → Done Calm bs (eventsOf ls) (step (call attention) (worldIn d a))
+      × Shows C (left ls (called attention a .areas)) (run (machine Calm) (eventsOf ls) (step (call attention) (worldIn d a)))
+  lent-list-done bs ls a d g h r s first listed p =
+      let w = worldIn d a in
+      let b = called attention a .areas in
+      let v = step (call attention) w in
+      let t : Shows C b v = call-shows attention a d (carry attention a d g h r) in
+      let least : 8192 ≤ length (v .memory) = subst (λ (n : ℕ). 8192 ≤ n) (sym (begins w s .size)) (size-least a r) in
+      let count : 132 * length bs ≤ turns (λ e x. isTurn e) step (eventsOf ls) v =
+      subst (λ (n : ℕ). 132 * length bs ≤ n) (sym (turns-same ls v)) (p .turns) in (
+        attention-list-done bs (eventsOf ls) w s first listed
+            (record { size = least; apart = p .apart; events = mays ls b v (p .lends) t; kept = p .intact; turns = count }),
+        shows ls b v (p .lends) t,
+      )
