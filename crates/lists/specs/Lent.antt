@@ -10,10 +10,10 @@ use Rattle.chip.specs.World.{World, worldOf}
 use Rattle.lentoquist.specs.Calls.{Areas, keptBy}
 use Rattle.traces.specs.Bytes.{called, isRefused}
 use Rattle.traces.specs.Event.{Event, call, host, isTurn, isCalm}
-use Rattle.progress.specs.Machine.{bit, Kept}
+use Rattle.progress.specs.Machine.{bit, Kept, Mays}
 use Rattle.lists.specs.Uses.{NoClash}
 use Rattle.lists.specs.Unit.{machine}
-use Rattle.lists.specs.Done.{Calm, bytesOf}
+use Rattle.lists.specs.Done.{bytesOf}
 
 -- ---- a trace of calls, each with what it is lent
 
@@ -77,15 +77,11 @@ module _ (C : Carries) where
     pub outgoing : a .outgoing ≡ w .outgoing
     pub kept : Holds (a .kept) (w .device)
 
-  -- a call that is not refused is neither attention nor reset, and finds record and outgoing area as they stand (N: in `intact` below);
-  -- memory may be changed outside of the list, the holding area as the host likes
+  -- a call that is not refused is lent bytes, and finds the record as it stands; nothing is asked of a refused one
   pub record Lends (l : Lending) (a : Areas) : Type 0 where
     pub given : Given (l .made) (l .lent)
-    pub calm : isCalm (call (l .made)) ≡ true
     pub record-kept : l .lent .kept ≡ a .kept
-    pub outgoing-kept : l .lent .outgoing ≡ a .outgoing
 
-  -- nothing is asked of a refused call
   abbrev pub LendsBy : (refused : Bool) → Lending → Areas → Type 0
   LendsBy true l a = Unit {0}
   LendsBy false l a = Lends l a
@@ -94,10 +90,26 @@ module _ (C : Carries) where
   AllLend [] a = Unit {0}
   AllLend (l ∷ ls) a = LendsBy (refusedAt l) l a × AllLend ls (leftBy (refusedAt l) l a)
 
-  -- the blocks bs; the trace ls; a, what the starting attention left; v, the state that a shows
-  pub record LentPremises (bs : List ℕ) (ls : List Lending) (a : Areas) (v : World) : Type 0 where
+  -- the blocks bs; the trace ls; a, what the starting attention left; v, the state that a shows; May says which events may occur
+  pub record LentPremises (May : Event → World → Type 0) (bs : List ℕ) (ls : List Lending) (a : Areas) (v : World) : Type 0 where
     pub lends : AllLend ls a
+    pub events : Mays (machine May) (eventsOf ls) v
     pub apart : NoClash (length (v .memory)) (v .device .units .base) (v .memory) bs
     -- nothing writes into the list but each command's own results, neither the host between calls nor a call; N stays
-    pub intact : Kept (machine Calm) (bytesOf v bs) (eventsOf ls) v
+    pub intact : Kept (machine May) (bytesOf v bs) (eventsOf ls) v
     pub turns : 132 * length bs ≤ turnsOf ls
+
+-- ---- no attention, no reset; the outgoing area is kept
+
+-- a call that is not refused finds the outgoing area as it stands; memory may be changed outside of the list, the holding area as the host likes
+pub record CalmlyLends (l : Lending) (a : Areas) : Type 0 where
+  pub calm : isCalm (call (l .made)) ≡ true
+  pub outgoing-kept : l .lent .outgoing ≡ a .outgoing
+
+abbrev pub CalmlyBy : (refused : Bool) → Lending → Areas → Type 0
+CalmlyBy true l a = Unit {0}
+CalmlyBy false l a = CalmlyLends l a
+
+abbrev pub AllCalmly : List Lending → Areas → Type 0
+AllCalmly [] a = Unit {0}
+AllCalmly (l ∷ ls) a = CalmlyBy (refusedAt l) l a × AllCalmly ls (leftBy (refusedAt l) l a)
