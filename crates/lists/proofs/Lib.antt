@@ -13,3 +13,4 @@ pub mod Witness
 pub mod Exact
 pub mod Whole
 pub mod Bytes
+pub mod Lift
