@@ -12,3 +12,4 @@ pub mod Tests
 pub mod Witness
 pub mod Exact
 pub mod Whole
+pub mod Bytes
