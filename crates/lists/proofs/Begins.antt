@@ -25,6 +25,7 @@ use Rattle.progress.specs.Same.{range, Same}
 use Rattle.progress.proofs.Same.{Sub, sub-nil, in-left, in-right, same-apply, same-field}
 use Rattle.lists.specs.Uses.{block, from, wordOf, marked, uses, chainBytes, firstBytes}
 use Rattle.lists.specs.Unit.{beginReads, readsBy}
+use Rattle.lists.proofs.Laws.{begun-base}
 use Rattle.lists.proofs.Blocks.{sub-refl, sub-append, command-in, own-in, word-targets, status-result, later}
 use Rattle.lists.proofs.Stands.{todo, rank, Begins, Now, Lies, Leads, partWith}
 
@@ -49,10 +50,6 @@ begun-rank : (t : Bool) (p : Part) (b : Begun) (word : ℕ) (m : List ℕ) (k : 
 begun-rank true p b word m k =
     let first = offsetAt m (place (p .base) (b .block) argumentAt) in first-rank (isNone first) b first k
 begun-rank false p b word m k = omega arith
-
-begun-base : (t : Bool) (p : Part) (b : Begun) (word : ℕ) (m : List ℕ) → toBegun t p b word m .base ≡ p .base
-begun-base true p b word m = refl
-begun-base false p b word m = refl
 
 module _ (base : RealAddress) (m₀ : List ℕ) where
   first-now : (none : Bool) (b : Begun) (o : Offset) (c : ℕ) (q : List ℕ) → Begins base m₀ b c q

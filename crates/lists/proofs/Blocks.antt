@@ -39,12 +39,12 @@ in-list base m (there {b = b} j) a i = in-right (uses base m b) (in-list base m 
 -- ---- runs of addresses
 
 -- a run's addresses are from its first on, so many
-pub in-range : (a n : ℕ) (x : ℕ) → In x (range a n) → (a ≤ x) × (x < a + n)
+pub in-bounds : (a n : ℕ) (x : ℕ) → In x (range a n) → (a ≤ x) × (x < a + n)
 unfolding range
-in-range a zero = each-nil (λ x. (a ≤ x) × (x < a + 0))
-in-range a (suc n) =
+in-bounds a zero = each-nil (λ x. (a ≤ x) × (x < a + 0))
+in-bounds a (suc n) =
     each-cons (λ x. (a ≤ x) × (x < a + suc n)) (omega arith, omega arith)
-    (λ x i. let h = in-range (suc a) n x i in (omega (arith, h .0), omega (arith, h .1)))
+    (λ x i. let h = in-bounds (suc a) n x i in (omega (arith, h .0), omega (arith, h .1)))
 
 -- the first address of a run that is not empty
 pub range-first : (a n : ℕ) → 0 < n → In a (range a n)
@@ -70,8 +70,8 @@ pub fields-apart : (n : ℕ) → 8192 ≤ n → (base : RealAddress) (c f k g l 
     → (x y : ℕ) → In x (from base c f k) → In y (from base c g l) → x % n ≢ y % n
 unfolding place
 fields-apart n big base c f k g l h t x y i j e =
-    let p = in-range (place base (block c) f) k x i in
-    let r = in-range (place base (block c) g) l y j in
+    let p = in-bounds (place base (block c) f) k x i in
+    let r = in-bounds (place base (block c) g) l y j in
     let s : y + (x - y) ≡ x = omega (arith, p .0, r .1) in
     apart y (x - y) n (omega (arith, p .0, r .1)) (omega (arith, p .1, r .0)) (rw s e)
 

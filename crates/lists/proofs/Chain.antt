@@ -1,13 +1,13 @@
 -- A buffer of the command unit alone leads on in its list: every descriptor counts. Assumes nothing.
 use mathlib.Core.Path.{_≡_, refl}
 use mathlib.Core.Bool.{Bool, true, false}
-use mathlib.Core.List.{List, [], _∷_, _++_}
+use mathlib.Core.List.{List, [], _∷_}
 use Prim.Native.Nat.{ℕ, zero, suc, _+_, _-_, _*_, _<_}
 use native.Mathlib.Omega.{arith}
 use borrow.Author.Tests.{leb-false}
 use lib.Dec.{leb}
 use lib.ListN.{length}
-use Rattle.memory.specs.Address.{place, isNone}
+use Rattle.memory.specs.Address.{isNone}
 use Rattle.memory.specs.declared.Offset.{Offset}
 use Rattle.memory.specs.declared.RealAddress.{RealAddress}
 use Rattle.device.specs.Limits.{mostBuffers}
@@ -20,23 +20,12 @@ use Rattle.command.specs.Buffer.{descriptorAt, past, isLast, afterBuffer, fits,
 use Rattle.command.specs.Service.{service}
 use Rattle.progress.specs.Machine.{done, eachOnce}
 use Rattle.progress.specs.Same.{range, Same}
-use Rattle.progress.proofs.Same.{Sub, sub-nil, in-left, in-right, same-part, same-field}
+use Rattle.progress.proofs.Same.{Sub, sub-nil, in-left, in-right, same-part}
 use Rattle.lists.specs.Uses.{marked, uses, descriptorBytes, behind, chainBytes}
 use Rattle.lists.specs.Unit.{dataReads, readsBy}
+use Rattle.lists.proofs.Laws.{descriptor-local}
 use Rattle.lists.proofs.Blocks.{sub-refl, sub-append}
 use Rattle.lists.proofs.Stands.{todo, rank, Begins, Walks, Now, Lies, Leads, partWith}
-
--- ---- a descriptor is the same where its seven bytes are
-
-pub same-descriptor : (base : RealAddress) (o : Offset) (m q : List ℕ) → Same (descriptorBytes base o) m q
-    → descriptorAt base o m ≡ descriptorAt base o q
-unfolding descriptorAt
-same-descriptor base o m q h =
-    rw (
-      same-field 2 (place base o 0) (λ a i. in-left (range (place base o 4) 3) (in-left (range (place base o 2) 2) i)) h,
-      same-field 2 (place base o 2) (λ a i. in-left (range (place base o 4) 3) (in-right (range (place base o 0) 2) i)) h,
-      same-field 3 (place base o 4) (λ a i. in-right (range (place base o 0) 2 ++ range (place base o 2) 2) i) h,
-    )
 
 -- ---- the unit that a buffer leaves, by its tests
 
@@ -83,7 +72,7 @@ module _ (base : RealAddress) (m₀ : List ℕ) where
   pub descriptor-same : (j c : ℕ) (w : Walk) (q : List ℕ) → Same (uses base m₀ c) q (marked base m₀ c)
       → Sub (chainOf j c w) (uses base m₀ c) → descriptorAt base (w .next) q ≡ descriptorAt base (w .next) (marked base m₀ c)
   descriptor-same j c w q h s =
-      same-descriptor base (w .next) q (marked base m₀ c) (same-part (λ a i. s a (in-left _ i)) h)
+      descriptor-local base (w .next) q (marked base m₀ c) (same-part (λ a i. s a (in-left _ i)) h)
 
   pub at-buffer : (s : Setup) (out : List ℕ) (c : ℕ) (cs q : List ℕ) (r : ℕ) (b : Begun) (w : Walk) → Begins base m₀ b c q
       → Walks base m₀ (w .used) (w .filled) (w .next) c → Lies base m₀ c cs q

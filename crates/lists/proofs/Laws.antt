@@ -183,7 +183,7 @@ gathered-local true base out w m q h =
     let d = descriptorAt base (w .next) q in rw (same-bytes (d .buffer .0) (d .count) h)
 gathered-local false base out w m q h = refl
 
-descriptor-local : (base : RealAddress) (o : Offset) (m q : List ℕ) → Same (descriptorBytes base o) m q
+pub descriptor-local : (base : RealAddress) (o : Offset) (m q : List ℕ) → Same (descriptorBytes base o) m q
     → descriptorAt base o m ≡ descriptorAt base o q
 unfolding descriptorAt
 descriptor-local base o m q h =
@@ -232,7 +232,7 @@ note-local (cu.Failing b) p m q r h = refl
 -- ---- a turn
 
 -- no service changes the base
-begun-base : (t : Bool) (p : Part) (b : Begun) (word : ℕ) (m : List ℕ) → toBegun t p b word m .base ≡ p .base
+pub begun-base : (t : Bool) (p : Part) (b : Begun) (word : ℕ) (m : List ℕ) → toBegun t p b word m .base ≡ p .base
 begun-base true p b word m = refl
 begun-base false p b word m = refl
 
