@@ -1,0 +1,92 @@
+-- The command unit alone at work on a list: what is known of it between two of its services, what is still to be noted, and at most how many
+-- services are left. Assumes nothing.
+use mathlib.Core.Path.{_≡_}
+use mathlib.Core.Bool.{false}
+use mathlib.Core.List.{List, [], _∷_, _++_, map}
+use Prim.Native.Nat.{ℕ, suc, _+_, _-_, _*_, _<_, pred}
+use lib.Dec.{eqb}
+use lib.ListN.{length}
+use Rattle.memory.specs.Memory.{apply}
+use Rattle.memory.specs.declared.Offset.{Offset}
+use Rattle.memory.specs.declared.RealAddress.{RealAddress}
+use Rattle.device.specs.Limits.{mostBuffers}
+use Rattle.device.specs.Numbers.{transmit, actionOf}
+use Rattle.device.specs.State.{cuState, isActive}
+use Rattle.device.specs.declared.Begun.{Begun}
+use Rattle.device.specs.declared.Cu.{Cu}
+use Rattle.device.specs.declared.Cu.the-variants as cu
+use Rattle.actions.specs.Setup.{Setup}
+use Rattle.command.specs.Begin.{cmd, begunBy}
+use Rattle.command.specs.Part.{Part}
+use Rattle.command.specs.Service.{service}
+use Rattle.progress.specs.Machine.{Tag, begun, done, eachOnce}
+use Rattle.progress.specs.Same.{In, Same}
+use Rattle.progress.proofs.Same.{Sub}
+use Rattle.lists.specs.Uses.{block, wordOf, marked, uses, chainBytes, NoClash, Listed}
+use Rattle.lists.specs.Unit.{noteBy, tag}
+
+-- what is still to be noted, with these blocks to do
+abbrev pub todo : Cu → List ℕ → List Tag
+todo unit [] = []
+todo cu.Idle (c ∷ cs) = []
+todo (cu.Suspended o) (c ∷ cs) = []
+todo (cu.Waiting o) (c ∷ cs) = eachOnce (c ∷ cs)
+todo (cu.Acting b a) (c ∷ cs) = done c ∷ eachOnce cs
+todo (cu.Sending b w) (c ∷ cs) = done c ∷ eachOnce cs
+todo (cu.Ending b filled) (c ∷ cs) = done c ∷ eachOnce cs
+todo (cu.Failing b) (c ∷ cs) = done c ∷ eachOnce cs
+
+-- at most so many services are left, with n commands to do: a begin, a buffer for each of 64 descriptors, an end
+abbrev pub rank : Cu → ℕ → ℕ
+rank cu.Idle n = 0
+rank (cu.Suspended o) n = 0
+rank (cu.Waiting o) n = 66 * n
+rank (cu.Acting b a) n = 1 + 66 * pred n
+rank (cu.Sending b w) n = 65 - w .used + 66 * pred n
+rank (cu.Ending b filled) n = 1 + 66 * pred n
+rank (cu.Failing b) n = 1 + 66 * pred n
+
+module _ (base : RealAddress) (m₀ : List ℕ) where
+  -- the command at c is begun: its word holds, and the bytes that it uses are as its own begin left them
+  pub record Begins (b : Begun) (c : ℕ) (q : List ℕ) : Type 0 where
+    pub begun : b ≡ begunBy (block c) (wordOf base m₀ c)
+    pub same : Same (uses base m₀ c) q (marked base m₀ c)
+
+  -- descriptors are left, and they are among its bytes
+  abbrev pub Walks : (used filled : ℕ) → Offset → ℕ → Type 0
+  Walks used filled next c =
+      (j : ℕ) × (used + suc j ≡ mostBuffers) × Sub (chainBytes (suc j) base (marked base m₀ c) next filled) (uses base m₀ c)
+
+  -- what is known of the command in work
+  abbrev pub Now : Cu → ℕ → List ℕ → Type 0
+  Now cu.Idle c q = ⊥
+  Now (cu.Suspended o) c q = ⊥
+  Now (cu.Waiting o) c q = (o ≡ block c) × Same (uses base m₀ c) q m₀
+  Now (cu.Acting b a) c q =
+      Begins b c q × (eqb (cmd (wordOf base m₀ c)) transmit ≡ false) × (a ≡ actionOf (cmd (wordOf base m₀ c)))
+  Now (cu.Sending b w) c q = Begins b c q × Walks (w .used) (w .filled) (w .next) c
+  Now (cu.Ending b filled) c q = Begins b c q
+  Now (cu.Failing b) c q = Begins b c q
+
+  -- the list, and its commands that are not begun: their bytes are as they were
+  pub record Lies (c : ℕ) (cs : List ℕ) (q : List ℕ) : Type 0 where
+    pub listed : Listed base m₀ (c ∷ cs)
+    pub apart : NoClash (length m₀) base m₀ (c ∷ cs)
+    pub later : (b : ℕ) → In b cs → Same (uses base m₀ b) q m₀
+
+  -- with the blocks bs to do
+  abbrev pub Stands : List ℕ → Part → List ℕ → Type 0
+  Stands [] p q = isActive (cuState (p .unit)) ≡ false
+  Stands (c ∷ cs) p q = (p .base ≡ base) × Now (p .unit) c q × Lies c cs q
+
+  -- a service leads on: with the blocks cs to do, a part of those before; what it notes was the next to be noted; fewer services are left
+  pub record Leads (bs : List ℕ) (p : Part) (q : List ℕ) (r : ℕ) : Type 0 where
+    pub left : List ℕ
+    pub stands : Stands left (service p q r .part) (apply (service p q r .writes) q)
+    pub part : Sub left bs
+    pub noted : map tag (noteBy (p .unit) p q r) ++ todo (service p q r .part .unit) left ≡ todo (p .unit) bs
+    pub fewer : rank (service p q r .part .unit) (length left) < rank (p .unit) (length bs)
+
+-- a part with its base and unit as said
+abbrev pub partWith : RealAddress → Cu → Setup → List ℕ → Part
+partWith base unit s out = record { base = base; unit = unit; setup = s; outgoing = out }

@@ -1,0 +1,72 @@
+-- Demand 3, first half: what is asked of the start and of the trace, and what follows. Assumes nothing.
+use mathlib.Core.Path.{_≡_}
+use mathlib.Core.Bool.{Bool, true, false}
+use mathlib.Core.List.{List, [], _∷_, map}
+use Prim.Native.Nat.{ℕ, _*_, _≤_}
+use lib.ListN.{length}
+use Rattle.memory.specs.Memory.{wordAt}
+use Rattle.scb.specs.Words.{commandAt, cuc, resets}
+use Rattle.device.specs.State.{cuState, isActive}
+use Rattle.device.specs.declared.Cu.the-variants as cu
+use Rattle.command.specs.Part.{partOf}
+use Rattle.control.specs.Obey.{ofScb}
+use Rattle.chip.specs.World.{World}
+use Rattle.chip.specs.Call.{attention}
+use Rattle.traces.specs.Event.{Event, call, host, step, isTurn, isCalm}
+use Rattle.progress.specs.Machine.{Machine, eachOnce, turns, run, log, log′, reports, part′, mem′, Kept, Mays}
+use Rattle.progress.specs.Same.{Same}
+use Rattle.lists.specs.Uses.{block, listBytes, NoClash, Listed, firstOf}
+use Rattle.lists.specs.Unit.{machine, tag}
+
+-- ---- which events may occur
+
+-- no attention and no reset; the host keeps the outgoing area (that it keeps N is in `Kept`, and no event but a call changes the record)
+abbrev pub KeepsOutgoing : Event → World → Type 0
+KeepsOutgoing (call c) w = Unit {0}
+KeepsOutgoing (host m h out) w = out ≡ w .outgoing
+
+abbrev pub Calm : Event → World → Type 0
+Calm e w = (isCalm e ≡ true) × KeepsOutgoing e w
+
+-- ---- the start
+
+-- a channel attention that starts a list: initialised, RESET clear, CUC START from Idle or Suspended; any acknowledgement, any RUC
+pub record Starts (w : World) : Type 0 where
+  pub initialised : w .device .units .initialised ≡ true
+  pub unreset : resets (wordAt (w .memory) (ofScb (w .device .units) commandAt)) ≡ false
+  pub start : cuc (wordAt (w .memory) (ofScb (w .device .units) commandAt)) ≡ 1
+  pub idle : isActive (cuState (w .device .units .cu)) ≡ false
+
+-- what it leaves: the command unit is Active before the first of the blocks, which stand in memory as a list
+pub record Started (bs : List ℕ) (w : World) : Type 0 where
+  pub unit : w .device .units .cu ≡ cu.Waiting (block (firstOf bs))
+  pub listed : Listed (w .device .units .base) (w .memory) bs
+
+-- ---- what follows: the blocks are done, and the command unit's part and every byte of the list are as the unit alone leaves them,
+-- by the definitions, on the memory as it stood at the start, with the line reports of its turns
+
+abbrev pub bytesOf : World → List ℕ → List ℕ
+bytesOf w bs = listBytes (w .device .units .base) (w .memory) bs
+
+module _ (May : Event → World → Type 0) where
+  pub record Done (bs : List ℕ) (es : List Event) (w : World) : Type 0 where
+    -- begun and done, once each, in list order, and nothing else is begun
+    pub order : map tag (log (machine May) es w) ≡ eachOnce bs
+    -- each as the definitions say: status, frame sent
+    pub notes : log (machine May) es w ≡ log′ (machine May) (reports (machine May) es w) (partOf (w .device) (w .outgoing)) (w .memory)
+    -- settings, addresses, outgoing area, and where the unit stands
+    pub part : partOf (run (machine May) es w .device) (run (machine May) es w .outgoing)
+        ≡ part′ (machine May) (reports (machine May) es w) (partOf (w .device) (w .outgoing)) (w .memory)
+    -- the bytes of the list, its results among them
+    pub bytes : Same (bytesOf w bs) (run (machine May) es w .memory)
+        (mem′ (machine May) (reports (machine May) es w) (partOf (w .device) (w .outgoing)) (w .memory))
+    -- and the unit has left Active
+    pub stopped : isActive (cuState (run (machine May) es w .device .units .cu)) ≡ false
+
+  -- 132 times n turns; the events of the trace may occur; nothing writes into the list but each command's own results
+  pub record Premises (bs : List ℕ) (es : List Event) (w : World) : Type 0 where
+    pub size : 8192 ≤ length (w .memory)
+    pub apart : NoClash (length (w .memory)) (w .device .units .base) (w .memory) bs
+    pub events : Mays (machine May) es w
+    pub kept : Kept (machine May) (bytesOf w bs) es w
+    pub turns : 132 * length bs ≤ turns (λ e v. isTurn e) step es w

@@ -1,0 +1,112 @@
+-- The command unit as one of two units that take turns over one memory: what it is, what a service of it notes and reads. Assumes nothing.
+use mathlib.Core.Bool.{Bool, true, false, not}
+use mathlib.Core.List.{List, [], _∷_, _++_}
+use Prim.Native.Nat.{ℕ}
+use lib.Dec.{eqb, leb}
+use lib.ListN.{take}
+use Rattle.memory.specs.Address.{place}
+use Rattle.memory.specs.Memory.{wordAt}
+use Rattle.device.specs.Limits.{addressLength, typeLength, longest}
+use Rattle.device.specs.Numbers.{transmit}
+use Rattle.device.specs.State.{cuState, isActive, isHolding}
+use Rattle.device.specs.declared.Begun.{Begun}
+use Rattle.device.specs.declared.Cu.{Cu}
+use Rattle.device.specs.declared.Cu.the-variants as cu
+use Rattle.device.specs.declared.Units.{Units}
+use Rattle.actions.specs.Actions.{Acted, act, sent, notSent}
+use Rattle.actions.specs.Block.{commandAt, linkAt, argumentAt, destinationAt, typeAt}
+use Rattle.command.specs.Begin.{cmd}
+use Rattle.command.specs.Buffer.{descriptorAt, fits}
+use Rattle.command.specs.Part.{Part, partOf}
+use Rattle.command.specs.Service.{service}
+use Rattle.chip.specs.World.{World}
+use Rattle.traces.specs.Event.{Event, step, isTurn, report}
+use Rattle.progress.specs.Machine.{Machine, Tag, begun, done}
+use Rattle.progress.specs.Same.{range}
+use Rattle.lists.specs.Uses.{argumentBytes, descriptorBytes, from}
+
+-- ---- what is noted: a command is begun; it is done, with its status and the frame that was sent, if one was
+
+pub data Note : Type 0 where
+  began : ℕ → Note
+  ended : ℕ → ℕ → List ℕ → Note
+
+-- status and length are those of the action, from which the end's writes and the call's answer are made too
+abbrev pub finished : Part → Begun → Acted → Note
+finished p b a = ended (b .block .0) (a .status) (take (a .length) (p .outgoing))
+
+abbrev pub noteBy : Cu → Part → List ℕ → ℕ → List Note
+noteBy cu.Idle p m report = []
+noteBy (cu.Suspended o) p m report = []
+noteBy (cu.Waiting o) p m report = began (o .0) ∷ []
+noteBy (cu.Acting b a) p m report = finished p b (act a (p .base) (p .setup) (b .block) m) ∷ []
+noteBy (cu.Sending b w) p m report = []
+noteBy (cu.Ending b filled) p m report = finished p b (sent (p .setup) filled report) ∷ []
+noteBy (cu.Failing b) p m report = finished p b (notSent (p .setup)) ∷ []
+
+abbrev pub tag : Note → Tag
+tag (began c) = begun c
+tag (ended c status frame) = done c
+
+-- ---- the addresses that a service reads
+
+-- begin: the command word; of a Transmit the offset at +6, the destination and the type
+abbrev pub beginReads : (transmits : Bool) → Part → ℕ → List ℕ
+beginReads true p c =
+    from (p .base) c argumentAt 2 ++ from (p .base) c destinationAt addressLength ++ from (p .base) c typeAt typeLength
+beginReads false p c = []
+
+-- a buffer: the descriptor, and the data if it fits
+abbrev pub dataReads : (fits : Bool) → ℕ → ℕ → List ℕ
+dataReads true buffer count = range buffer count
+dataReads false buffer count = []
+
+-- an end: what the action reads, and the link
+abbrev pub endReads : Part → ℕ → List ℕ
+endReads p c = from (p .base) c linkAt 2
+
+abbrev pub readsBy : Cu → Part → List ℕ → List ℕ
+readsBy cu.Idle p m = []
+readsBy (cu.Suspended o) p m = []
+readsBy (cu.Waiting o) p m =
+    from (p .base) (o .0) commandAt 2 ++ beginReads (eqb (cmd (wordAt m (place (p .base) o commandAt))) transmit) p (o .0)
+readsBy (cu.Acting b a) p m = argumentBytes a (p .base) m (b .block .0) ++ endReads p (b .block .0)
+readsBy (cu.Sending b w) p m =
+    let d = descriptorAt (p .base) (w .next) m in descriptorBytes (p .base) (w .next) ++ dataReads (fits d w) (d .buffer .0) (d .count)
+readsBy (cu.Ending b filled) p m = endReads p (b .block .0)
+readsBy (cu.Failing b) p m = endReads p (b .block .0)
+
+-- ---- the machine
+
+-- a turn now goes to the command unit: it has work, and either the receive unit has none or was served at the last working turn
+abbrev pub goesToCommand : (cuWorks ruWorks rulast : Bool) → Bool
+goesToCommand false ruWorks rulast = false
+goesToCommand true false rulast = true
+goesToCommand true true rulast = rulast
+
+abbrev pub commandNext : Units → Bool
+commandNext u = goesToCommand (isActive (cuState (u .cu))) (isHolding (u .ru)) (u .rulast)
+
+-- May says which events may occur
+abbrev pub machine : (Event → World → Type 0) → Machine
+machine May =
+    record {
+      S = World;
+      E = Event;
+      P = Part;
+      R = ℕ;
+      B = Note;
+      step = step;
+      may = May;
+      isTurn = λ e w. isTurn e;
+      report = report;
+      view = λ w. partOf (w .device) (w .outgoing);
+      mem = λ w. w .memory;
+      active = λ p. isActive (cuState (p .unit));
+      served = λ w. commandNext (w .device .units);
+      last = λ w. not (w .device .units .rulast);
+      work = λ p m r. service p m r .part;
+      results = λ p m r. service p m r .writes;
+      note = λ p m r. noteBy (p .unit) p m r;
+      reads = λ p m. readsBy (p .unit) p m;
+    }

@@ -1,0 +1,131 @@
+-- A command list as it stands in a memory, and its bytes: 01, "Turns": its list is, as it stands after the starting attention, the n blocks with
+-- all bytes their commands use, each Transmit's descriptors and their data; results are the status words and TDR's word. Assumes nothing.
+use mathlib.Core.Path.{_≡_}
+use mathlib.Core.Logic.{_≢_}
+use mathlib.Core.Bool.{Bool, true, false, _||_}
+use mathlib.Core.List.{List, [], _∷_, _++_}
+use Prim.Native.Nat.{ℕ, zero, suc, _+_, _*_, _%_}
+use lib.Dec.{eqb, leb}
+use Rattle.memory.specs.Memory.{wordAt, wordTo, apply}
+use Rattle.memory.specs.Address.{place, offsetAt, isNone}
+use Rattle.memory.specs.declared.Offset.{Offset}
+use Rattle.memory.specs.declared.RealAddress.{RealAddress}
+use Rattle.scb.specs.Words.{bit}
+use Rattle.device.specs.Limits.{addressLength, typeLength, header, longest, mostListed, mostBuffers}
+use Rattle.device.specs.Numbers.{transmit, actionOf, actionNumber}
+use Rattle.device.specs.declared.Action.{Action}
+use Rattle.device.specs.declared.Action.the-variants as action
+use Rattle.actions.specs.Block.{statusAt, commandAt, linkAt, argumentAt, destinationAt, typeAt}
+use Rattle.actions.specs.Actions.{clamped, byteOf, groups}
+use Rattle.command.specs.Begin.{cmd}
+use Rattle.command.specs.Buffer.{descriptorAt}
+use Rattle.progress.specs.Same.{In, range}
+
+-- a block, by its offset; n bytes of it from a field on
+abbrev pub block : ℕ → Offset
+block c = record { 0 = c }
+
+abbrev pub from : RealAddress → ℕ → ℕ → ℕ → List ℕ
+from base c field n = range (place base (block c) field) n
+
+-- the command word of the block at c
+abbrev pub wordOf : RealAddress → List ℕ → ℕ → ℕ
+wordOf base m c = wordAt m (place base (block c) commandAt)
+
+-- ---- the bytes that a command uses
+
+-- beside the six of its block, a command that is no Transmit uses what its kind and its count make it read; TDR's word is a result
+abbrev pub listedBytes : (taken : Bool) → RealAddress → ℕ → ℕ → List ℕ
+listedBytes true base c n = from base c destinationAt (n * addressLength)
+listedBytes false base c n = []
+
+abbrev pub argumentBytes : Action → RealAddress → List ℕ → ℕ → List ℕ
+argumentBytes action.Nop base m c = []
+argumentBytes action.IaSetup base m c = from base c argumentAt addressLength
+argumentBytes action.Configure base m c = from base c argumentAt (clamped (byteOf base (block c) m 0))
+argumentBytes action.McSetup base m c =
+    let n = groups base (block c) m in from base c argumentAt 2 ++ listedBytes (leb n mostListed) base c n
+argumentBytes action.Tdr base m c = from base c argumentAt 2
+argumentBytes action.Dump base m c = []
+argumentBytes action.Diagnose base m c = []
+
+-- m, once the command at c has begun: a Transmit's chain may lead over its own status word
+unfoldable pub marked : RealAddress → List ℕ → ℕ → List ℕ
+marked base m c = apply (wordTo (place base (block c) statusAt) 0x4000 ∷ []) m
+
+-- a descriptor: +0 EOF and count, +2 next offset, +4 real address (three bytes)
+abbrev pub descriptorBytes : RealAddress → Offset → List ℕ
+descriptorBytes base o = range (place base o 0) 2 ++ range (place base o 2) 2 ++ range (place base o 4) 3
+
+-- behind a descriptor: none of the data of a buffer that would not fit, and no further descriptor; none either after EOF, or at FFFFh
+abbrev pub behind : (fits eof none : Bool) → List ℕ → List ℕ → List ℕ
+behind false eof none buffer more = []
+behind true true none buffer more = buffer
+behind true false true buffer more = buffer
+behind true false false buffer more = buffer ++ more
+
+-- a chain of at most k descriptors from o on, with so many bytes filled before it: up to the descriptor that ends or fails it
+abbrev pub chainBytes : ℕ → RealAddress → List ℕ → Offset → ℕ → List ℕ
+chainBytes zero base m o filled = []
+chainBytes (suc k) base m o filled =
+    let d = descriptorAt base o m in
+    let more = chainBytes k base m (d .next) (filled + d .count) in
+    descriptorBytes base o
+    ++ behind (leb (filled + d .count) longest) (d .eof) (isNone (d .next)) (range (d .buffer .0) (d .count)) more
+
+abbrev pub firstBytes : (none : Bool) → List ℕ → List ℕ
+firstBytes true chain = []
+firstBytes false chain = chain
+
+-- a Transmit: the offset at +6, destination, type, and its chain of at most 64
+abbrev pub transmitBytes : RealAddress → List ℕ → ℕ → List ℕ
+transmitBytes base m c =
+    let first = offsetAt m (place base (block c) argumentAt) in
+    from base c argumentAt 2 ++ from base c destinationAt addressLength ++ from base c typeAt typeLength
+    ++ firstBytes (isNone first) (chainBytes mostBuffers base (marked base m c) first header)
+
+abbrev pub ownBytes : (transmits : Bool) → RealAddress → List ℕ → ℕ → List ℕ
+ownBytes true base m c = transmitBytes base m c
+ownBytes false base m c = argumentBytes (actionOf (cmd (wordOf base m c))) base m c
+
+-- six bytes of a block, and what its command uses besides
+unfoldable pub uses : RealAddress → List ℕ → ℕ → List ℕ
+uses base m c =
+    from base c statusAt 2 ++ from base c commandAt 2 ++ from base c linkAt 2 ++ ownBytes (eqb (cmd (wordOf base m c)) transmit) base m c
+
+abbrev pub listBytes : RealAddress → List ℕ → List ℕ → List ℕ
+listBytes base m [] = []
+listBytes base m (c ∷ cs) = uses base m c ++ listBytes base m cs
+
+-- ---- results
+
+-- results are the status words and TDR's word
+abbrev pub tdrBytes : (tdr : Bool) → RealAddress → ℕ → List ℕ
+tdrBytes true base c = from base c argumentAt 2
+tdrBytes false base c = []
+
+unfoldable pub resultBytes : RealAddress → List ℕ → ℕ → List ℕ
+resultBytes base m c = from base c statusAt 2 ++ tdrBytes (eqb (cmd (wordOf base m c)) (actionNumber action.Tdr)) base c
+
+-- no result may be another command's byte, addresses taken modulo N. Asked of later commands alone, which is less than the sentence grants
+abbrev pub NoClash : ℕ → RealAddress → List ℕ → List ℕ → Type 0
+NoClash n base m [] = Unit {0}
+NoClash n base m (c ∷ cs) =
+    ((b x y : ℕ) → In b cs → In x (uses base m b) → In y (resultBytes base m c) → x % n ≢ y % n) × NoClash n base m cs
+
+-- ---- the list
+
+-- EL ends the list, S suspends it
+abbrev pub stops : ℕ → Bool
+stops word = bit word 15 || bit word 14
+
+-- the blocks stand in m as a list: the last is the first that ends or suspends it, and each other's link leads to the next
+abbrev pub Listed : RealAddress → List ℕ → List ℕ → Type 0
+Listed base m [] = ⊥
+Listed base m (c ∷ []) = stops (wordOf base m c) ≡ true
+Listed base m (c ∷ d ∷ ds) =
+    (stops (wordOf base m c) ≡ false) × (wordAt m (place base (block c) linkAt) ≡ d) × Listed base m (d ∷ ds)
+
+abbrev pub firstOf : List ℕ → ℕ
+firstOf [] = 0
+firstOf (c ∷ cs) = c
