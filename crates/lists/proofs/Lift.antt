@@ -19,7 +19,7 @@ use Rattle.progress.proofs.Same.{same-refl, same-trans}
 use Rattle.lists.specs.Unit.{machine}
 use Rattle.lists.specs.Done.{Calm, Premises, bytesOf}
 use Rattle.lists.specs.Lent.{Lending, refusedAt, leftBy, left, turnsOf, eventsBy, eventsOf, worldIn, Carried, Carries}
-use Rattle.lists.specs.Lent.{Shows, Lends, LendsBy, AllLend, LentPremises}
+use Rattle.lists.specs.Lent.{Shows, AllLend, LentPremises}
 
 -- ---- a refused call in between changes nothing of what follows
 

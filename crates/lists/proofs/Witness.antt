@@ -1,7 +1,7 @@
 -- The premises can be met, from the starting attention on: a list of three commands, a Transmit, a TDR and a NOP with EL, is run while two frames
 -- arrive and are stored and the host writes. Assumes nothing.
 use mathlib.Core.Path.{_≡_, refl}
-use mathlib.Core.Bool.{Bool, true, false}
+use mathlib.Core.Bool.{false}
 use mathlib.Core.List.{List, [], _∷_, _++_}
 use Prim.Native.Nat.{ℕ}
 use lib.Dec.{lit≤}
@@ -11,12 +11,12 @@ use Rattle.device.specs.State.{cuState, isActive, isHolding}
 use Rattle.chip.specs.Cases.{Word, _is_, put, startOn}
 use Rattle.chip.specs.Call.{attention, arrive, turn}
 use Rattle.chip.specs.World.{World}
-use Rattle.traces.specs.Event.{Event, call, host, step, isTurn}
+use Rattle.traces.specs.Event.{Event, call, host, step}
 use Rattle.progress.specs.Machine.{Kept, Mays, log, run, turns}
 use Rattle.lists.specs.Unit.{machine, began, ended}
 use Rattle.lists.specs.Done.{Calm, Starts, Started, Premises, bytesOf}
 use Rattle.lists.proofs.Start.{started}
-use Rattle.lists.proofs.Tests.{keptb, kept-ok, clashb, clash-ok, callsb, calls-ok, mays-append, kept-append, idle-kept}
+use Rattle.lists.proofs.Tests.{keptb, kept-ok, clash-ok, calls-ok, mays-append, kept-append, idle-kept}
 
 -- ---- the board: ISCP at 0, SCB at 8, base 0
 
