@@ -1,7 +1,7 @@
 -- Demand 3, first half, over the calls on the areas that are lent: refused calls stand anywhere and count for nothing. Assumes nothing: that a
 -- record which a call leaves holds the state which it leaves is `Carries`, an argument of each statement here.
 use mathlib.Core.Path.{_≡_, refl, sym, ap, _∙_, subst}
-use mathlib.Core.Bool.{Bool, true, false, true≢false, false≢true}
+use mathlib.Core.Bool.{Bool, true, false, true≢false}
 use mathlib.Core.List.{List, [], _∷_}
 use Prim.Native.Nat.{ℕ, _+_, _*_, _≤_}
 use native.Mathlib.Nat.{zero-add}
@@ -25,7 +25,7 @@ use Rattle.lists.specs.Uses.{Listed, firstOf, NoClash}
 use Rattle.lists.specs.Unit.{machine}
 use Rattle.lists.specs.Done.{Calm, Starts, Done, bytesOf}
 use Rattle.lists.specs.Lent.{Lending, refusedAt, leftBy, left, countsBy, turnsOf, eventsBy, eventsOf, worldIn, Carried, Carries}
-use Rattle.lists.specs.Lent.{Shows, Lends, LendsBy, AllLend, LentPremises, CalmlyLends, CalmlyBy, AllCalmly}
+use Rattle.lists.specs.Lent.{Shows, Lends, LendsBy, AllLend, LentPremises, CalmlyBy, AllCalmly}
 use Rattle.lists.proofs.Laws.{calm-laws}
 use Rattle.lists.proofs.Start.{begins, started}
 use Rattle.lists.proofs.Order.{listDone}

@@ -2,7 +2,7 @@
 -- a Transmit whose descriptor, without EOF and data, is linked to itself: 64 buffer turns; and the receive unit, which goes first, has a frame
 -- to store at every other turn: 64 bytes of data into a buffer of one byte, whose descriptor is linked to itself. Assumes nothing.
 use mathlib.Core.Path.{_≡_, refl, sym, _∙_}
-use mathlib.Core.Bool.{Bool, true, false, true≢false}
+use mathlib.Core.Bool.{true, true≢false}
 use mathlib.Core.List.{List, [], _∷_, _++_}
 use Prim.Native.Nat.{ℕ, _*_, _≤_}
 use lib.Dec.{lit≤}

@@ -1,18 +1,17 @@
 -- The command unit has the laws of a unit that takes turns: a service reads its addresses alone, a turn that goes to it is a service, any other
 -- turn leaves its part alone, and so does everything that may occur between turns. Assumes nothing.
 use mathlib.Core.Path.{_≡_, refl, sym, ap, _∙_}
-use mathlib.Core.Bool.{Bool, true, false, not, cond, _||_, true≢false, false≢true}
+use mathlib.Core.Bool.{Bool, true, false, not, true≢false, false≢true}
 use mathlib.Core.List.{List, [], _∷_, _++_}
-use Prim.Native.Nat.{ℕ, zero, suc, _+_, _*_, _≤_, _<_, min, max}
+use Prim.Native.Nat.{ℕ, zero, suc, _+_, _*_, _≤_, _<_}
 use native.Mathlib.Nat.{add-suc, add-zero, suc-add}
 use native.Mathlib.Omega.{arith}
 use lib.Dec.{eqb, leb, ltb}
 use borrow.Author.Tests.{ltb-true}
-use Rattle.memory.specs.Memory.{byteAt, bytesAt, fieldAt, wordAt, realAt, Write, wordTo, apply}
-use Rattle.memory.specs.Address.{place, offsetAt, addressAt}
+use Rattle.memory.specs.Memory.{bytesAt, fieldAt, wordAt, realAt, wordTo, apply}
+use Rattle.memory.specs.Address.{place}
 use Rattle.memory.specs.declared.Offset.{Offset}
 use Rattle.memory.specs.declared.RealAddress.{RealAddress}
-use Rattle.scb.specs.Words.{field}
 use Rattle.device.specs.Limits.{addressLength, typeLength, mostListed}
 use Rattle.device.specs.Numbers.{transmit}
 use Rattle.device.specs.State.{cuState, isActive, isHolding}
@@ -26,21 +25,21 @@ use Rattle.device.specs.declared.Walk.{Walk}
 use Rattle.actions.specs.Actions.{Acted, act, sent, notSent, clamped, byteOf, settingsBy, groups, listing, mcSetup, configure, setting}
 use Rattle.actions.specs.Block.{statusAt, commandAt, linkAt, argumentAt, destinationAt, typeAt}
 use Rattle.actions.specs.Setup.{Setup}
-use Rattle.command.specs.Begin.{cmd, begunBy, headerOf, toFirst, toBegun, begin}
-use Rattle.command.specs.Buffer.{descriptorAt, fits, gathered, taken, afterBuffer, buffer}
+use Rattle.command.specs.Begin.{cmd, begunBy, headerOf, toBegun, begin}
+use Rattle.command.specs.Buffer.{descriptorAt, fits, gathered, buffer}
 use Rattle.command.specs.End.{end, nextAfter, statusTo}
 use Rattle.command.specs.Part.{Part, Service, partOf, quietly}
 use Rattle.command.specs.Service.{serviceBy, service}
 use Rattle.chip.specs.Call.{reset, attention, arrive, turn}
 use Rattle.chip.specs.Turn.{servedBy, concluded, commandTurn, receiveTurn, turnBy, turnOf}
 use Rattle.chip.specs.Arrival.{arrivalOf}
-use Rattle.chip.specs.World.{World, Ran, afterwards}
-use Rattle.traces.specs.Event.{Event, call, host, step, isTurn, report}
-use Rattle.progress.specs.Machine.{Laws, Alike, Served, Passed, Between}
+use Rattle.chip.specs.World.{World, afterwards}
+use Rattle.traces.specs.Event.{Event, call, host, isTurn}
+use Rattle.progress.specs.Machine.{Laws, Served, Passed, Between}
 use Rattle.progress.specs.Same.{In, here, there, range, Same}
 use Rattle.progress.proofs.Same.{in-left, in-right, same-part, same-apply, same-bytes, same-field}
 use Rattle.lists.specs.Uses.{block, from, argumentBytes, listedBytes, descriptorBytes}
-use Rattle.lists.specs.Unit.{noteBy, finished, beginReads, dataReads, endReads, readsBy, goesToCommand, commandNext, machine}
+use Rattle.lists.specs.Unit.{noteBy, beginReads, dataReads, endReads, readsBy, goesToCommand, commandNext, machine}
 use Rattle.lists.specs.Done.{Calm}
 
 -- ---- parts of a list of addresses

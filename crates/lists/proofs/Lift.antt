@@ -8,7 +8,7 @@ use native.Mathlib.Nat.{zero-add}
 use lib.ListN.{length}
 use Rattle.memory.specs.Memory.{apply}
 use Rattle.device.specs.declared.Device.{Device}
-use Rattle.chip.specs.Call.{Call, reset, attention, arrive, turn, ran}
+use Rattle.chip.specs.Call.{Call}
 use Rattle.chip.specs.World.{World, worldOf}
 use Rattle.lentoquist.specs.Calls.{Areas, areasOf, Called}
 use Rattle.traces.specs.Bytes.{called, isRefused}
@@ -19,7 +19,7 @@ use Rattle.progress.proofs.Same.{same-refl, same-trans}
 use Rattle.lists.specs.Unit.{machine}
 use Rattle.lists.specs.Done.{Calm, Premises, bytesOf}
 use Rattle.lists.specs.Lent.{Lending, refusedAt, leftBy, left, turnsOf, eventsBy, eventsOf, worldIn, Carried, Carries}
-use Rattle.lists.specs.Lent.{Shows, Lends, LendsBy, AllLend, LentPremises}
+use Rattle.lists.specs.Lent.{Shows, AllLend, LentPremises}
 
 -- ---- a refused call in between changes nothing of what follows
 
@@ -42,8 +42,8 @@ module _ (C : Carries) where
   refused-lends [] ys l a r m = rw r (tt, m)
   refused-lends (x ∷ xs) ys l a r m = (m .0, refused-lends xs ys l (leftBy (refusedAt x) x a) r (m .1))
 
-  pub refused-anywhere : (May : Event → World → Type 0) (bs : List ℕ) (xs ys : List Lending) (l : Lending) (a : Areas) (v : World) → refusedAt l ≡ true
-      → LentPremises C May bs (xs ++ ys) a v → LentPremises C May bs (xs ++ (l ∷ ys)) a v
+  pub refused-anywhere : (May : Event → World → Type 0) (bs : List ℕ) (xs ys : List Lending) (l : Lending) (a : Areas) (v : World)
+      → refusedAt l ≡ true → LentPremises C May bs (xs ++ ys) a v → LentPremises C May bs (xs ++ (l ∷ ys)) a v
   refused-anywhere May bs xs ys l a v r p =
       record {
         lends = refused-lends xs ys l a r (p .lends);
@@ -118,7 +118,8 @@ module _ (C : Carries) where
         (refl, s .outgoing),
         (
           (y .0 .0, tt),
-          events-lift es (called c a .areas) (step (call c) w) (step (call c) (worldIn (v .device) a)) (call-stands c a w v s (x .1) (x .0)) (x .2) (y .1),
+          events-lift es (called c a .areas) (step (call c) w) (step (call c) (worldIn (v .device) a)) (call-stands c a w v s (x .1) (x .0))
+              (x .2) (y .1),
         ),
       )
   events-lift (host m h out ∷ es) a w v s x y =

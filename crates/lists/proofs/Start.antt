@@ -1,13 +1,12 @@
 -- What a channel attention with START leaves: the command unit is Active at the CBL offset, and all else of its part is as it was, whatever is
 -- acknowledged and whatever the receive unit is told. Assumes nothing.
 use mathlib.Core.Path.{_≡_, refl, sym, ap, _∙_, subst}
-use mathlib.Core.Bool.{Bool, true, false, cond, true≢false, false≢true}
-use mathlib.Core.List.{List, [], _∷_, _++_}
+use mathlib.Core.Bool.{Bool, true, false, true≢false, false≢true}
+use mathlib.Core.List.{List}
 use Prim.Native.Nat.{ℕ}
-use lib.Dec.{eqb}
 use lib.ListN.{length}
-use Rattle.memory.specs.Memory.{wordAt, apply}
-use Rattle.memory.specs.Address.{place, offsetAt}
+use Rattle.memory.specs.Memory.{wordAt}
+use Rattle.memory.specs.Address.{offsetAt}
 use Rattle.memory.specs.declared.Offset.{Offset}
 use Rattle.memory.proofs.Laws.{length-apply}
 use Rattle.scb.specs.Control.{cuStart, cuNext}

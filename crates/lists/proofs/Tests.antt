@@ -1,10 +1,9 @@
 -- The premises on a trace as tests that compute, and traces put together: for worked lists. Assumes nothing.
-use mathlib.Core.Path.{_≡_, refl, sym, ap, _∙_, subst}
+use mathlib.Core.Path.{_≡_, refl, sym, subst}
 use mathlib.Core.Logic.{_≢_}
-use mathlib.Core.Bool.{Bool, true, false, not, cond, _&&_, _||_, true≢false, false≢true}
+use mathlib.Core.Bool.{Bool, true, false, not, _&&_, _||_, true≢false}
 use mathlib.Core.List.{List, [], _∷_, _++_}
 use Prim.Native.Nat.{ℕ, zero, suc, _+_, _%_}
-use native.Mathlib.Omega.{arith}
 use lib.Dec.{T, eqb, eqb→eq, eqb-refl, T-not}
 use lib.ListN.{length, replicate}
 use Rattle.memory.specs.Memory.{byteAt, putByte, bytesAt, putBytes, value, digits, fieldAt, apply}
@@ -33,10 +32,10 @@ use Rattle.chip.specs.World.{World, afterwards, resetOf}
 use Rattle.chip.specs.Attention.{attentionOf}
 use Rattle.chip.specs.Arrival as arrivals
 use Rattle.chip.specs.Turn.{concluded, commandTurn, receiveTurn, servedBy, turnBy, turnOf}
-use Rattle.chip.specs.Call.{reset, attention, arrive, turn}
-use Rattle.traces.specs.Event.{Event, call, host, step, isTurn, isCalm}
+use Rattle.chip.specs.Call.{attention, turn}
+use Rattle.traces.specs.Event.{Event, call, host, step, isCalm}
 use Rattle.progress.specs.Same.{In, here, there, range, Same}
-use Rattle.progress.specs.Machine.{Kept, Mays, own, run, turns, bit}
+use Rattle.progress.specs.Machine.{Kept, Mays, own, run}
 use Rattle.progress.proofs.Same.{Sub, same-part, same-refl}
 use Rattle.lists.specs.Uses.{marked, uses, resultBytes, NoClash}
 use Rattle.lists.specs.Unit.{machine, commandNext, goesToCommand}

@@ -1,7 +1,7 @@
 -- The premises can be met, from the starting attention on: a list of three commands, a Transmit, a TDR and a NOP with EL, is run while two frames
 -- arrive and are stored and the host writes. Assumes nothing.
 use mathlib.Core.Path.{_≡_, refl}
-use mathlib.Core.Bool.{Bool, true, false}
+use mathlib.Core.Bool.{false}
 use mathlib.Core.List.{List, [], _∷_, _++_}
 use Prim.Native.Nat.{ℕ}
 use lib.Dec.{lit≤}
@@ -11,12 +11,12 @@ use Rattle.device.specs.State.{cuState, isActive, isHolding}
 use Rattle.chip.specs.Cases.{Word, _is_, put, startOn}
 use Rattle.chip.specs.Call.{attention, arrive, turn}
 use Rattle.chip.specs.World.{World}
-use Rattle.traces.specs.Event.{Event, call, host, step, isTurn}
+use Rattle.traces.specs.Event.{Event, call, host, step}
 use Rattle.progress.specs.Machine.{Kept, Mays, log, run, turns}
 use Rattle.lists.specs.Unit.{machine, began, ended}
 use Rattle.lists.specs.Done.{Calm, Starts, Started, Premises, bytesOf}
 use Rattle.lists.proofs.Start.{started}
-use Rattle.lists.proofs.Tests.{keptb, kept-ok, clashb, clash-ok, callsb, calls-ok, mays-append, kept-append, idle-kept}
+use Rattle.lists.proofs.Tests.{keptb, kept-ok, clash-ok, calls-ok, mays-append, kept-append, idle-kept}
 
 -- ---- the board: ISCP at 0, SCB at 8, base 0
 
@@ -37,20 +37,20 @@ abbrev descriptors : List Word
 descriptors = 0x44 is 0x58 ∷ 0x46 is 0x70 ∷ 0x5A is 0x8000 ∷ 0x72 is 0x70 ∷ 0x74 is 0x80 ∷ 0x78 is 46 ∷ []
 
 -- the first attention; then the host writes the SCB: all acknowledged, START for both units, CBL and RFA offset
-abbrev cold : World
+abbrev pub cold : World
 cold = startOn (put descriptors (put blocks (put board (replicate 8192 0))))
 
 abbrev told : World → World
 told w = step (host (put (0x0A is 0xF110 ∷ 0x0C is 0x18 ∷ 0x0E is 0x40 ∷ []) (w .memory)) (w .holding) (w .outgoing)) w
 
-abbrev before : World
+abbrev pub before : World
 before = told (step (call attention) cold)
 
 -- the starting attention
 abbrev pub begun : World
 begun = step (call attention) before
 
-starts : Starts before
+pub starts : Starts before
 unfolding keptb
 starts = record { initialised = refl; unreset = refl; start = refl; idle = refl }
 
@@ -74,25 +74,25 @@ its-bytes = refl
 -- ---- the trace
 
 -- a frame to everyone, 60 bytes
-abbrev frame : ℕ → List ℕ
+abbrev pub frame : ℕ → List ℕ
 frame b = replicate 6 255 ++ replicate 54 b
 
 -- the first frame is stored while the Transmit is done, with report 0003h
-abbrev early : List Event
+abbrev pub early : List Event
 early = call (arrive (frame 1) 0) ∷ replicate 6 (call (turn 3))
 
 -- the host writes outside of the list, and fills the holding area with something else
-abbrev writes : World → Event
+abbrev pub writes : World → Event
 writes w = host (put (0xB0 is 0x5555 ∷ []) (w .memory)) (replicate 2048 9) (w .outgoing)
 
 -- then the second frame is stored while the other two are done
-abbrev late : List Event
+abbrev pub late : List Event
 late = call (arrive (frame 2) 0) ∷ replicate 7 (call (turn 0))
 
-abbrev middle : World
+abbrev pub middle : World
 middle = run (machine Calm) early begun
 
-abbrev busy : List Event
+abbrev pub busy : List Event
 busy = early ++ (writes middle ∷ late)
 
 -- and turns without work up to 396

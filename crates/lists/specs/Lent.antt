@@ -5,7 +5,7 @@ use mathlib.Core.List.{List, [], _∷_}
 use Prim.Native.Nat.{ℕ, _+_, _*_, _≤_}
 use lib.ListN.{length}
 use Rattle.device.specs.declared.Device.{Device}
-use Rattle.chip.specs.Call.{Call, reset, attention, arrive, turn, ran}
+use Rattle.chip.specs.Call.{Call, ran}
 use Rattle.chip.specs.World.{World, worldOf}
 use Rattle.lentoquist.specs.Calls.{Areas, keptBy}
 use Rattle.traces.specs.Bytes.{called, isRefused}
