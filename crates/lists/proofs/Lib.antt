@@ -14,3 +14,5 @@ pub mod Exact
 pub mod Whole
 pub mod Bytes
 pub mod Lift
+pub mod Carry
+pub mod LentWitness
