@@ -1,1 +1,2 @@
--- No laws yet.
+-- A held frame is stored or counted within 132 turns, and no fewer would do.
+pub mod Ending

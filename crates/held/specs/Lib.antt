@@ -1,1 +1,2 @@
--- No definitions yet.
+-- Demand 3, second half: the held frame, over states and over records.
+pub mod Ending

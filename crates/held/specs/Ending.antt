@@ -1,0 +1,32 @@
+-- Where in a trace the held frame of a machine comes to its end, and how soon. Assumes nothing.
+use mathlib.Core.Path.{_≡_}
+use mathlib.Core.Bool.{true}
+use mathlib.Core.List.{List, [], _∷_, _++_}
+use Prim.Native.Nat.{ℕ, _<_}
+use Rattle.progress.specs.Machine.{turns}
+use Rattle.progress.specs.Holder.{Holder}
+
+module _ (H : Holder) where
+  open Holder H using (S, E, step, isTurn, held, O, ends, F, frame, of)
+
+  abbrev pub run : List E → S → S
+  run [] s = s
+  run (e ∷ es) s = run es (step e s)
+
+  -- the frame x is held all along, and nothing is noted of it
+  abbrev pub Holds : F → List E → S → Type 0
+  Holds x [] s = (held s ≡ true) × (frame s ≡ x)
+  Holds x (e ∷ es) s = ((held s ≡ true) × (frame s ≡ x)) × (ends e s ≡ []) × Holds x es (step e s)
+
+  -- the frame x, held at the start, ends at one of the first n turns
+  pub record Ends (n : ℕ) (x : F) (es : List E) (s : S) : Type 0 where
+    pub before : List E
+    pub event : E
+    pub after : List E
+    pub split : es ≡ before ++ (event ∷ after)
+    pub soon : turns isTurn step before s < n
+    pub holds : Holds x before s
+    pub turned : isTurn event (run before s) ≡ true
+    pub note : O
+    pub noted : ends event (run before s) ≡ note ∷ []
+    pub own : of note ≡ x
