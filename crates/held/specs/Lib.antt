@@ -1,2 +1,3 @@
 -- Demand 3, second half: the held frame, over states and over records.
 pub mod Ending
+pub mod Held
