@@ -2,3 +2,4 @@
 pub mod Ending
 pub mod Service
 pub mod Turn
+pub mod Held

@@ -6,12 +6,13 @@ use Prim.Native.Nat.{ℕ, _<_}
 use Rattle.progress.specs.Machine.{turns}
 use Rattle.progress.specs.Holder.{Holder}
 
+-- what a trace makes of a state, where f is what an event does
+abbrev pub run : {S E : Type 0} → (E → S → S) → List E → S → S
+run f [] s = s
+run f (e ∷ es) s = run f es (f e s)
+
 module _ (H : Holder) where
   open Holder H using (S, E, step, isTurn, held, O, ends, F, frame, of)
-
-  abbrev pub run : List E → S → S
-  run [] s = s
-  run (e ∷ es) s = run es (step e s)
 
   -- the frame x is held all along, and nothing is noted of it
   abbrev pub Holds : F → List E → S → Type 0
@@ -26,7 +27,7 @@ module _ (H : Holder) where
     pub split : es ≡ before ++ (event ∷ after)
     pub soon : turns isTurn step before s < n
     pub holds : Holds x before s
-    pub turned : isTurn event (run before s) ≡ true
+    pub turned : isTurn event (run step before s) ≡ true
     pub note : O
-    pub noted : ends event (run before s) ≡ note ∷ []
+    pub noted : ends event (run step before s) ≡ note ∷ []
     pub own : of note ≡ x

@@ -16,6 +16,7 @@ use Rattle.chip.specs.Call.{reset, attention, arrive, turn}
 use Rattle.chip.specs.Turn.{turnOf}
 use Rattle.traces.specs.Event.{Event, call, host, step, isTurn, isCalm}
 use Rattle.progress.specs.Machine.{bit}
+use Rattle.held.specs.Ending.{run}
 
 -- ---- the held frame
 
@@ -52,10 +53,6 @@ abbrev pub Calm : List Event → Type 0
 Calm [] = Unit {0}
 Calm (e ∷ es) = (isCalm e ≡ true) × Calm es
 
-abbrev pub run : List Event → World → World
-run [] w = w
-run (e ∷ es) w = run es (step e w)
-
 -- what an event makes of a held frame: turns alone bring it to its end
 abbrev pub fateAt : Event → World → Fate
 fateAt (call reset) w = fate.Nothing
@@ -79,8 +76,8 @@ pub record Settled (n : ℕ) (f : Frame) (es : List Event) (w : World) : Type 0 
   pub split : es ≡ before ++ (call (turn report) ∷ after)
   pub soon : turnsIn before < n
   pub holds : Holds f before w
-  pub settled : isSettled (turnOf (run before w) report .outcome .fate) ≡ true
-  pub free : frameIn (afterwards (turnOf (run before w) report)) ≡ none
+  pub settled : isSettled (turnOf (run step before w) report .outcome .fate) ≡ true
+  pub free : frameIn (afterwards (turnOf (run step before w) report)) ≡ none
 
 -- a held frame is stored or counted within n turns, if the record is kept and no attention or reset comes: whatever arrives, and whatever
 -- the host makes of memory, of its size and of both areas before each call
