@@ -3,3 +3,4 @@ pub mod Ending
 pub mod Service
 pub mod Turn
 pub mod Held
+pub mod Exact
