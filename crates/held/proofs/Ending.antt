@@ -5,9 +5,9 @@ use mathlib.Core.List.{List, [], _∷_, _++_}
 use Prim.Native.Nat.{ℕ, zero, suc, _+_, _*_, _≤_, _<_}
 use native.Mathlib.Omega.{arith}
 use Rattle.progress.specs.Machine.{bit, turns}
-use Rattle.progress.specs.Holder.{Holder, Went, ended, goes, Stays, HolderLaws, Mays}
+use Rattle.progress.specs.Holder.{Holder, Went, ended, goes, Stays, Mays}
 use Rattle.progress.proofs.Machine.{bit-le}
-use Rattle.held.specs.Ending.{run, Holds, Ends}
+use Rattle.held.specs.Ending.{Laws, Holds, Ends}
 
 module _ (H : Holder) where
   open Holder H using (S, E, step, may, isTurn, held, served, last, left, O, ends, F, frame, of)
@@ -29,7 +29,7 @@ module _ (H : Holder) where
         own = r .own;
       }
 
-  module _ (K : HolderLaws H) where
+  module _ (K : Laws H) where
     -- n turns are enough
     abbrev Enough : ℕ → F → List E → S → Type 0
     Enough n x es s = Mays H es s → held s ≡ true → frame s ≡ x → 2 * left s + bit (last s) ≤ n + 1 → n ≤ turns isTurn step es s → Ends H n x es s
@@ -62,9 +62,9 @@ module _ (H : Holder) where
     by : (t v : Bool) (n : ℕ) (x : F) (e : E) (es : List E) (s : S) → isTurn e s ≡ t → served s ≡ v
         → ((k : ℕ) → Enough k x es (step e s)) → Enough n x (e ∷ es) s
     by true v zero x e es s t _ r y h f le tu = absurd (omega (arith, K .positive s))
-    by true true (suc n) x e es s t v r y h f le tu = went n x e es s t h f (y .1) le tu (r n) (K .serve e s h t v)
+    by true true (suc n) x e es s t v r y h f le tu = went n x e es s t h f (y .1) le tu (r n) (K .serve e s (y .0) h t v)
     by true false (suc n) x e es s t v r y h f le tu =
-        let p = K .pass e s h t v in
+        let p = K .pass e s (y .0) h t v in
         stay n (suc n) x e es s (rw t (omega arith)) h f (y .1) (p .0) (rw (p .2) (omega (arith, rw (p .1) at le))) (omega (arith, rw t at tu)) (r n)
     by false v n x e es s t _ r y h f le tu =
         let p = K .between e s (y .0) h t in

@@ -16,7 +16,7 @@ use Rattle.chip.specs.Call.{reset, attention, arrive, turn}
 use Rattle.chip.specs.Turn.{commandTurn, receiveTurn, turnOf}
 use Rattle.traces.specs.Event.{Event, call, host, step, isTurn, isCalm}
 use Rattle.progress.specs.Machine.{bit, turns}
-use Rattle.progress.specs.Holder.{Holder, Went, ended, goes, Stays, HolderLaws, Mays}
+use Rattle.progress.specs.Holder.{Holder, Went, ended, goes, Stays, Mays}
 use Rattle.held.specs.Ending.{run, Ends}
 use Rattle.held.specs.Ending as ending
 use Rattle.held.specs.Held.{frameOf, frameIn, isToHold, isSettled, turnsIn, Calm, fateAt, Holds, Settled, Within}
@@ -73,12 +73,12 @@ went : (w : World) (report : ℕ) → isReceiving (w .device .units) ≡ true
 went w report v (service.goes z h f l) = goes (rw z) h f l (serve-last w report v)
 went w report v (service.ended z s n) = ended (record { fate = turnOf w report .outcome .fate; frame = frameIn w }) (rw z) refl
 
-serve : (e : Event) (w : World) → isHolding (w .device .units .ru) ≡ true → isTurn e ≡ true → isReceiving (w .device .units) ≡ true → Went holder e w
-serve (call reset) w h t v = absurd (false≢true t)
-serve (call attention) w h t v = absurd (false≢true t)
-serve (call (arrive f x)) w h t v = absurd (false≢true t)
-serve (call (turn report)) w h t v = went w report v (serving w report h v)
-serve (host m g out) w h t v = absurd (false≢true t)
+serve : (e : Event) (w : World) → isCalm e ≡ true → isHolding (w .device .units .ru) ≡ true → isTurn e ≡ true → isReceiving (w .device .units) ≡ true → Went holder e w
+serve (call reset) w y h t v = absurd (false≢true t)
+serve (call attention) w y h t v = absurd (false≢true t)
+serve (call (arrive f x)) w y h t v = absurd (false≢true t)
+serve (call (turn report)) w y h t v = went w report v (serving w report h v)
+serve (host m g out) w y h t v = absurd (false≢true t)
 
 -- the receive unit as it was
 abbrev Kept : Event → World → Type 0
@@ -91,15 +91,15 @@ stays e w h z k = record { none = rw z; holds = rw k h; same = ap frameOf k; cou
 pub passing : (w : World) (report : ℕ) → isHolding (w .device .units .ru) ≡ true → isReceiving (w .device .units) ≡ false → Passes w (turnOf w report)
 passing w report h v = rw (turn-commanded w report h v .0) (passes w report)
 
-pass : (e : Event) (w : World) → isHolding (w .device .units .ru) ≡ true → isTurn e ≡ true → isReceiving (w .device .units) ≡ false
+pass : (e : Event) (w : World) → isCalm e ≡ true → isHolding (w .device .units .ru) ≡ true → isTurn e ≡ true → isReceiving (w .device .units) ≡ false
     → Stays holder e w × (w .device .units .rulast ≡ true) × (step e w .device .units .rulast ≡ false)
-pass (call reset) w h t v = absurd (false≢true t)
-pass (call attention) w h t v = absurd (false≢true t)
-pass (call (arrive f x)) w h t v = absurd (false≢true t)
-pass (call (turn report)) w h t v =
+pass (call reset) w y h t v = absurd (false≢true t)
+pass (call attention) w y h t v = absurd (false≢true t)
+pass (call (arrive f x)) w y h t v = absurd (false≢true t)
+pass (call (turn report)) w y h t v =
     let p = passing w report h v in
     (stays (call (turn report)) w h (p .fate) (p .unit), turn-commanded w report h v .1, p .last)
-pass (host m g out) w h t v = absurd (false≢true t)
+pass (host m g out) w y h t v = absurd (false≢true t)
 
 between : (e : Event) (w : World) → isCalm e ≡ true → isHolding (w .device .units .ru) ≡ true → isTurn e ≡ false
     → Stays holder e w × (step e w .device .units .rulast ≡ w .device .units .rulast)
@@ -109,7 +109,7 @@ between (call (arrive f x)) w y h t = (stays (call (arrive f x)) w h refl (arriv
 between (call (turn report)) w y h t = absurd (true≢false t)
 between (host m g out) w y h t = (stays (host m g out) w h refl refl, refl)
 
-pub laws : HolderLaws holder
+pub laws : ending.Laws holder
 laws = record { positive = λ w. left-positive (w .device .units .ru); serve = serve; pass = pass; between = between }
 
 -- ---- the statement
