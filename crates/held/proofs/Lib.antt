@@ -4,3 +4,4 @@ pub mod Service
 pub mod Turn
 pub mod Held
 pub mod Exact
+pub mod Kept
