@@ -10,7 +10,11 @@ use lib.Dec.{eqb}
 use lib.ListN.{length}
 use Rattle.memory.proofs.Bytes.{Bytes}
 use Rattle.device.specs.Limits.{recordSize}
+use Rattle.device.specs.State.{isHolding}
 use Rattle.device.specs.declared.Device.{Device}
+use Rattle.device.specs.declared.Fate.{Fate}
+use Rattle.device.specs.declared.Fate.the-variants as fate
+use Rattle.device.specs.declared.Frame.{Frame}
 use Rattle.device.specs.declared.Refusal.{Refusal}
 use Rattle.device.specs.declared.Refusal.the-variants as refusal
 use Rattle.device.specs.declared.Units.{Units}
@@ -26,7 +30,18 @@ use Rattle.chip.specs.Turn.{turnOf}
 use Rattle.lentoquist.specs.Calls.{Areas, Called, packed, isImage, refusalOf, refused, keptBy, calledOn, calledBy, arrivalCall, turnCall}
 use Rattle.traces.specs.Event.{call, step, isTurn, isCalm}
 use Rattle.traces.specs.Bytes.{called, isRefused}
-use Rattle.held.specs.Kept.{unitsBy, unitsOf, frameKept, Lent, isAccepted, worldIn, keptAfter, stepKept, frameBytes, AreBytes, Fair}
+use Rattle.progress.specs.Machine.{bit, turns}
+use Rattle.progress.specs.Holder.{Holder, Went, ended, goes, Stays, Mays}
+use Rattle.held.specs.Ending.{run, Ends}
+use Rattle.held.specs.Ending as ending
+use Rattle.held.specs.Held.{frameOf, frameIn, isToHold, isSettled}
+use Rattle.held.specs.Held as held
+use Rattle.held.specs.Kept.{unitsBy, unitsOf, frameKept, Lent, lent, isAccepted, worldIn, keptAfter, stepKept, isTaken, fateBy, fateAt, turnsIn, frameBytes, AreBytes, Fair, AllFair, Holds, Settled, Within}
+use Rattle.held.proofs.Ending.{ends-within}
+use Rattle.held.proofs.Service.{leftOf, left-positive, left-most, isFate}
+use Rattle.held.proofs.Turn.{isReceiving}
+use Rattle.held.proofs.Held as states
+use Rattle.held.proofs.Held.{Note, notes, holder, holding}
 
 -- ---- what an accepted call does
 
@@ -99,3 +114,64 @@ units-after k l r h e =
     ap (λ (x : Bool). unitsOf (keptAfter x (called (l .call) a) r)) e
     ∙ ap (λ (x : Called). unitsOf (x .areas .kept)) (t .leaves)
     ∙ ap unitsBy (decode-image d (c .1) (c .0))
+
+-- ---- the record as a machine
+
+abbrev pub keeper : Holder
+keeper =
+    record {
+      S = List ℕ;
+      E = Lent;
+      step = stepKept;
+      may = Fair;
+      isTurn = λ l r. isTaken l;
+      held = λ r. isHolding (unitsOf r .ru);
+      served = λ r. isReceiving (unitsOf r);
+      last = λ r. unitsOf r .rulast;
+      left = λ r. leftOf (unitsOf r .ru);
+      O = Note;
+      ends = λ l r. notes (fateAt l) (frameKept r);
+      F = Option Frame;
+      frame = frameKept;
+      of = λ n. n .frame;
+    }
+
+-- a call on a record beside an event on a world
+record Beside (l : Lent) (r : List ℕ) (w : World) : Type 0 where
+  now : unitsOf r ≡ w .device .units
+  then : unitsOf (stepKept l r) ≡ step (call (l .call)) w .device .units
+  fate : fateAt l ≡ held.fateAt (call (l .call)) w
+
+beside : Closed → (l : Lent) (r : List ℕ) → Fair l r → isAccepted l ≡ true → Beside l r (worldIn (l .areas))
+beside k l r h e =
+    record {
+      now = ap unitsOf (sym (h .kept e)) ∙ sym (units-in (l .areas));
+      then = units-after k l r h e;
+      fate = ap (λ (x : Bool). fateBy x (l .call) (worldIn (l .areas))) e;
+    }
+
+module _ {l : Lent} {r : List ℕ} {w : World} (b : Beside l r w) where
+  -- what is noted, and any fact of the units, now and then
+  noted : notes (fateAt l) (frameKept r) ≡ notes (held.fateAt (call (l .call)) w) (frameIn w)
+  noted = ap (λ (φ : Fate). notes φ (frameKept r)) (b .fate) ∙ ap (λ (u : Units). notes (held.fateAt (call (l .call)) w) (frameOf (u .ru))) (b .now)
+
+  at-now : {X : Type 0} (f : Units → X) → f (unitsOf r) ≡ f (w .device .units)
+  at-now f = ap f (b .now)
+
+  at-then : {X : Type 0} (f : Units → X) → f (unitsOf (stepKept l r)) ≡ f (step (call (l .call)) w .device .units)
+  at-then f = ap f (b .then)
+
+  went : Went holder (call (l .call)) w → Went keeper l r
+  went (ended o e f) = ended o (noted ∙ e) (f ∙ sym (at-now (λ u. frameOf (u .ru))))
+  went (goes z h f d t) =
+      goes (noted ∙ z) (at-then (λ u. isHolding (u .ru)) ∙ h) (at-then (λ u. frameOf (u .ru)) ∙ f ∙ sym (at-now (λ u. frameOf (u .ru))))
+      (omega (arith, d, at-then (λ u. leftOf (u .ru)), at-now (λ u. leftOf (u .ru)))) (at-then (λ u. u .rulast) ∙ t)
+
+  stays : Stays holder (call (l .call)) w → Stays keeper l r
+  stays s =
+      record {
+        none = noted ∙ s .none;
+        holds = at-then (λ u. isHolding (u .ru)) ∙ s .holds;
+        same = at-then (λ u. frameOf (u .ru)) ∙ s .same ∙ sym (at-now (λ u. frameOf (u .ru)));
+        count = at-then (λ u. leftOf (u .ru)) ∙ s .count ∙ sym (at-now (λ u. leftOf (u .ru)));
+      }
