@@ -102,18 +102,20 @@ Closed =
     → (inRange (ran c w .outcome .device) ≡ true) × Wide (ran c w .outcome .device)
 
 -- the units that the record says after an accepted call are those that the definition leaves
-units-after : Closed → (l : Lent) (r : List ℕ) → Fair l r → isAccepted l ≡ true
-    → unitsOf (stepKept l r) ≡ step (call (l .call)) (worldIn (l .areas)) .device .units
-units-after k l r h e =
+units-left : Closed → (l : Lent) → isAccepted l ≡ true → AreBytes l → isCalm (call (l .call)) ≡ true
+    → unitsOf (called (l .call) (l .areas) .areas .kept) ≡ step (call (l .call)) (worldIn (l .areas)) .device .units
+units-left k l e b y =
     let a = l .areas in
-    let b = h .bytes e in
-    let t = taken (l .call) a (not-refused (isRefused (called (l .call) a)) e) (h .calm e) in
+    let t = taken (l .call) a (not-refused (isRefused (called (l .call) a)) e) y in
     let i = image l b (t .decoded) in
     let c = k (l .call) (worldIn a) (b .frame) (i .range) (i .wide) (b .memory) (b .holding) (b .outgoing) in
     let d : Device = ran (l .call) (worldIn a) .outcome .device in
-    ap (λ (x : Bool). unitsOf (keptAfter x (called (l .call) a) r)) e
-    ∙ ap (λ (x : Called). unitsOf (x .areas .kept)) (t .leaves)
-    ∙ ap unitsBy (decode-image d (c .1) (c .0))
+    ap (λ (x : Called). unitsOf (x .areas .kept)) (t .leaves) ∙ ap unitsBy (decode-image d (c .1) (c .0))
+
+units-after : Closed → (l : Lent) (r : List ℕ) → Fair l r → isAccepted l ≡ true
+    → unitsOf (stepKept l r) ≡ step (call (l .call)) (worldIn (l .areas)) .device .units
+units-after k l r h e =
+    ap (λ (x : Bool). unitsOf (keptAfter x (called (l .call) (l .areas)) r)) e ∙ units-left k l e (h .bytes e) (h .calm e)
 
 -- ---- the record as a machine
 
@@ -174,4 +176,64 @@ module _ {l : Lent} {r : List ℕ} {w : World} (b : Beside l r w) where
         holds = at-then (λ u. isHolding (u .ru)) ∙ s .holds;
         same = at-then (λ u. frameOf (u .ru)) ∙ s .same ∙ sym (at-now (λ u. frameOf (u .ru)));
         count = at-then (λ u. leftOf (u .ru)) ∙ s .count ∙ sym (at-now (λ u. leftOf (u .ru)));
+      }
+
+-- ---- its laws
+
+both : (a b : Bool) → (a && b) ≡ true → (a ≡ true) × (b ≡ true)
+both true b e = (refl, e)
+both false b e = absurd (false≢true e)
+
+second-false : (a b : Bool) → a ≡ true → (a && b) ≡ false → b ≡ false
+second-false true b e f = f
+second-false false b e f = absurd (false≢true e)
+
+-- a refused call does nothing
+refused-stays : (l : Lent) (r : List ℕ) → isAccepted l ≡ false → isHolding (unitsOf r .ru) ≡ true
+    → Stays keeper l r × (unitsOf (stepKept l r) .rulast ≡ unitsOf r .rulast)
+refused-stays l r e h =
+    let c = called (l .call) (l .areas) in
+    let same : stepKept l r ≡ r = ap (λ (x : Bool). keptAfter x c r) e in (
+      record {
+        none = ap (λ (x : Bool). notes (fateBy x (l .call) (worldIn (l .areas))) (frameKept r)) e;
+        holds = ap (λ (q : List ℕ). isHolding (unitsOf q .ru)) same ∙ h;
+        same = ap frameKept same;
+        count = ap (λ (q : List ℕ). leftOf (unitsOf q .ru)) same;
+      },
+      ap (λ (q : List ℕ). unitsOf q .rulast) same,
+    )
+
+module _ (k : Closed) where
+  serve : (l : Lent) (r : List ℕ) → Fair l r → isHolding (unitsOf r .ru) ≡ true → isTaken l ≡ true → isReceiving (unitsOf r) ≡ true → Went keeper l r
+  serve l r y h t v =
+      let s = both (isAccepted l) (isTurn (call (l .call))) t in
+      let b = beside k l r y (s .0) in
+      went b (states.laws .serve (call (l .call)) (worldIn (l .areas)) (y .calm (s .0)) (sym (at-now b (λ u. isHolding (u .ru))) ∙ h) (s .1)
+      (sym (at-now b isReceiving) ∙ v))
+
+  pass : (l : Lent) (r : List ℕ) → Fair l r → isHolding (unitsOf r .ru) ≡ true → isTaken l ≡ true → isReceiving (unitsOf r) ≡ false
+      → Stays keeper l r × (unitsOf r .rulast ≡ true) × (unitsOf (stepKept l r) .rulast ≡ false)
+  pass l r y h t v =
+      let s = both (isAccepted l) (isTurn (call (l .call))) t in
+      let b = beside k l r y (s .0) in
+      let p = states.laws .pass (call (l .call)) (worldIn (l .areas)) (y .calm (s .0)) (sym (at-now b (λ u. isHolding (u .ru))) ∙ h) (s .1)
+      (sym (at-now b isReceiving) ∙ v) in
+      (stays b (p .0), at-now b (λ u. u .rulast) ∙ p .1, at-then b (λ u. u .rulast) ∙ p .2)
+
+  between-by : (x : Bool) (l : Lent) (r : List ℕ) → isAccepted l ≡ x → Fair l r → isHolding (unitsOf r .ru) ≡ true → isTaken l ≡ false
+      → Stays keeper l r × (unitsOf (stepKept l r) .rulast ≡ unitsOf r .rulast)
+  between-by false l r x y h t = refused-stays l r x h
+  between-by true l r x y h t =
+      let b = beside k l r y x in
+      let p = states.laws .between (call (l .call)) (worldIn (l .areas)) (y .calm x) (sym (at-now b (λ u. isHolding (u .ru))) ∙ h)
+      (second-false (isAccepted l) (isTurn (call (l .call))) x t) in
+      (stays b (p .0), at-then b (λ u. u .rulast) ∙ p .1 ∙ sym (at-now b (λ u. u .rulast)))
+
+  laws : ending.Laws keeper
+  laws =
+      record {
+        positive = λ r. left-positive (unitsOf r .ru);
+        serve = serve;
+        pass = pass;
+        between = λ l r. between-by (isAccepted l) l r refl;
       }
