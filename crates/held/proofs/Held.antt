@@ -134,21 +134,21 @@ holding (ru.Closing s free full) f e = refl
 holding (ru.Lacking s) f e = refl
 
 -- nothing is noted: nothing is made of the frame
-no-note : (φ : Fate) (x : Option Frame) → notes φ x ≡ [] → isFate φ ≡ false
+pub no-note : (φ : Fate) (x : Option Frame) → notes φ x ≡ [] → isFate φ ≡ false
 no-note φ x e = by (isFate φ) _ e
   where
     by : (b : Bool) (n : Note) → noteBy b n ≡ [] → b ≡ false
     by true n e = absurd (cons≢nil e)
     by false n e = refl
 
-a-note : (φ : Fate) (x : Option Frame) (n : Note) → notes φ x ≡ n ∷ [] → isFate φ ≡ true
+pub a-note : (φ : Fate) (x : Option Frame) (n : Note) → notes φ x ≡ n ∷ [] → isFate φ ≡ true
 a-note φ x n e = by (isFate φ) _ e
   where
     by : (b : Bool) (k : Note) → noteBy b k ≡ n ∷ [] → b ≡ true
     by true k e = refl
     by false k e = absurd (nil≢cons e)
 
-nothing : (φ : Fate) → isFate φ ≡ false → φ ≡ fate.Nothing
+pub nothing : (φ : Fate) → isFate φ ≡ false → φ ≡ fate.Nothing
 nothing fate.Nothing e = refl
 nothing fate.TooFew e = absurd (true≢false e)
 nothing fate.NoMatch e = absurd (true≢false e)

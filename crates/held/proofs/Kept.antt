@@ -2,14 +2,14 @@
 use mathlib.Core.Path.{_≡_, refl, sym, ap, _∙_}
 use mathlib.Core.Bool.{Bool, true, false, not, _&&_, _||_, true≢false, false≢true}
 use mathlib.Core.List.{List, [], _∷_, _++_}
-use mathlib.Core.Option.{Option, none, some}
+use mathlib.Core.Option.{Option, none, some, Option·none-ne-some, Option·some-injective}
 use Prim.Native.Nat.{ℕ, _+_, _*_, _≤_, _<_}
 use native.Mathlib.Omega.{arith}
 use borrow.Author.Tests.{eqb-true, not-true}
-use lib.Dec.{eqb}
+use lib.Dec.{eqb, leb, ltb}
 use lib.ListN.{length}
 use Rattle.memory.proofs.Bytes.{Bytes}
-use Rattle.device.specs.Limits.{recordSize}
+use Rattle.device.specs.Limits.{header, recordSize}
 use Rattle.device.specs.State.{isHolding}
 use Rattle.device.specs.declared.Device.{Device}
 use Rattle.device.specs.declared.Fate.{Fate}
@@ -17,9 +17,12 @@ use Rattle.device.specs.declared.Fate.the-variants as fate
 use Rattle.device.specs.declared.Frame.{Frame}
 use Rattle.device.specs.declared.Refusal.{Refusal}
 use Rattle.device.specs.declared.Refusal.the-variants as refusal
+use Rattle.device.specs.declared.Ru.{Ru}
+use Rattle.device.specs.declared.Ru.the-variants as ru
 use Rattle.device.specs.declared.Units.{Units}
+use Rattle.phases.proofs.Units.{both}
 use Rattle.image.specs.Image.{imageOf, decodeFull, decodeOf, deviceFrom, deviceAt}
-use Rattle.image.specs.Ranges.{inRange, Wide}
+use Rattle.image.specs.Ranges.{sized, goesOn, cuFits, frameFits, ruFits, unitsFit, initialisedOrFresh, inRange, Wide}
 use Rattle.image.specs.declared.Decoded.{Decoded}
 use Rattle.image.specs.declared.Decoded.the-variants as is
 use Rattle.image.proofs.Exact.{Image, exact, decode-image}
@@ -41,7 +44,7 @@ use Rattle.held.proofs.Ending.{ends-within}
 use Rattle.held.proofs.Service.{leftOf, left-positive, left-most, isFate}
 use Rattle.held.proofs.Turn.{isReceiving}
 use Rattle.held.proofs.Held as states
-use Rattle.held.proofs.Held.{Note, notes, holder, holding}
+use Rattle.held.proofs.Held.{Note, notes, a-note, no-note, nothing, holder, holding}
 
 -- ---- what an accepted call does
 
@@ -92,6 +95,36 @@ units-in a = refl
 
 image : (l : Lent) → AreBytes l → decodeOf (l .areas .kept) ≡ is.Units (unitsOf (l .areas .kept)) → Image (l .areas .kept) (unitsOf (l .areas .kept))
 image l b e = exact (l .areas .kept) (long (l .areas .kept) _ e) (b .kept) (unitsOf (l .areas .kept)) e
+
+-- a state in range holds no frame but a good one or one to be saved
+frame-to-hold : (f : Frame) → frameFits f ≡ true → isToHold f ≡ true
+unfolding frameFits
+frame-to-hold f e = both (sized (f .length)) (isToHold f) e .1
+
+unit-to-hold : (u : Ru) (f : Frame) → ruFits u ≡ true → frameOf u ≡ some f → isToHold f ≡ true
+unfolding ruFits
+unit-to-hold ru.Idle f e h = absurd (Option·none-ne-some f h)
+unit-to-hold ru.NoResources f e h = absurd (Option·none-ne-some f h)
+unit-to-hold (ru.Suspended o) f e h = absurd (Option·none-ne-some f h)
+unit-to-hold (ru.Ready o) f e h = absurd (Option·none-ne-some f h)
+unit-to-hold (ru.Held o g p) f e h = rw (← Option·some-injective g f h) (frame-to-hold g e)
+unit-to-hold (ru.Filling s w) f e h =
+    let g = frameFits (s .frame) in
+    let x = both (g && goesOn w && leb header (w .filled)) (ltb (w .filled) (s .frame .length)) e .0 in
+    let y = both g (goesOn w) (both (g && goesOn w) (leb header (w .filled)) x .0) .0 in
+    rw (← Option·some-injective (s .frame) f h) (frame-to-hold (s .frame) y)
+unit-to-hold (ru.Closing s o full) f e h =
+    rw (← Option·some-injective (s .frame) f h)
+    (frame-to-hold (s .frame) (both (frameFits (s .frame)) (ltb header (s .frame .length) || not full) e .0))
+unit-to-hold (ru.Lacking s) f e h =
+    rw (← Option·some-injective (s .frame) f h) (frame-to-hold (s .frame) (both (frameFits (s .frame)) (ltb header (s .frame .length)) e .0))
+
+to-hold : (d : Device) (f : Frame) → inRange d ≡ true → frameOf (d .units .ru) ≡ some f → isToHold f ≡ true
+unfolding inRange unitsFit
+to-hold d f e h =
+    let u = d .units in
+    let x = both (unitsFit u) (initialisedOrFresh d) e .0 in
+    unit-to-hold (u .ru) f (both (ltb (u .base .0) 16777216 && cuFits (u .cu)) (ruFits (u .ru)) x .1) h
 
 -- ---- a call leaves a state in range, from a state in range and on areas of bytes
 
@@ -180,10 +213,6 @@ module _ {l : Lent} {r : List ℕ} {w : World} (b : Beside l r w) where
 
 -- ---- its laws
 
-both : (a b : Bool) → (a && b) ≡ true → (a ≡ true) × (b ≡ true)
-both true b e = (refl, e)
-both false b e = absurd (false≢true e)
-
 second-false : (a b : Bool) → a ≡ true → (a && b) ≡ false → b ≡ false
 second-false true b e f = f
 second-false false b e f = absurd (false≢true e)
@@ -237,3 +266,71 @@ module _ (k : Closed) where
         pass = pass;
         between = λ l r. between-by (isAccepted l) l r refl;
       }
+
+-- ---- the statement
+
+turns-in : (ls : List Lent) (r : List ℕ) → turns (λ l r. isTaken l) stepKept ls r ≡ turnsIn ls
+turns-in [] r = refl
+turns-in (l ∷ ls) r = rw (turns-in ls (stepKept l r))
+
+fair : (ls : List Lent) (r : List ℕ) → AllFair ls r → Mays keeper ls r
+fair [] r y = tt
+fair (l ∷ ls) r y = (y .0, fair ls (stepKept l r) (y .1))
+
+fair-at : (before : List Lent) (l : Lent) (after : List Lent) (r : List ℕ) → AllFair (before ++ (l ∷ after)) r → Fair l (run stepKept before r)
+fair-at [] l after r y = y .0
+fair-at (b ∷ bs) l after r y = fair-at bs l after (stepKept b r) (y .1)
+
+all-along : (f : Frame) (ls : List Lent) (r : List ℕ) → ending.Holds keeper (some f) ls r → Holds f ls r
+all-along f [] r h = h .1
+all-along f (l ∷ ls) r h = (h .0 .1, nothing (fateAt l) (no-note (fateAt l) (frameKept r) (h .1)), all-along f ls (stepKept l r) (h .2))
+
+held-last : (f : Frame) (ls : List Lent) (r : List ℕ) → Holds f ls r → frameKept (run stepKept ls r) ≡ some f
+held-last f [] r h = h
+held-last f (l ∷ ls) r h = held-last f ls (stepKept l r) (h .2)
+
+settle : Closed → (n : ℕ) (f : Frame) (ls : List Lent) (r : List ℕ) (before : List Lent) (c : Call) (a : Areas) (after : List Lent)
+    → AllFair ls r → ls ≡ before ++ (lent c a ∷ after) → turnsIn before < n → Holds f before r → isAccepted (lent c a) ≡ true → isTurn (call c) ≡ true
+    → isFate (fateAt (lent c a)) ≡ true → Settled n f ls r
+settle k n f ls r before reset a after y s l h e i φ = absurd (false≢true i)
+settle k n f ls r before attention a after y s l h e i φ = absurd (false≢true i)
+settle k n f ls r before (arrive g v) a after y s l h e i φ = absurd (false≢true i)
+settle k n f ls r before (turn report) a after y s l h e i φ =
+    let x = lent (turn report) a in
+    let y′ : Fair x (run stepKept before r) = fair-at before x after r (rw s at y) in
+    let b = y′ .bytes e in
+    let t = taken (turn report) a (not-refused (isRefused (turnCall a report)) e) refl in
+    let m = image x b (t .decoded) in
+    let now : frameIn (worldIn a) ≡ some f =
+    ap (λ (u : Units). frameOf (u .ru)) (units-in a) ∙ ap frameKept (y′ .kept e) ∙ held-last f before r h in
+    let z = states.end-turn (worldIn a) report f now (to-hold (worldIn a .device) f (m .range) now)
+    (sym (ap (λ (q : Bool). isFate (fateBy q (turn report) (worldIn a))) e) ∙ φ) in
+    record {
+      before = before;
+      report = report;
+      areas = a;
+      after = after;
+      split = s;
+      soon = l;
+      holds = h;
+      accepted = e;
+      kept = y′ .kept e;
+      leaves = t .leaves;
+      settled = z .0;
+      free = ap (λ (u : Units). frameOf (u .ru)) (units-left k x e b refl) ∙ z .1;
+    }
+
+settled : Closed → (n : ℕ) (f : Frame) (ls : List Lent) (r : List ℕ) → AllFair ls r → Ends keeper n (some f) ls r → Settled n f ls r
+settled k n f ls r y s =
+    let l = s .event in
+    let b = both (isAccepted l) (isTurn (call (l .call))) (s .turned) in
+    settle k n f ls r (s .before) (l .call) (l .areas) (s .after) y (s .split) (rw (turns-in (s .before) r) at (s .soon))
+    (all-along f (s .before) r (s .holds)) (b .0) (b .1)
+    (a-note (fateAt l) (frameKept (run stepKept (s .before) r)) (s .note) (s .noted))
+
+-- 01, demand 3, on the calls: a held frame is stored or counted within 132 turns that are not refused
+pub held-frame : Closed → Within 132
+held-frame k r f ls e y l =
+    settled k 132 f ls r y
+    (rw e at (ends-within keeper (laws k) 132 ls r (fair ls r y) (holding (unitsOf r .ru) f e)
+    (omega (arith, left-most (unitsOf r .ru))) (rw (turns-in ls r) l)))
