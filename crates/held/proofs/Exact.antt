@@ -24,8 +24,11 @@ use Rattle.held.proofs.Held.{held-frame}
 -- ---- the run
 
 -- a NOP at 40h linked to itself; a buffer of 46 bytes for the first frame; then a descriptor at B0h of size 0, linked to itself
+abbrev pub words : List Word
+words = 0x44 is 0x40 ∷ 0x34 is 0x40 ∷ 0x36 is 0x60 ∷ descriptors ++ (bufferAt 0xA0 0xB0 0xC0 46 ++ (bufferAt 0xB0 0xB0 0xC0 0 ++ board))
+
 abbrev pub given : World
-given = start (0x44 is 0x40 ∷ 0x34 is 0x40 ∷ 0x36 is 0x60 ∷ descriptors ++ (bufferAt 0xA0 0xB0 0xC0 46 ++ (bufferAt 0xB0 0xB0 0xC0 0 ++ board)))
+given = start words
 
 -- the host writes words
 abbrev pub writes : List Word → World → World
@@ -80,15 +83,15 @@ unfolding begun passes
 then-free = refl
 
 -- so no turn of those settles it
-and-left : (a b : Bool) → T (a && b) → T a
+pub and-left : (a b : Bool) → T (a && b) → T a
 and-left true b t = tt
 and-left false b t = t
 
-and-right : (a b : Bool) → T (a && b) → T b
+pub and-right : (a b : Bool) → T (a && b) → T b
 and-right true b t = t
 and-right false b t = absurd t
 
-not-settled : (b : Bool) → T (not b) → b ≡ true → ⊥
+pub not-settled : (b : Bool) → T (not b) → b ≡ true → ⊥
 not-settled true t e = t
 not-settled false t e = false≢true e
 

@@ -5,3 +5,4 @@ pub mod Turn
 pub mod Held
 pub mod Exact
 pub mod Kept
+pub mod Lending

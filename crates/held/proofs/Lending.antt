@@ -1,0 +1,232 @@
+-- On the calls too the bound is met and attained: the run of `Exact` on a memory that the host puts back before each call. Assumes nothing.
+use mathlib.Core.Path.{_≡_, refl, sym, ap, _∙_, subst}
+use mathlib.Core.Bool.{Bool, true, false, not, _&&_, true≢false, false≢true}
+use mathlib.Core.List.{List, [], _∷_, _++_}
+use mathlib.Core.Option.{Option, none, some}
+use Prim.Native.Nat.{ℕ, zero, suc, _+_, _*_, _%_, _≤_, _<_}
+use native.Mathlib.Omega.{arith}
+use borrow.Author.Tests.{eq-eqb}
+use lib.Count.{ones}
+use lib.Dec.{T, eqb, lit≤}
+use lib.ListN.{length, getD, replicate}
+use Rattle.memory.specs.Memory.{digits, wordTo, apply}
+use Rattle.memory.specs.Size.{sizeAllowed}
+use Rattle.memory.proofs.Bytes.{Bytes, put-bytes, digits-bytes}
+use Rattle.scb.specs.Words.{one}
+use Rattle.device.specs.Limits.{recordSize, areaSize}
+use Rattle.device.specs.State.{isActive, cuState, isHolding, fresh}
+use Rattle.device.specs.declared.Answer.{Answer}
+use Rattle.device.specs.declared.Device.{Device}
+use Rattle.device.specs.declared.Refusal.the-variants as refusal
+use Rattle.phases.specs.Words.{cuWord, ruWord}
+use Rattle.image.specs.Image.{imageOf, decodeOf, deviceAt}
+use Rattle.image.specs.Ranges.{cuFits, frameFits, ruFits, unitsFit, initialisedOrFresh, inRange, Wide}
+use Rattle.image.specs.declared.Decoded.{Decoded}
+use Rattle.image.proofs.Steps.{length-image}
+use Rattle.image.proofs.Exact.{decode-image, device-back, image-bytes, fresh-wide}
+use Rattle.chip.specs.Call.{turn}
+use Rattle.chip.specs.Cases.{Word, _is_, put, passes}
+use Rattle.chip.specs.Turn.{servedBy, concluded, commandTurn, receiveTurn, turnBy, turnOf}
+use Rattle.chip.specs.World.{World, worldOf}
+use Rattle.lentoquist.specs.Calls.{Areas, areasOf, Called, packed, areasRight, refusalOf, keptBy, turnCall}
+use Rattle.lentoquist.proofs.Laws.{accepted}
+use Rattle.traces.specs.Event.{call}
+use Rattle.traces.specs.Bytes.{number, isRefused}
+use Rattle.held.specs.Held.{frameOf, isSettled, fateAt}
+use Rattle.held.specs.Kept.{unitsBy, frameKept, Lent, lent, isAccepted, worldIn, keptAfter, stepKept, turnsIn, AreBytes, Fair, AllFair, Settled, Within}
+use Rattle.held.proofs.Exact.{words, given, begun, frame, its-frame, and-left, and-right, not-settled}
+use Rattle.held.proofs.Kept.{Closed, held-frame}
+
+-- ---- what is lent
+
+-- memory as it was given, with the first buffer descriptor that the first frame's end wrote
+unfoldable pub memory : List ℕ
+memory = put (0x86 is 0xB0 ∷ []) (given .memory)
+
+abbrev pub area : List ℕ
+area = replicate areaSize 0
+
+-- a state on it, and a turn that is lent the state's record
+abbrev pub on : Device → World
+on d = worldOf d memory area area
+
+abbrev pub turnOn : Device → Lent
+turnOn d = lent (turn 0) (areasOf memory area area (imageOf d))
+
+abbrev pub next : Device → Device
+next d = turnOf (on d) 0 .outcome .device
+
+-- n turns, each on the record that the last one left
+abbrev pub turnsOn : ℕ → Device → List Lent
+turnsOn zero d = []
+turnsOn (suc n) d = turnOn d ∷ turnsOn n (next d)
+
+unfoldable pub device : Device
+device = begun .device
+
+-- ---- it is bytes, and of the right sizes
+
+zeros-below : (n i : ℕ) → getD (replicate n 0) i 0 < 256
+zeros-below zero i = omega arith
+zeros-below (suc n) zero = omega arith
+zeros-below (suc n) (suc i) = zeros-below n i
+
+zeros : (n : ℕ) → Bytes (replicate n 0)
+zeros n = record { each = zeros-below n }
+
+words-bytes : (ws : List Word) (m : List ℕ) → Bytes m → Bytes (put ws m)
+words-bytes [] m b = b
+words-bytes (w ∷ ws) m b =
+    words-bytes ws (apply (wordTo (w .place) (w .value) ∷ []) m) (put-bytes m (w .place) (digits 2 (w .value)) b (digits-bytes 2 (w .value)))
+
+memory-bytes : Bytes memory
+unfolding memory
+memory-bytes = words-bytes (0x86 is 0xB0 ∷ []) (given .memory) (words-bytes words (replicate 8192 0) (zeros 8192))
+
+memory-size : sizeAllowed (length memory) ≡ true
+unfolding memory passes sizeAllowed ones
+memory-size = refl
+
+-- ---- the state is in range
+
+device-range : inRange device ≡ true
+unfolding device begun passes inRange unitsFit cuFits ruFits frameFits initialisedOrFresh
+device-range = refl
+
+device-wide : Wide device
+unfolding device begun passes cuWord ruWord
+device-wide =
+    record {
+      scb = lit≤ tt;
+      minimum = lit≤ tt;
+      cu = record { at = lit≤ tt; kind = lit≤ tt; size = lit≤ tt; next = lit≤ tt };
+      ru = record { at = lit≤ tt; kind = lit≤ tt; size = lit≤ tt; next = lit≤ tt };
+      own = refl;
+      listed = refl;
+      own-bytes = fresh-wide .own-bytes;
+      listed-bytes = fresh-wide .listed-bytes;
+    }
+
+-- ---- the calls on these areas are turns of these states
+
+pub record Good (d : Device) : Type 0 where
+  pub range : inRange d ≡ true
+  pub wide : Wide d
+
+-- a turn of the definitions is never refused
+turn-number : (c r l : Bool) (w : World) (report : ℕ) → turnBy (servedBy c r l) w report .outcome .answer .number ≡ refusal.Accepted
+unfolding commandTurn receiveTurn concluded
+turn-number false false l w report = refl
+turn-number true false l w report = refl
+turn-number false true l w report = refl
+turn-number true true true w report = refl
+turn-number true true false w report = refl
+
+turn-accepted : (w : World) (report : ℕ) → turnOf w report .outcome .answer .number ≡ refusal.Accepted
+unfolding turnOf
+turn-accepted w report =
+    turn-number (isActive (cuState (w .device .units .cu))) (isHolding (w .device .units .ru)) (w .device .units .rulast) w report
+
+number-zero : (a : Answer) → a .number ≡ refusal.Accepted → number (packed a) ≡ 0
+unfolding packed
+number-zero a e = rw e (omega arith)
+
+right : (d : Device) → Wide d → areasRight (areasOf memory area area (imageOf d)) ≡ true
+unfolding areasRight
+right d w = rw (length-image d (w .own) (w .listed))
+
+module _ (d : Device) (g : Good d) where
+  back : worldIn (areasOf memory area area (imageOf d)) ≡ on d
+  back = rw (decode-image d (g .wide) (g .range), device-back d (g .wide))
+
+  same : turnCall (areasOf memory area area (imageOf d)) 0 ≡ keptBy (turnOf (on d) 0)
+  unfolding turnCall
+  same =
+      accepted (areasOf memory area area (imageOf d)) [] (λ w. turnOf w 0) (d .units) memory-size (right d (g .wide)) refl (decode-image d (g .wide) (g .range))
+      ∙ ap (λ (x : Device). keptBy (turnOf (on x) 0)) (device-back d (g .wide))
+
+  taken : isAccepted (turnOn d) ≡ true
+  taken = ap (λ (x : Called). not (isRefused x)) same ∙ rw (number-zero (turnOf (on d) 0 .outcome .answer) (turn-accepted (on d) 0))
+
+  kept-next : stepKept (turnOn d) (imageOf d) ≡ imageOf (next d)
+  kept-next =
+      ap (λ (x : Bool). keptAfter x (turnCall (areasOf memory area area (imageOf d)) 0) (imageOf d)) taken
+      ∙ ap (λ (x : Called). x .areas .kept) same
+
+  fair : Fair (turnOn d) (imageOf d)
+  fair =
+      record {
+        bytes = λ e. record { memory = memory-bytes; holding = zeros areaSize; outgoing = zeros areaSize; kept = image-bytes d (g .wide); frame = tt };
+        kept = λ e. refl;
+        calm = λ e. refl;
+      }
+
+-- ---- all along
+
+-- no turn of a trace settles a frame
+abbrev quietOn : List Lent → Bool
+quietOn [] = true
+quietOn (l ∷ ls) = not (isSettled (fateAt (call (l .call)) (worldIn (l .areas)))) && quietOn ls
+
+abbrev quiet : ℕ → Device → Bool
+quiet zero d = true
+quiet (suc n) d = not (isSettled (turnOf (on d) 0 .outcome .fate)) && quiet n (next d)
+
+module _ (k : Closed) where
+  good-next : (d : Device) → Good d → Good (next d)
+  good-next d g =
+      let r = k (turn 0) (on d) tt (g .range) (g .wide) memory-bytes (zeros areaSize) (zeros areaSize) in record { range = r .0; wide = r .1 }
+
+  all-fair : (n : ℕ) (d : Device) → Good d → AllFair (turnsOn n d) (imageOf d)
+  all-fair zero d g = tt
+  all-fair (suc n) d g =
+      (fair d g, subst (λ (r : List ℕ). AllFair (turnsOn n (next d)) r) (sym (kept-next d g)) (all-fair n (next d) (good-next d g)))
+
+  all-taken : (n : ℕ) (d : Device) → Good d → turnsIn (turnsOn n d) ≡ n
+  all-taken zero d g = refl
+  all-taken (suc n) d g = rw (taken d g, all-taken n (next d) (good-next d g)) (omega arith)
+
+  as-quiet : (n : ℕ) (d : Device) → Good d → quietOn (turnsOn n d) ≡ quiet n d
+  as-quiet zero d g = refl
+  as-quiet (suc n) d g =
+      ap (λ (w : World). not (isSettled (turnOf w 0 .outcome .fate)) && quietOn (turnsOn n (next d))) (back d g)
+      ∙ ap (λ (b : Bool). not (isSettled (turnOf (on d) 0 .outcome .fate)) && b) (as-quiet n (next d) (good-next d g))
+
+quiet-at : (before : List Lent) (report : ℕ) (a : Areas) (after : List Lent) → T (quietOn (before ++ (lent (turn report) a ∷ after)))
+    → isSettled (turnOf (worldIn a) report .outcome .fate) ≡ true → ⊥
+quiet-at [] report a after q =
+    not-settled (isSettled (turnOf (worldIn a) report .outcome .fate))
+    (and-left (not (isSettled (turnOf (worldIn a) report .outcome .fate))) (quietOn after) q)
+quiet-at (l ∷ ls) report a after q =
+    quiet-at ls report a after
+    (and-right (not (isSettled (fateAt (call (l .call)) (worldIn (l .areas))))) (quietOn (ls ++ (lent (turn report) a ∷ after))) q)
+
+-- ---- the run
+
+quiet-131 : T (quiet 131 device)
+unfolding memory device begun passes
+quiet-131 = tt
+
+device-good : Good device
+device-good = record { range = device-range; wide = device-wide }
+
+pub its-record : frameKept (imageOf device) ≡ some frame
+unfolding device
+its-record = ap (λ (x : Decoded). frameOf (unitsBy x .ru)) (decode-image device device-wide device-range) ∙ its-frame
+
+unsettled : Closed → (n : ℕ) → Settled n frame (turnsOn 131 device) (imageOf device) → ⊥
+unsettled k n s =
+    quiet-at (s .before) (s .report) (s .areas) (s .after)
+    (subst (λ (ls : List Lent). T (quietOn ls)) (s .split) (subst T (sym (as-quiet k 131 device device-good)) quiet-131)) (s .settled)
+
+-- 132 is exact on the calls: with any smaller number the statement is false
+pub exact : Closed → (n : ℕ) → n < 132 → Within n → ⊥
+exact k n l h =
+    unsettled k n (h (imageOf device) frame (turnsOn 131 device) its-record (all-fair k 131 device device-good)
+    (rw (all-taken k 131 device device-good) (omega (arith, l))))
+
+-- the premises can be met
+pub met : Closed → Settled 132 frame (turnsOn 132 device) (imageOf device)
+met k =
+    held-frame k (imageOf device) frame (turnsOn 132 device) its-record (all-fair k 132 device device-good)
+    (rw (all-taken k 132 device device-good) (lit≤ tt))
