@@ -5,6 +5,7 @@ use mathlib.Core.List.{List, [], _∷_, _++_, nil≢cons, cons≢nil}
 use mathlib.Core.Option.{Option, none, some, Option·none-ne-some}
 use Prim.Native.Nat.{ℕ, _+_, _*_, _≤_, _<_}
 use native.Mathlib.Omega.{arith}
+use lib.Dec.{lit≤}
 use Rattle.device.specs.State.{isHolding}
 use Rattle.device.specs.declared.Fate.{Fate}
 use Rattle.device.specs.declared.Fate.the-variants as fate
@@ -221,9 +222,13 @@ settled n f es w t r =
     settle n f es w (r .before) (r .event) (r .after) t (r .split) (rw (turns-in (r .before) w) at (r .soon))
     (all-along f (r .before) w (r .holds)) (r .turned) (a-note (fateAt (r .event) at) (frameIn at) (r .note) (r .noted))
 
--- 01, demand 3: a held frame is stored or counted within 132 turns
+-- twice the services that a held frame can take are enough
+pub within : (n : ℕ) → 132 ≤ n → Within n
+within n m w f es e t c l =
+    settled n f es w t
+    (rw e at (ends-within holder laws n es w (calm es w c) (holding (w .device .units .ru) f e)
+    (omega (arith, m, left-most (w .device .units .ru))) (rw (turns-in es w) l)))
+
+-- demand 3: a held frame is stored or counted within 132 turns
 pub held-frame : Within 132
-held-frame w f es e t c l =
-    settled 132 f es w t
-    (rw e at (ends-within holder laws 132 es w (calm es w c) (holding (w .device .units .ru) f e)
-    (omega (arith, left-most (w .device .units .ru))) (rw (turns-in es w) l)))
+held-frame = within _ (lit≤ tt)

@@ -6,7 +6,7 @@ use mathlib.Core.Option.{Option, none, some, Option·none-ne-some, Option·some-
 use Prim.Native.Nat.{ℕ, _+_, _*_, _≤_, _<_}
 use native.Mathlib.Omega.{arith}
 use borrow.Author.Tests.{eqb-true, not-true}
-use lib.Dec.{eqb, leb, ltb}
+use lib.Dec.{eqb, leb, ltb, lit≤}
 use lib.ListN.{length}
 use Rattle.memory.proofs.Bytes.{Bytes}
 use Rattle.device.specs.Limits.{header, recordSize}
@@ -328,9 +328,12 @@ settled k n f ls r y s =
     (all-along f (s .before) r (s .holds)) (b .0) (b .1)
     (a-note (fateAt l) (frameKept (run stepKept (s .before) r)) (s .note) (s .noted))
 
--- 01, demand 3, on the calls: a held frame is stored or counted within 132 turns that are not refused
+pub within : Closed → (n : ℕ) → 132 ≤ n → Within n
+within k n m r f ls e y l =
+    settled k n f ls r y
+    (rw e at (ends-within keeper (laws k) n ls r (fair ls r y) (holding (unitsOf r .ru) f e)
+    (omega (arith, m, left-most (unitsOf r .ru))) (rw (turns-in ls r) l)))
+
+-- demand 3, on the calls: a held frame is stored or counted within 132 turns that are not refused
 pub held-frame : Closed → Within 132
-held-frame k r f ls e y l =
-    settled k 132 f ls r y
-    (rw e at (ends-within keeper (laws k) 132 ls r (fair ls r y) (holding (unitsOf r .ru) f e)
-    (omega (arith, left-most (unitsOf r .ru))) (rw (turns-in ls r) l)))
+held-frame k = within k _ (lit≤ tt)
