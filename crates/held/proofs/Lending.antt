@@ -3,7 +3,7 @@ use mathlib.Core.Path.{_≡_, refl, sym, ap, _∙_, subst}
 use mathlib.Core.Bool.{Bool, true, false, not, _&&_, true≢false, false≢true}
 use mathlib.Core.List.{List, [], _∷_, _++_}
 use mathlib.Core.Option.{Option, none, some}
-use Prim.Native.Nat.{ℕ, zero, suc, _+_, _*_, _%_, _≤_, _<_}
+use Prim.Native.Nat.{ℕ, zero, suc, _+_, _*_, _^_, _%_, _≤_, _<_}
 use native.Mathlib.Omega.{arith}
 use borrow.Author.Tests.{eq-eqb}
 use lib.Count.{ones}
@@ -24,7 +24,7 @@ use Rattle.image.specs.Ranges.{cuFits, frameFits, ruFits, unitsFit, initialised
 use Rattle.image.specs.declared.Decoded.{Decoded}
 use Rattle.image.proofs.Steps.{length-image}
 use Rattle.image.proofs.Exact.{decode-image, device-back, image-bytes, fresh-wide}
-use Rattle.chip.specs.Call.{turn}
+use Rattle.chip.specs.Call.{reset, attention, turn}
 use Rattle.chip.specs.Cases.{Word, _is_, put, passes}
 use Rattle.chip.specs.Turn.{servedBy, concluded, commandTurn, receiveTurn, turnBy, turnOf}
 use Rattle.chip.specs.World.{World, worldOf}
@@ -46,33 +46,42 @@ memory = put (0x86 is 0xB0 ∷ []) (given .memory)
 abbrev pub area : List ℕ
 area = replicate areaSize 0
 
--- a state on it, and a turn that is lent the state's record
-abbrev pub on : Device → World
-on d = worldOf d memory area area
+-- a state on a memory m and areas h, and a turn that is lent these and the state's record
+abbrev pub on : List ℕ → List ℕ → Device → World
+on m h d = worldOf d m h h
 
-abbrev pub turnOn : Device → Lent
-turnOn d = lent (turn 0) (areasOf memory area area (imageOf d))
+abbrev pub lentOn : List ℕ → List ℕ → Device → Areas
+lentOn m h d = areasOf m h h (imageOf d)
 
-abbrev pub next : Device → Device
-next d = turnOf (on d) 0 .outcome .device
+abbrev pub turnOn : List ℕ → List ℕ → Device → Lent
+turnOn m h d = lent (turn 0) (lentOn m h d)
+
+abbrev pub next : List ℕ → List ℕ → Device → Device
+next m h d = turnOf (on m h d) 0 .outcome .device
 
 -- n turns, each on the record that the last one left
 abbrev pub turnsOn : ℕ → Device → List Lent
 turnsOn zero d = []
-turnsOn (suc n) d = turnOn d ∷ turnsOn n (next d)
+turnsOn (suc n) d = turnOn memory area d ∷ turnsOn n (next memory area d)
 
 unfoldable pub device : Device
 device = begun .device
 
 -- ---- it is bytes, and of the right sizes
 
-zeros-below : (n i : ℕ) → getD (replicate n 0) i 0 < 256
-zeros-below zero i = omega arith
-zeros-below (suc n) zero = omega arith
-zeros-below (suc n) (suc i) = zeros-below n i
+pub record Right (m h : List ℕ) : Type 0 where
+  pub memory : Bytes m
+  pub area : Bytes h
+  pub size : sizeAllowed (length m) ≡ true
+  pub long : length h ≡ areaSize
 
-zeros : (n : ℕ) → Bytes (replicate n 0)
-zeros n = record { each = zeros-below n }
+all-below : (v n i : ℕ) → v < 256 → getD (replicate n v) i 0 < 256
+all-below v zero i l = omega arith
+all-below v (suc n) zero l = l
+all-below v (suc n) (suc i) l = all-below v n i l
+
+filled-bytes : (v n : ℕ) → v < 256 → Bytes (replicate n v)
+filled-bytes v n l = record { each = λ i. all-below v n i l }
 
 words-bytes : (ws : List Word) (m : List ℕ) → Bytes m → Bytes (put ws m)
 words-bytes [] m b = b
@@ -81,11 +90,14 @@ words-bytes (w ∷ ws) m b =
 
 memory-bytes : Bytes memory
 unfolding memory
-memory-bytes = words-bytes (0x86 is 0xB0 ∷ []) (given .memory) (words-bytes words (replicate 8192 0) (zeros 8192))
+memory-bytes = words-bytes (0x86 is 0xB0 ∷ []) (given .memory) (words-bytes words (replicate 8192 0) (filled-bytes 0 8192 (lit≤ tt)))
 
 memory-size : sizeAllowed (length memory) ≡ true
 unfolding memory passes sizeAllowed ones
 memory-size = refl
+
+memory-right : Right memory area
+memory-right = record { memory = memory-bytes; area = filled-bytes 0 areaSize (lit≤ tt); size = memory-size; long = refl }
 
 -- ---- the state is in range
 
@@ -131,32 +143,31 @@ number-zero : (a : Answer) → a .number ≡ refusal.Accepted → number (packed
 unfolding packed
 number-zero a e = rw e (omega arith)
 
-right : (d : Device) → Wide d → areasRight (areasOf memory area area (imageOf d)) ≡ true
+lengths : (h : List ℕ) (m : List ℕ) (d : Device) → length h ≡ areaSize → Wide d → areasRight (lentOn m h d) ≡ true
 unfolding areasRight
-right d w = rw (length-image d (w .own) (w .listed))
+lengths h m d l w = rw (length-image d (w .own) (w .listed), l)
 
-module _ (d : Device) (g : Good d) where
-  back : worldIn (areasOf memory area area (imageOf d)) ≡ on d
+module _ (m h : List ℕ) (r : Right m h) (d : Device) (g : Good d) where
+  back : worldIn (lentOn m h d) ≡ on m h d
   back = rw (decode-image d (g .wide) (g .range), device-back d (g .wide))
 
-  same : turnCall (areasOf memory area area (imageOf d)) 0 ≡ keptBy (turnOf (on d) 0)
+  same : turnCall (lentOn m h d) 0 ≡ keptBy (turnOf (on m h d) 0)
   unfolding turnCall
   same =
-      accepted (areasOf memory area area (imageOf d)) [] (λ w. turnOf w 0) (d .units) memory-size (right d (g .wide)) refl (decode-image d (g .wide) (g .range))
-      ∙ ap (λ (x : Device). keptBy (turnOf (on x) 0)) (device-back d (g .wide))
+      accepted (lentOn m h d) [] (λ w. turnOf w 0) (d .units) (r .size) (lengths h m d (r .long) (g .wide)) refl (decode-image d (g .wide) (g .range))
+      ∙ ap (λ (x : Device). keptBy (turnOf (on m h x) 0)) (device-back d (g .wide))
 
-  taken : isAccepted (turnOn d) ≡ true
-  taken = ap (λ (x : Called). not (isRefused x)) same ∙ rw (number-zero (turnOf (on d) 0 .outcome .answer) (turn-accepted (on d) 0))
+  taken : isAccepted (turnOn m h d) ≡ true
+  taken = ap (λ (x : Called). not (isRefused x)) same ∙ rw (number-zero (turnOf (on m h d) 0 .outcome .answer) (turn-accepted (on m h d) 0))
 
-  kept-next : stepKept (turnOn d) (imageOf d) ≡ imageOf (next d)
+  kept-next : stepKept (turnOn m h d) (imageOf d) ≡ imageOf (next m h d)
   kept-next =
-      ap (λ (x : Bool). keptAfter x (turnCall (areasOf memory area area (imageOf d)) 0) (imageOf d)) taken
-      ∙ ap (λ (x : Called). x .areas .kept) same
+      ap (λ (x : Bool). keptAfter x (turnCall (lentOn m h d) 0) (imageOf d)) taken ∙ ap (λ (x : Called). x .areas .kept) same
 
-  fair : Fair (turnOn d) (imageOf d)
+  fair : Fair (turnOn m h d) (imageOf d)
   fair =
       record {
-        bytes = λ e. record { memory = memory-bytes; holding = zeros areaSize; outgoing = zeros areaSize; kept = image-bytes d (g .wide); frame = tt };
+        bytes = λ e. record { memory = r .memory; holding = r .area; outgoing = r .area; kept = image-bytes d (g .wide); frame = tt };
         kept = λ e. refl;
         calm = λ e. refl;
       }
@@ -170,27 +181,33 @@ quietOn (l ∷ ls) = not (isSettled (fateAt (call (l .call)) (worldIn (l .areas)
 
 abbrev quiet : ℕ → Device → Bool
 quiet zero d = true
-quiet (suc n) d = not (isSettled (turnOf (on d) 0 .outcome .fate)) && quiet n (next d)
+quiet (suc n) d = not (isSettled (turnOf (on memory area d) 0 .outcome .fate)) && quiet n (next memory area d)
 
 module _ (k : Closed) where
-  good-next : (d : Device) → Good d → Good (next d)
-  good-next d g =
-      let r = k (turn 0) (on d) tt (g .range) (g .wide) memory-bytes (zeros areaSize) (zeros areaSize) in record { range = r .0; wide = r .1 }
+  good-next : (m h : List ℕ) → Right m h → (d : Device) → Good d → Good (next m h d)
+  good-next m h r d g =
+      let x = k (turn 0) (on m h d) tt (g .range) (g .wide) (r .memory) (r .area) (r .area) in record { range = x .0; wide = x .1 }
+
+  good-on : (d : Device) → Good d → Good (next memory area d)
+  good-on d g = good-next memory area memory-right d g
 
   all-fair : (n : ℕ) (d : Device) → Good d → AllFair (turnsOn n d) (imageOf d)
   all-fair zero d g = tt
-  all-fair (suc n) d g =
-      (fair d g, subst (λ (r : List ℕ). AllFair (turnsOn n (next d)) r) (sym (kept-next d g)) (all-fair n (next d) (good-next d g)))
+  all-fair (suc n) d g = (
+    fair memory area memory-right d g,
+    subst (λ (r : List ℕ). AllFair (turnsOn n (next memory area d)) r) (sym (kept-next memory area memory-right d g))
+    (all-fair n (next memory area d) (good-on d g)),
+  )
 
   all-taken : (n : ℕ) (d : Device) → Good d → turnsIn (turnsOn n d) ≡ n
   all-taken zero d g = refl
-  all-taken (suc n) d g = rw (taken d g, all-taken n (next d) (good-next d g)) (omega arith)
+  all-taken (suc n) d g = rw (taken memory area memory-right d g, all-taken n (next memory area d) (good-on d g)) (omega arith)
 
   as-quiet : (n : ℕ) (d : Device) → Good d → quietOn (turnsOn n d) ≡ quiet n d
   as-quiet zero d g = refl
   as-quiet (suc n) d g =
-      ap (λ (w : World). not (isSettled (turnOf w 0 .outcome .fate)) && quietOn (turnsOn n (next d))) (back d g)
-      ∙ ap (λ (b : Bool). not (isSettled (turnOf (on d) 0 .outcome .fate)) && b) (as-quiet n (next d) (good-next d g))
+      ap (λ (w : World). not (isSettled (turnOf w 0 .outcome .fate)) && quietOn (turnsOn n (next memory area d))) (back memory area memory-right d g)
+      ∙ ap (λ (b : Bool). not (isSettled (turnOf (on memory area d) 0 .outcome .fate)) && b) (as-quiet n (next memory area d) (good-on d g))
 
 quiet-at : (before : List Lent) (report : ℕ) (a : Areas) (after : List Lent) → T (quietOn (before ++ (lent (turn report) a ∷ after)))
     → isSettled (turnOf (worldIn a) report .outcome .fate) ≡ true → ⊥
@@ -230,3 +247,24 @@ pub met : Closed → Settled 132 frame (turnsOn 132 device) (imageOf device)
 met k =
     held-frame k (imageOf device) frame (turnsOn 132 device) its-record (all-fair k 132 device device-good)
     (rw (all-taken k 132 device device-good) (lit≤ tt))
+
+-- ---- and met among refusals, with another memory of another size and other areas at each call
+
+-- refused: an attention on no memory, a reset of a record of no bytes, a turn on a record that is no image
+abbrev pub refusals : List Lent
+refusals =
+    lent attention (areasOf [] [] [] [])
+    ∷ lent reset (areasOf [] [] [] [])
+    ∷ lent (turn 0) (areasOf memory area area (replicate recordSize 0))
+    ∷ []
+
+-- the n-th memory and areas
+abbrev pub memoryAt : ℕ → List ℕ
+memoryAt n = replicate (8192 * 2 ^ (n % 3)) (n % 256)
+
+abbrev pub areaAt : ℕ → List ℕ
+areaAt n = replicate areaSize (n % 255)
+
+abbrev pub restless : ℕ → Device → List Lent
+restless zero d = []
+restless (suc n) d = refusals ++ (turnOn (memoryAt n) (areaAt n) d ∷ restless n (next (memoryAt n) (areaAt n) d))
