@@ -8,7 +8,7 @@ use native.Mathlib.Omega.{arith}
 use borrow.Author.Tests.{eq-eqb}
 use lib.Count.{ones}
 use lib.Dec.{T, eqb, lit≤}
-use lib.ListN.{length, getD, replicate}
+use lib.ListN.{length, getD, replicate, length-replicate}
 use Rattle.memory.specs.Memory.{digits, wordTo, apply}
 use Rattle.memory.specs.Size.{sizeAllowed}
 use Rattle.memory.proofs.Bytes.{Bytes, put-bytes, digits-bytes}
@@ -18,8 +18,9 @@ use Rattle.device.specs.State.{isActive, cuState, isHolding, fresh}
 use Rattle.device.specs.declared.Answer.{Answer}
 use Rattle.device.specs.declared.Device.{Device}
 use Rattle.device.specs.declared.Refusal.the-variants as refusal
+use Rattle.words.specs.Places as places
 use Rattle.phases.specs.Words.{cuWord, ruWord}
-use Rattle.image.specs.Image.{imageOf, decodeOf, deviceAt}
+use Rattle.image.specs.Image.{imageOf, headShaped, shaped, decodeFull, decodeOf}
 use Rattle.image.specs.Ranges.{cuFits, frameFits, ruFits, unitsFit, initialisedOrFresh, inRange, Wide}
 use Rattle.image.specs.declared.Decoded.{Decoded}
 use Rattle.image.proofs.Steps.{length-image}
@@ -28,10 +29,11 @@ use Rattle.chip.specs.Call.{reset, attention, turn}
 use Rattle.chip.specs.Cases.{Word, _is_, put, passes}
 use Rattle.chip.specs.Turn.{servedBy, concluded, commandTurn, receiveTurn, turnBy, turnOf}
 use Rattle.chip.specs.World.{World, worldOf}
-use Rattle.lentoquist.specs.Calls.{Areas, areasOf, Called, packed, areasRight, refusalOf, keptBy, turnCall}
+use Rattle.lentoquist.specs.Calls.{Areas, areasOf, Called, packed, areasRight, refusalOf, keptBy, attentionCall, turnCall, resetCall}
 use Rattle.lentoquist.proofs.Laws.{accepted}
-use Rattle.traces.specs.Event.{call}
-use Rattle.traces.specs.Bytes.{number, isRefused}
+use Rattle.traces.specs.Event.{call, isTurn}
+use Rattle.traces.specs.Bytes.{called, number, isRefused}
+use Rattle.progress.specs.Machine.{bit}
 use Rattle.held.specs.Held.{frameOf, isSettled, fateAt}
 use Rattle.held.specs.Kept.{unitsBy, frameKept, Lent, lent, isAccepted, worldIn, keptAfter, stepKept, turnsIn, AreBytes, Fair, AllFair, Settled, Within}
 use Rattle.held.proofs.Exact.{words, given, begun, frame, its-frame, and-left, and-right, not-settled}
@@ -196,7 +198,7 @@ module _ (k : Closed) where
   all-fair (suc n) d g = (
     fair memory area memory-right d g,
     subst (λ (r : List ℕ). AllFair (turnsOn n (next memory area d)) r) (sym (kept-next memory area memory-right d g))
-    (all-fair n (next memory area d) (good-on d g)),
+        (all-fair n (next memory area d) (good-on d g)),
   )
 
   all-taken : (n : ℕ) (d : Device) → Good d → turnsIn (turnsOn n d) ≡ n
@@ -251,12 +253,17 @@ met k =
 -- ---- and met among refusals, with another memory of another size and other areas at each call
 
 -- refused: an attention on no memory, a reset of a record of no bytes, a turn on a record that is no image
-abbrev pub refusals : List Lent
-refusals =
-    lent attention (areasOf [] [] [] [])
-    ∷ lent reset (areasOf [] [] [] [])
-    ∷ lent (turn 0) (areasOf memory area area (replicate recordSize 0))
-    ∷ []
+abbrev pub attended : Lent
+attended = lent attention (areasOf [] [] [] [])
+
+abbrev pub renewed : Lent
+renewed = lent reset (areasOf [] [] [] [])
+
+abbrev pub turned : Lent
+turned = lent (turn 0) (areasOf memory area area (replicate recordSize 0))
+
+abbrev pub refusals : List Lent → List Lent
+refusals ls = attended ∷ renewed ∷ turned ∷ ls
 
 -- the n-th memory and areas
 abbrev pub memoryAt : ℕ → List ℕ
@@ -267,4 +274,78 @@ areaAt n = replicate areaSize (n % 255)
 
 abbrev pub restless : ℕ → Device → List Lent
 restless zero d = []
-restless (suc n) d = refusals ++ (turnOn (memoryAt n) (areaAt n) d ∷ restless n (next (memoryAt n) (areaAt n) d))
+restless (suc n) d = refusals (turnOn (memoryAt n) (areaAt n) d ∷ restless n (next (memoryAt n) (areaAt n) d))
+
+size-by : (j : ℕ) → j < 3 → sizeAllowed (8192 * 2 ^ j) ≡ true
+unfolding sizeAllowed ones
+size-by zero l = refl
+size-by (suc zero) l = refl
+size-by (suc (suc zero)) l = refl
+size-by (suc (suc (suc j))) l = absurd (omega (arith, l))
+
+right-at : (n : ℕ) → Right (memoryAt n) (areaAt n)
+right-at n =
+    record {
+      memory = filled-bytes (n % 256) (8192 * 2 ^ (n % 3)) (omega arith);
+      area = filled-bytes (n % 255) areaSize (omega arith);
+      size = rw (length-replicate (8192 * 2 ^ (n % 3)) (n % 256)) (size-by (n % 3) (omega arith));
+      long = length-replicate areaSize (n % 255);
+    }
+
+-- a refused call may stand anywhere
+fair-refused : (l : Lent) (ls : List Lent) (r : List ℕ) → isAccepted l ≡ false → AllFair ls r → AllFair (l ∷ ls) r
+fair-refused l ls r e y = (
+  record {
+    bytes = λ t. absurd (false≢true (sym e ∙ t));
+    kept = λ t. absurd (false≢true (sym e ∙ t));
+    calm = λ t. absurd (false≢true (sym e ∙ t));
+  },
+  subst (λ (q : List ℕ). AllFair ls q) (sym (ap (λ (b : Bool). keptAfter b (called (l .call) (l .areas)) r) e)) y,
+)
+
+turns-refused : (l : Lent) (ls : List Lent) → isAccepted l ≡ false → turnsIn (l ∷ ls) ≡ turnsIn ls
+turns-refused l ls e = ap (λ (b : Bool). bit (b && isTurn (call (l .call))) + turnsIn ls) e ∙ omega arith
+
+no-memory : isAccepted attended ≡ false
+unfolding attentionCall refusalOf sizeAllowed packed
+no-memory = refl
+
+no-record : isAccepted renewed ≡ false
+unfolding resetCall packed
+no-record = refl
+
+no-image : isAccepted turned ≡ false
+unfolding memory passes sizeAllowed ones turnCall refusalOf areasRight packed decodeOf decodeFull shaped headShaped places.field places.bytesFrom
+no-image = refl
+
+among-fair : (ls : List Lent) (r : List ℕ) → AllFair ls r → AllFair (refusals ls) r
+among-fair ls r y =
+    fair-refused attended (renewed ∷ turned ∷ ls) r no-memory
+    (fair-refused renewed (turned ∷ ls) r no-record (fair-refused turned ls r no-image y))
+
+among-turns : (ls : List Lent) → turnsIn (refusals ls) ≡ turnsIn ls
+among-turns ls =
+    turns-refused attended (renewed ∷ turned ∷ ls) no-memory ∙ turns-refused renewed (turned ∷ ls) no-record ∙ turns-refused turned ls no-image
+
+module _ (k : Closed) where
+  restless-fair : (n : ℕ) (d : Device) → Good d → AllFair (restless n d) (imageOf d)
+  restless-fair zero d g = tt
+  restless-fair (suc n) d g =
+      let m = memoryAt n in
+      let h = areaAt n in
+      let x = restless-fair n (next m h d) (good-next k m h (right-at n) d g) in
+      among-fair (turnOn m h d ∷ restless n (next m h d)) (imageOf d)
+      (fair m h (right-at n) d g, subst (λ (r : List ℕ). AllFair (restless n (next m h d)) r) (sym (kept-next m h (right-at n) d g)) x)
+
+  restless-turns : (n : ℕ) (d : Device) → Good d → turnsIn (restless n d) ≡ n
+  restless-turns zero d g = refl
+  restless-turns (suc n) d g =
+      let m = memoryAt n in
+      let h = areaAt n in
+      among-turns (turnOn m h d ∷ restless n (next m h d))
+      ∙ rw (taken m h (right-at n) d g, restless-turns n (next m h d) (good-next k m h (right-at n) d g)) (omega arith)
+
+pub met-restless : Closed → Settled 132 frame (restless 132 device) (imageOf device)
+met-restless k =
+    held-frame k (imageOf device) frame (restless 132 device) its-record (restless-fair k 132 device device-good)
+    (rw (restless-turns k 132 device device-good) (lit≤ tt))
