@@ -1,13 +1,13 @@
 -- A machine's held frame comes to its end within twice the services that are left. Assumes nothing.
-use mathlib.Core.Path.{_≡_, refl, sym, ap, _∙_}
+use mathlib.Core.Path.{_≡_, refl, ap, _∙_}
 use mathlib.Core.Bool.{Bool, true, false}
-use mathlib.Core.List.{List, [], _∷_, _++_}
-use Prim.Native.Nat.{ℕ, zero, suc, _+_, _*_, _≤_, _<_}
+use mathlib.Core.List.{List, [], _∷_}
+use Prim.Native.Nat.{ℕ, zero, suc, _+_, _*_, _≤_}
 use native.Mathlib.Omega.{arith}
 use Rattle.progress.specs.Machine.{bit, turns}
 use Rattle.progress.specs.Holder.{Holder, Went, ended, goes, Stays, Mays}
 use Rattle.progress.proofs.Machine.{bit-le}
-use Rattle.held.specs.Ending.{Laws, Holds, Ends}
+use Rattle.held.specs.Ending.{Laws, Ends}
 
 module _ (H : Holder) where
   open Holder H using (S, E, step, may, isTurn, held, served, last, left, O, ends, F, frame, of)
@@ -32,10 +32,12 @@ module _ (H : Holder) where
   module _ (K : Laws H) where
     -- n turns are enough
     abbrev Enough : ℕ → F → List E → S → Type 0
-    Enough n x es s = Mays H es s → held s ≡ true → frame s ≡ x → 2 * left s + bit (last s) ≤ n + 1 → n ≤ turns isTurn step es s → Ends H n x es s
+    Enough n x es s =
+        Mays H es s → held s ≡ true → frame s ≡ x → 2 * left s + bit (last s) ≤ n + 1 → n ≤ turns isTurn step es s → Ends H n x es s
 
     went : (n : ℕ) (x : F) (e : E) (es : List E) (s : S) → isTurn e s ≡ true → held s ≡ true → frame s ≡ x → Mays H es (step e s)
-        → 2 * left s + bit (last s) ≤ suc n + 1 → suc n ≤ turns isTurn step (e ∷ es) s → Enough n x es (step e s) → Went H e s → Ends H (suc n) x (e ∷ es) s
+        → 2 * left s + bit (last s) ≤ suc n + 1 → suc n ≤ turns isTurn step (e ∷ es) s → Enough n x es (step e s) → Went H e s
+        → Ends H (suc n) x (e ∷ es) s
     went n x e es s t h f y le tu r (ended o z w) =
         record {
           before = [];
@@ -74,5 +76,6 @@ module _ (H : Holder) where
     enough n x [] s y h f le tu = absurd (omega (arith, K .positive s))
     enough n x (e ∷ es) s y h f le tu = by (isTurn e s) (served s) n x e es s refl refl (λ k. enough k x es (step e s)) y h f le tu
 
-    pub ends-within : (n : ℕ) (es : List E) (s : S) → Mays H es s → held s ≡ true → 2 * left s ≤ n → n ≤ turns isTurn step es s → Ends H n (frame s) es s
+    pub ends-within : (n : ℕ) (es : List E) (s : S) → Mays H es s → held s ≡ true → 2 * left s ≤ n → n ≤ turns isTurn step es s
+        → Ends H n (frame s) es s
     ends-within n es s y h le tu = enough n (frame s) es s y h refl (omega (arith, bit-le (last s))) tu

@@ -1,9 +1,9 @@
 -- The bound is met, and attained: a run from reset on in which a held frame is still held after 131 turns and settled by the 132nd, so that no
 -- smaller number would do. Assumes nothing.
-use mathlib.Core.Path.{_≡_, refl, sym, ap, _∙_, subst}
-use mathlib.Core.Bool.{Bool, true, false, not, _&&_, true≢false, false≢true}
+use mathlib.Core.Path.{_≡_, refl, subst}
+use mathlib.Core.Bool.{Bool, true, false, not, _&&_, false≢true}
 use mathlib.Core.List.{List, [], _∷_, _++_}
-use mathlib.Core.Option.{Option, none, some}
+use mathlib.Core.Option.{none, some}
 use Prim.Native.Nat.{ℕ, zero, suc, _*_, _^_, _%_, _≤_, _<_}
 use native.Mathlib.Omega.{arith}
 use lib.Dec.{T, lit≤}
@@ -11,14 +11,14 @@ use lib.ListN.{replicate}
 use Rattle.device.specs.declared.Fate.the-variants as fate
 use Rattle.device.specs.declared.Frame.{Frame}
 use Rattle.device.specs.declared.Verdict.the-variants as verdict
-use Rattle.chip.specs.Call.{reset, attention, arrive, turn}
+use Rattle.chip.specs.Call.{attention, arrive, turn}
 use Rattle.chip.specs.Cases.{Word, _is_, put, start, passes}
 use Rattle.chip.specs.Turn.{turnOf}
 use Rattle.chip.specs.World.{World, afterwards}
 use Rattle.chip.proofs.Board.{board, descriptors, bufferAt, broadcast, good}
 use Rattle.traces.specs.Event.{Event, call, host, step}
 use Rattle.held.specs.Ending.{run}
-use Rattle.held.specs.Held.{frameIn, isToHold, isSettled, turnsIn, Calm, fateAt, Settled, Within}
+use Rattle.held.specs.Held.{frameIn, isSettled, Calm, fateAt, Settled, Within}
 use Rattle.held.proofs.Held.{held-frame}
 
 -- ---- the run
@@ -98,7 +98,8 @@ not-settled false t e = false≢true e
 quiet-at : (before : List Event) (report : ℕ) (after : List Event) (w : World) → T (quiet (before ++ (call (turn report) ∷ after)) w)
     → isSettled (turnOf (run step before w) report .outcome .fate) ≡ true → ⊥
 quiet-at [] report after w q =
-    not-settled (isSettled (turnOf w report .outcome .fate)) (and-left (not (isSettled (turnOf w report .outcome .fate))) (quiet after (step (call (turn report)) w)) q)
+    not-settled (isSettled (turnOf w report .outcome .fate))
+    (and-left (not (isSettled (turnOf w report .outcome .fate))) (quiet after (step (call (turn report)) w)) q)
 quiet-at (e ∷ es) report after w q =
     quiet-at es report after (step e w) (and-right (not (isSettled (fateAt e w))) (quiet (es ++ (call (turn report) ∷ after)) (step e w)) q)
 

@@ -3,7 +3,7 @@ use mathlib.Core.Path.{_≡_, refl, sym, ap, _∙_}
 use mathlib.Core.Bool.{Bool, true, false, true≢false, false≢true}
 use mathlib.Core.List.{List, [], _∷_, _++_, nil≢cons, cons≢nil}
 use mathlib.Core.Option.{Option, none, some, Option·none-ne-some}
-use Prim.Native.Nat.{ℕ, _+_, _*_, _≤_, _<_}
+use Prim.Native.Nat.{ℕ, _≤_, _<_}
 use native.Mathlib.Omega.{arith}
 use lib.Dec.{lit≤}
 use Rattle.device.specs.State.{isHolding}
@@ -12,11 +12,11 @@ use Rattle.device.specs.declared.Fate.the-variants as fate
 use Rattle.device.specs.declared.Frame.{Frame}
 use Rattle.device.specs.declared.Ru.{Ru}
 use Rattle.device.specs.declared.Ru.the-variants as ru
-use Rattle.chip.specs.World.{World, Ran, afterwards}
+use Rattle.chip.specs.World.{World, afterwards}
 use Rattle.chip.specs.Call.{reset, attention, arrive, turn}
-use Rattle.chip.specs.Turn.{commandTurn, receiveTurn, turnOf}
+use Rattle.chip.specs.Turn.{turnOf}
 use Rattle.traces.specs.Event.{Event, call, host, step, isTurn, isCalm}
-use Rattle.progress.specs.Machine.{bit, turns}
+use Rattle.progress.specs.Machine.{turns}
 use Rattle.progress.specs.Holder.{Holder, Went, ended, goes, Stays, Mays}
 use Rattle.held.specs.Ending.{run, Ends}
 use Rattle.held.specs.Ending as ending
@@ -74,7 +74,8 @@ went : (w : World) (report : ℕ) → isReceiving (w .device .units) ≡ true
 went w report v (service.goes z h f l) = goes (rw z) h f l (serve-last w report v)
 went w report v (service.ended z s n) = ended (record { fate = turnOf w report .outcome .fate; frame = frameIn w }) (rw z) refl
 
-serve : (e : Event) (w : World) → isCalm e ≡ true → isHolding (w .device .units .ru) ≡ true → isTurn e ≡ true → isReceiving (w .device .units) ≡ true → Went holder e w
+serve : (e : Event) (w : World) → isCalm e ≡ true → isHolding (w .device .units .ru) ≡ true → isTurn e ≡ true
+    → isReceiving (w .device .units) ≡ true → Went holder e w
 serve (call reset) w y h t v = absurd (false≢true t)
 serve (call attention) w y h t v = absurd (false≢true t)
 serve (call (arrive f x)) w y h t v = absurd (false≢true t)

@@ -1,11 +1,12 @@
--- Demand 3, second half, over the calls on byte areas: what holds of states holds of the records that the calls leave. Assumes nothing.
+-- Demand 3, second half, over the calls on byte areas: what holds of states holds of the records that the calls leave. That a call leaves a
+-- state in range is a premise of each statement here, `Closed`. Assumes nothing.
 use mathlib.Core.Path.{_≡_, refl, sym, ap, _∙_}
 use mathlib.Core.Bool.{Bool, true, false, not, _&&_, _||_, true≢false, false≢true}
 use mathlib.Core.List.{List, [], _∷_, _++_}
 use mathlib.Core.Option.{Option, none, some, Option·none-ne-some, Option·some-injective}
-use Prim.Native.Nat.{ℕ, _+_, _*_, _≤_, _<_}
+use Prim.Native.Nat.{ℕ, _≤_, _<_}
 use native.Mathlib.Omega.{arith}
-use borrow.Author.Tests.{eqb-true, not-true}
+use borrow.Author.Tests.{eqb-true}
 use lib.Dec.{eqb, leb, ltb, lit≤}
 use lib.ListN.{length}
 use Rattle.memory.proofs.Bytes.{Bytes}
@@ -13,7 +14,6 @@ use Rattle.device.specs.Limits.{header, recordSize}
 use Rattle.device.specs.State.{isHolding}
 use Rattle.device.specs.declared.Device.{Device}
 use Rattle.device.specs.declared.Fate.{Fate}
-use Rattle.device.specs.declared.Fate.the-variants as fate
 use Rattle.device.specs.declared.Frame.{Frame}
 use Rattle.device.specs.declared.Refusal.{Refusal}
 use Rattle.device.specs.declared.Refusal.the-variants as refusal
@@ -21,25 +21,26 @@ use Rattle.device.specs.declared.Ru.{Ru}
 use Rattle.device.specs.declared.Ru.the-variants as ru
 use Rattle.device.specs.declared.Units.{Units}
 use Rattle.phases.proofs.Units.{both}
-use Rattle.image.specs.Image.{imageOf, decodeFull, decodeOf, deviceFrom, deviceAt}
+use Rattle.image.specs.Image.{decodeOf, deviceFrom, deviceAt}
 use Rattle.image.specs.Ranges.{sized, goesOn, cuFits, frameFits, ruFits, unitsFit, initialisedOrFresh, inRange, Wide}
 use Rattle.image.specs.declared.Decoded.{Decoded}
 use Rattle.image.specs.declared.Decoded.the-variants as is
 use Rattle.image.proofs.Exact.{Image, exact, decode-image}
-use Rattle.chip.specs.World.{World, Ran, worldOf}
+use Rattle.chip.specs.World.{World, Ran}
 use Rattle.chip.specs.Arrival.{arrivalOf}
 use Rattle.chip.specs.Call.{Call, reset, attention, arrive, turn, ran}
 use Rattle.chip.specs.Turn.{turnOf}
-use Rattle.lentoquist.specs.Calls.{Areas, Called, packed, isImage, refusalOf, refused, keptBy, calledOn, calledBy, arrivalCall, turnCall}
+use Rattle.lentoquist.specs.Calls.{Areas, Called, packed, isImage, refusalOf, keptBy, calledOn, calledBy, arrivalCall, turnCall}
 use Rattle.traces.specs.Event.{call, step, isTurn, isCalm}
 use Rattle.traces.specs.Bytes.{called, isRefused}
-use Rattle.progress.specs.Machine.{bit, turns}
+use Rattle.progress.specs.Machine.{turns}
 use Rattle.progress.specs.Holder.{Holder, Went, ended, goes, Stays, Mays}
 use Rattle.held.specs.Ending.{run, Ends}
 use Rattle.held.specs.Ending as ending
-use Rattle.held.specs.Held.{frameOf, frameIn, isToHold, isSettled}
+use Rattle.held.specs.Held.{frameOf, frameIn, isToHold}
 use Rattle.held.specs.Held as held
-use Rattle.held.specs.Kept.{unitsBy, unitsOf, frameKept, Lent, lent, isAccepted, worldIn, keptAfter, stepKept, isTaken, fateBy, fateAt, turnsIn, frameBytes, AreBytes, Fair, AllFair, Holds, Settled, Within}
+use Rattle.held.specs.Kept.{unitsBy, unitsOf, frameKept, Lent, lent, isAccepted, worldIn, keptAfter, stepKept, isTaken, fateBy, fateAt}
+use Rattle.held.specs.Kept.{turnsIn, frameBytes, AreBytes, Fair, AllFair, Holds, Settled, Within}
 use Rattle.held.proofs.Ending.{ends-within}
 use Rattle.held.proofs.Service.{leftOf, left-positive, left-most, isFate}
 use Rattle.held.proofs.Turn.{isReceiving}
@@ -126,7 +127,7 @@ to-hold d f e h =
     let x = both (unitsFit u) (initialisedOrFresh d) e .0 in
     unit-to-hold (u .ru) f (both (ltb (u .base .0) 16777216 && cuFits (u .cu)) (ruFits (u .ru)) x .1) h
 
--- ---- a call leaves a state in range, from a state in range and on areas of bytes
+-- ---- the premise: a call leaves a state in range, from a state in range and on areas of bytes
 
 abbrev pub Closed : Type 0
 Closed =
@@ -233,7 +234,8 @@ refused-stays l r e h =
     )
 
 module _ (k : Closed) where
-  serve : (l : Lent) (r : List ℕ) → Fair l r → isHolding (unitsOf r .ru) ≡ true → isTaken l ≡ true → isReceiving (unitsOf r) ≡ true → Went keeper l r
+  serve : (l : Lent) (r : List ℕ) → Fair l r → isHolding (unitsOf r .ru) ≡ true → isTaken l ≡ true → isReceiving (unitsOf r) ≡ true
+      → Went keeper l r
   serve l r y h t v =
       let s = both (isAccepted l) (isTurn (call (l .call))) t in
       let b = beside k l r y (s .0) in
@@ -290,8 +292,8 @@ held-last f [] r h = h
 held-last f (l ∷ ls) r h = held-last f ls (stepKept l r) (h .2)
 
 settle : Closed → (n : ℕ) (f : Frame) (ls : List Lent) (r : List ℕ) (before : List Lent) (c : Call) (a : Areas) (after : List Lent)
-    → AllFair ls r → ls ≡ before ++ (lent c a ∷ after) → turnsIn before < n → Holds f before r → isAccepted (lent c a) ≡ true → isTurn (call c) ≡ true
-    → isFate (fateAt (lent c a)) ≡ true → Settled n f ls r
+    → AllFair ls r → ls ≡ before ++ (lent c a ∷ after) → turnsIn before < n → Holds f before r
+    → isAccepted (lent c a) ≡ true → isTurn (call c) ≡ true → isFate (fateAt (lent c a)) ≡ true → Settled n f ls r
 settle k n f ls r before reset a after y s l h e i φ = absurd (false≢true i)
 settle k n f ls r before attention a after y s l h e i φ = absurd (false≢true i)
 settle k n f ls r before (arrive g v) a after y s l h e i φ = absurd (false≢true i)
@@ -328,6 +330,7 @@ settled k n f ls r y s =
     (all-along f (s .before) r (s .holds)) (b .0) (b .1)
     (a-note (fateAt l) (frameKept (run stepKept (s .before) r)) (s .note) (s .noted))
 
+-- twice the services that a held frame can take are enough
 pub within : Closed → (n : ℕ) → 132 ≤ n → Within n
 within k n m r f ls e y l =
     settled k n f ls r y

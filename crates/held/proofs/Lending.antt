@@ -1,20 +1,19 @@
--- On the calls too the bound is met and attained: the run of `Exact` on a memory that the host puts back before each call. Assumes nothing.
+-- On the calls too the bound is met and attained: the run of `Exact` on a memory that the host puts back before each call. That a call leaves
+-- a state in range is a premise, `Closed`. Assumes nothing.
 use mathlib.Core.Path.{_≡_, refl, sym, ap, _∙_, subst}
-use mathlib.Core.Bool.{Bool, true, false, not, _&&_, true≢false, false≢true}
+use mathlib.Core.Bool.{Bool, true, false, not, _&&_, false≢true}
 use mathlib.Core.List.{List, [], _∷_, _++_}
-use mathlib.Core.Option.{Option, none, some}
-use Prim.Native.Nat.{ℕ, zero, suc, _+_, _*_, _^_, _%_, _≤_, _<_}
+use mathlib.Core.Option.{some}
+use Prim.Native.Nat.{ℕ, zero, suc, _+_, _*_, _^_, _%_, _<_}
 use native.Mathlib.Omega.{arith}
-use borrow.Author.Tests.{eq-eqb}
 use lib.Count.{ones}
-use lib.Dec.{T, eqb, lit≤}
+use lib.Dec.{T, lit≤}
 use lib.ListN.{length, getD, replicate, length-replicate}
 use Rattle.memory.specs.Memory.{digits, wordTo, apply}
 use Rattle.memory.specs.Size.{sizeAllowed}
 use Rattle.memory.proofs.Bytes.{Bytes, put-bytes, digits-bytes}
-use Rattle.scb.specs.Words.{one}
 use Rattle.device.specs.Limits.{recordSize, areaSize}
-use Rattle.device.specs.State.{isActive, cuState, isHolding, fresh}
+use Rattle.device.specs.State.{isActive, cuState, isHolding}
 use Rattle.device.specs.declared.Answer.{Answer}
 use Rattle.device.specs.declared.Device.{Device}
 use Rattle.device.specs.declared.Refusal.the-variants as refusal
@@ -35,7 +34,7 @@ use Rattle.traces.specs.Event.{call, isTurn}
 use Rattle.traces.specs.Bytes.{called, number, isRefused}
 use Rattle.progress.specs.Machine.{bit}
 use Rattle.held.specs.Held.{frameOf, isSettled, fateAt}
-use Rattle.held.specs.Kept.{unitsBy, frameKept, Lent, lent, isAccepted, worldIn, keptAfter, stepKept, turnsIn, AreBytes, Fair, AllFair, Settled, Within}
+use Rattle.held.specs.Kept.{unitsBy, frameKept, Lent, lent, isAccepted, worldIn, keptAfter, stepKept, turnsIn, Fair, AllFair, Settled, Within}
 use Rattle.held.proofs.Exact.{words, given, begun, frame, its-frame, and-left, and-right, not-settled}
 use Rattle.held.proofs.Kept.{Closed, held-frame}
 

@@ -1,9 +1,9 @@
 -- One service of the receive unit with a frame held: the frame is settled, or stays held with a service fewer to come. Assumes nothing.
 use mathlib.Core.Path.{_≡_, refl}
-use mathlib.Core.Bool.{Bool, true, false, _||_, true≢false, false≢true}
-use mathlib.Core.List.{List, [], _∷_, _++_}
+use mathlib.Core.Bool.{Bool, true, false, _||_, false≢true}
+use mathlib.Core.List.{List, []}
 use mathlib.Core.Option.{Option, none, some, Option·some-injective}
-use Prim.Native.Nat.{ℕ, zero, suc, _+_, _-_, _≤_, _<_}
+use Prim.Native.Nat.{ℕ, suc, _+_, _-_, _≤_, _<_}
 use native.Mathlib.Omega.{arith}
 use lib.Dec.{leb}
 use borrow.Author.Tests.{leb-false}
@@ -11,7 +11,6 @@ use Rattle.memory.specs.Memory.{Write, wordAt}
 use Rattle.memory.specs.Address.{place, offsetAt, isNone}
 use Rattle.memory.specs.declared.Offset.{Offset}
 use Rattle.device.specs.State.{isHolding, isGood}
-use Rattle.device.specs.declared.Counter.the-variants as counter
 use Rattle.device.specs.declared.Fate.{Fate}
 use Rattle.device.specs.declared.Fate.the-variants as fate
 use Rattle.device.specs.declared.Frame.{Frame}
@@ -19,10 +18,10 @@ use Rattle.device.specs.declared.Ru.{Ru}
 use Rattle.device.specs.declared.Ru.the-variants as ru
 use Rattle.device.specs.declared.Storing.{Storing}
 use Rattle.device.specs.declared.Walk.{Walk}
-use Rattle.receive.specs.Part.{Part, Service, firstAt, controlAt}
+use Rattle.receive.specs.Part.{Part, firstAt, controlAt}
 use Rattle.receive.specs.Begin.{begunBy, isBare, toFirst, begin}
 use Rattle.receive.specs.Buffer.{descriptorAt, past, isDone, afterBuffer, buffer}
-use Rattle.receive.specs.End.{fateBy, fateOf, settles, before, goesOn, close, lack}
+use Rattle.receive.specs.End.{fateBy, settles, before, goesOn, close, lack}
 use Rattle.receive.specs.Service.{serviceBy}
 use Rattle.held.specs.Held.{frameOf, isToHold, isSettled}
 

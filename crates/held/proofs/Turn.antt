@@ -1,15 +1,13 @@
 -- One event with a frame held: what it makes of the frame. Assumes nothing.
-use mathlib.Core.Path.{_≡_, refl, sym, ap, _∙_}
+use mathlib.Core.Path.{_≡_, refl}
 use mathlib.Core.Bool.{Bool, true, false, true≢false, false≢true}
-use mathlib.Core.List.{List, [], _∷_}
-use mathlib.Core.Option.{Option, none, some}
-use Prim.Native.Nat.{ℕ, _<_}
+use mathlib.Core.List.{List, []}
+use Prim.Native.Nat.{ℕ}
 use lib.Dec.{ltb}
 use lib.ListN.{length}
 use Rattle.device.specs.Limits.{header}
 use Rattle.device.specs.State.{isHolding, isActive, cuState}
 use Rattle.device.specs.Answers.{isHeld}
-use Rattle.device.specs.declared.Fate.{Fate}
 use Rattle.device.specs.declared.Fate.the-variants as fate
 use Rattle.device.specs.declared.Frame.{Frame}
 use Rattle.device.specs.declared.Ru.{Ru}
@@ -19,11 +17,11 @@ use Rattle.filter.specs.Match.{matches}
 use Rattle.receive.specs.Part as receive
 use Rattle.receive.specs.Service as receive-service
 use Rattle.receive.specs.Arrival as arrivals
-use Rattle.chip.specs.World.{World, Ran, afterwards}
+use Rattle.chip.specs.World.{World, Ran}
 use Rattle.chip.specs.Arrival as chip-arrival
 use Rattle.chip.specs.Turn.{servedBy, concluded, commandTurn, receiveTurn, turnBy, turnOf}
-use Rattle.held.specs.Held.{frameOf, frameIn, isToHold, isSettled}
-use Rattle.held.proofs.Service.{leftOf, isFate, Serving, goes, ended, serves}
+use Rattle.held.specs.Held.{frameIn}
+use Rattle.held.proofs.Service.{leftOf, Serving, serves}
 
 -- ---- the two turns
 

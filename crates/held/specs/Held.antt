@@ -11,7 +11,7 @@ use Rattle.device.specs.declared.Fate.the-variants as fate
 use Rattle.device.specs.declared.Frame.{Frame}
 use Rattle.device.specs.declared.Ru.{Ru}
 use Rattle.device.specs.declared.Ru.the-variants as ru
-use Rattle.chip.specs.World.{World, Ran, afterwards}
+use Rattle.chip.specs.World.{World, afterwards}
 use Rattle.chip.specs.Call.{reset, attention, arrive, turn}
 use Rattle.chip.specs.Turn.{turnOf}
 use Rattle.traces.specs.Event.{Event, call, host, step, isTurn, isCalm}
@@ -53,7 +53,7 @@ abbrev pub Calm : List Event → Type 0
 Calm [] = Unit {0}
 Calm (e ∷ es) = (isCalm e ≡ true) × Calm es
 
--- what an event makes of a held frame: turns alone bring it to its end
+-- what an event makes of a held frame: where no attention or reset comes, turns alone bring it to its end
 abbrev pub fateAt : Event → World → Fate
 fateAt (call reset) w = fate.Nothing
 fateAt (call attention) w = fate.Nothing
