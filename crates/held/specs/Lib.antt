@@ -2,3 +2,4 @@
 pub mod Ending
 pub mod Held
 pub mod Kept
+pub mod Effects
