@@ -1,20 +1,20 @@
 -- The turn that settles a held frame writes what End says for its fate. Assumes nothing.
 use mathlib.Core.Path.{_≡_, refl, sym, ap, _∙_}
-use mathlib.Core.Bool.{Bool, true, false, _||_, true≢false, false≢true}
+use mathlib.Core.Bool.{Bool, true, false, _||_, false≢true}
 use mathlib.Core.List.{List, [], _∷_, _++_, append-assoc, append-nil}
-use mathlib.Core.Option.{Option, none, some, Option·some-injective}
+use mathlib.Core.Option.{some, Option·some-injective}
 use Prim.Native.Nat.{ℕ}
 use Rattle.memory.specs.Memory.{Write, wordTo, apply}
 use Rattle.memory.specs.Address.{place, offsetAt}
 use Rattle.memory.specs.declared.Offset.{Offset}
 use Rattle.scb.specs.Words.{anyOf}
-use Rattle.device.specs.Answers.{counterOf, isStored, isCounter}
+use Rattle.device.specs.Answers.{isStored}
 use Rattle.device.specs.declared.Fate.{Fate}
-use Rattle.device.specs.declared.Fate.the-variants as fate
 use Rattle.device.specs.declared.Frame.{Frame}
 use Rattle.device.specs.declared.Ru.{Ru}
 use Rattle.device.specs.declared.Ru.the-variants as ru
 use Rattle.device.specs.declared.Storing.{Storing}
+use Rattle.device.specs.declared.Units.{Units}
 use Rattle.receive.specs.Part.{Part, Service, partOf, linkAt, firstAt}
 use Rattle.receive.specs.Begin.{begin}
 use Rattle.receive.specs.Buffer.{buffer}
@@ -22,11 +22,16 @@ use Rattle.receive.specs.End.{fateOf, settles, goesOn, close, lack}
 use Rattle.receive.specs.Service.{serviceBy, service}
 use Rattle.chip.specs.World.{World}
 use Rattle.chip.specs.Turn.{statusBy, raisedIn, concluded, receiveUnits, receiveTurn, turnOf}
-use Rattle.held.specs.Held.{frameOf, frameIn, isSettled}
+use Rattle.traces.specs.Event.{Event, step}
+use Rattle.held.specs.Ending.{run}
+use Rattle.held.specs.Held.{frameOf, frameIn, isSettled, Settled}
+use Rattle.held.specs.Kept.{frameKept, Lent, worldIn}
+use Rattle.held.specs.Kept as kept
 use Rattle.held.specs.Effects.{Written}
 use Rattle.held.proofs.Service.{isFate}
 use Rattle.held.proofs.Turn.{isReceiving, turn-received}
-use Rattle.held.proofs.Held.{holding, passing}
+use Rattle.held.proofs.Held.{holding, passing, nothing, held-last}
+use Rattle.held.proofs.Kept.{units-in, kept-last}
 
 -- ---- one service
 
@@ -90,6 +95,35 @@ received f w e φ =
       fate = x .fate ∙ ap (fateOf (x .lacking)) g;
       rest = x .rest ++ status;
       memory = ap (λ (ws : List Write). apply (ws ++ status) (w .memory)) (x .writes)
-      ∙ ap (λ (ws : List Write). apply ws (w .memory)) (append-assoc (settles (x .lacking) p (x .storing) (w .memory)) (x .rest) status);
+          ∙ ap (λ (ws : List Write). apply ws (w .memory)) (append-assoc (settles (x .lacking) p (x .storing) (w .memory)) (x .rest) status);
       told = λ t. or-right (u .events .fr) (s .raised .fr) (x .told ∙ t);
     }
+
+settled-fate : (b : Bool) (φ : Fate) → isFate φ ≡ b → isSettled φ ≡ true → isFate φ ≡ true
+settled-fate true φ b s = b
+settled-fate false φ b s = absurd (false≢true (sym (ap isSettled (nothing φ b)) ∙ s))
+
+by : (v : Bool) (f : Frame) (w : World) (report : ℕ) → isReceiving (w .device .units) ≡ v → frameIn w ≡ some f
+    → isFate (turnOf w report .outcome .fate) ≡ true → Written f w (turnOf w report)
+by true f w report v e φ =
+    let t = turn-received w report v in rw t (received f w e (rw t at φ))
+by false f w report v e φ =
+    absurd (false≢true (sym (ap isFate (passing w report (holding (w .device .units .ru) f e) v .fate)) ∙ φ))
+
+-- a turn that stores or counts the held frame f
+pub effects : (f : Frame) (w : World) (report : ℕ) → frameIn w ≡ some f → isSettled (turnOf w report .outcome .fate) ≡ true
+    → Written f w (turnOf w report)
+effects f w report e s =
+    let φ = turnOf w report .outcome .fate in by (isReceiving (w .device .units)) f w report refl e (settled-fate (isFate φ) φ refl s)
+
+-- ---- the turn of the statement, over states and on the calls
+
+pub settled-writes : (n : ℕ) (f : Frame) (es : List Event) (w : World) → (s : Settled n f es w)
+    → Written f (run step (s .before) w) (turnOf (run step (s .before) w) (s .report))
+settled-writes n f es w s = effects f (run step (s .before) w) (s .report) (held-last f (s .before) w (s .holds)) (s .settled)
+
+pub called-writes : (n : ℕ) (f : Frame) (ls : List Lent) (r : List ℕ) → (s : kept.Settled n f ls r)
+    → Written f (worldIn (s .areas)) (turnOf (worldIn (s .areas)) (s .report))
+called-writes n f ls r s =
+    effects f (worldIn (s .areas)) (s .report)
+    (ap (λ (u : Units). frameOf (u .ru)) (units-in (s .areas)) ∙ ap frameKept (s .kept) ∙ kept-last f (s .before) r (s .holds)) (s .settled)

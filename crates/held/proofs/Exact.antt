@@ -8,6 +8,7 @@ use Prim.Native.Nat.{ℕ, zero, suc, _*_, _^_, _%_, _≤_, _<_}
 use native.Mathlib.Omega.{arith}
 use lib.Dec.{T, lit≤}
 use lib.ListN.{replicate}
+use Rattle.memory.specs.Memory.{wordAt}
 use Rattle.device.specs.declared.Fate.the-variants as fate
 use Rattle.device.specs.declared.Frame.{Frame}
 use Rattle.device.specs.declared.Verdict.the-variants as verdict
@@ -81,6 +82,11 @@ then-counted = refl
 pub then-free : frameIn (afterwards (turnOf (run step (turnsOf 131) begun) 0)) ≡ none
 unfolding begun passes
 then-free = refl
+
+-- RSCERRS, at 3Ch, is one up
+pub then-one-up : (wordAt (run step (turnsOf 131) begun .memory) 0x3C ≡ 0) × (wordAt (turnOf (run step (turnsOf 131) begun) 0 .memory) 0x3C ≡ 1)
+unfolding begun passes
+then-one-up = (refl, refl)
 
 -- so no turn of those settles it
 pub and-left : (a b : Bool) → T (a && b) → T a

@@ -172,7 +172,7 @@ all-along f (e ∷ es) w h =
     (h .0 .1, nothing (fateAt e w) (no-note (fateAt e w) (frameIn w) (h .1)), all-along f es (step e w) (h .2))
 
 -- at its end
-held-last : (f : Frame) (es : List Event) (w : World) → Holds f es w → frameIn (run step es w) ≡ some f
+pub held-last : (f : Frame) (es : List Event) (w : World) → Holds f es w → frameIn (run step es w) ≡ some f
 held-last f [] w h = h
 held-last f (e ∷ es) w h = held-last f es (step e w) (h .2)
 

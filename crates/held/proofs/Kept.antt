@@ -90,7 +90,7 @@ long : (r : List ℕ) (u : Units) → decodeOf r ≡ is.Units u → length r ≡
 long r u e = eqb-true (length r) 256 (long-by (eqb (length r) recordSize) r u refl e)
 
 -- the world of the areas has the units of the record
-units-in : (a : Areas) → worldIn a .device .units ≡ unitsOf (a .kept)
+pub units-in : (a : Areas) → worldIn a .device .units ≡ unitsOf (a .kept)
 unfolding deviceAt deviceFrom
 units-in a = refl
 
@@ -287,9 +287,9 @@ all-along : (f : Frame) (ls : List Lent) (r : List ℕ) → ending.Holds keeper 
 all-along f [] r h = h .1
 all-along f (l ∷ ls) r h = (h .0 .1, nothing (fateAt l) (no-note (fateAt l) (frameKept r) (h .1)), all-along f ls (stepKept l r) (h .2))
 
-held-last : (f : Frame) (ls : List Lent) (r : List ℕ) → Holds f ls r → frameKept (run stepKept ls r) ≡ some f
-held-last f [] r h = h
-held-last f (l ∷ ls) r h = held-last f ls (stepKept l r) (h .2)
+pub kept-last : (f : Frame) (ls : List Lent) (r : List ℕ) → Holds f ls r → frameKept (run stepKept ls r) ≡ some f
+kept-last f [] r h = h
+kept-last f (l ∷ ls) r h = kept-last f ls (stepKept l r) (h .2)
 
 settle : Closed → (n : ℕ) (f : Frame) (ls : List Lent) (r : List ℕ) (before : List Lent) (c : Call) (a : Areas) (after : List Lent)
     → AllFair ls r → ls ≡ before ++ (lent c a ∷ after) → turnsIn before < n → Holds f before r
@@ -304,7 +304,7 @@ settle k n f ls r before (turn report) a after y s l h e i φ =
     let t = taken (turn report) a (not-refused (isRefused (turnCall a report)) e) refl in
     let m = image x b (t .decoded) in
     let now : frameIn (worldIn a) ≡ some f =
-    ap (λ (u : Units). frameOf (u .ru)) (units-in a) ∙ ap frameKept (y′ .kept e) ∙ held-last f before r h in
+    ap (λ (u : Units). frameOf (u .ru)) (units-in a) ∙ ap frameKept (y′ .kept e) ∙ kept-last f before r h in
     let z = states.end-turn (worldIn a) report f now (to-hold (worldIn a .device) f (m .range) now)
     (sym (ap (λ (q : Bool). isFate (fateBy q (turn report) (worldIn a))) e) ∙ φ) in
     record {

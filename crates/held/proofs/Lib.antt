@@ -3,7 +3,7 @@ pub mod Ending
 pub mod Service
 pub mod Turn
 pub mod Held
-pub mod Effects
 pub mod Exact
 pub mod Kept
+pub mod Effects
 pub mod Lending

@@ -2,7 +2,6 @@
 use mathlib.Core.Path.{_≡_}
 use mathlib.Core.Bool.{Bool, true}
 use mathlib.Core.List.{List, _++_}
-use mathlib.Core.Option.{some}
 use Rattle.memory.specs.Memory.{Write, apply}
 use Rattle.device.specs.Answers.{isStored}
 use Rattle.device.specs.declared.Frame.{Frame}
