@@ -1,1 +1,9 @@
--- No laws yet.
+-- A held frame is stored or counted within 132 turns, and no fewer would do.
+pub mod Ending
+pub mod Service
+pub mod Turn
+pub mod Held
+pub mod Exact
+pub mod Kept
+pub mod Effects
+pub mod Lending

@@ -1,1 +1,5 @@
--- No definitions yet.
+-- Demand 3, second half: the held frame, over states and over records.
+pub mod Ending
+pub mod Held
+pub mod Kept
+pub mod Effects

@@ -1,0 +1,350 @@
+-- On the calls too the bound is met and attained: the run of `Exact` on a memory that the host puts back before each call. That a call leaves
+-- a state in range is a premise, `Closed`. Assumes nothing.
+use mathlib.Core.Path.{_≡_, refl, sym, ap, _∙_, subst}
+use mathlib.Core.Bool.{Bool, true, false, not, _&&_, false≢true}
+use mathlib.Core.List.{List, [], _∷_, _++_}
+use mathlib.Core.Option.{some}
+use Prim.Native.Nat.{ℕ, zero, suc, _+_, _*_, _^_, _%_, _<_}
+use native.Mathlib.Omega.{arith}
+use lib.Count.{ones}
+use lib.Dec.{T, lit≤}
+use lib.ListN.{length, getD, replicate, length-replicate}
+use Rattle.memory.specs.Memory.{digits, wordTo, apply}
+use Rattle.memory.specs.Size.{sizeAllowed}
+use Rattle.memory.proofs.Bytes.{Bytes, put-bytes, digits-bytes}
+use Rattle.device.specs.Limits.{recordSize, areaSize}
+use Rattle.device.specs.State.{isActive, cuState, isHolding}
+use Rattle.device.specs.declared.Answer.{Answer}
+use Rattle.device.specs.declared.Device.{Device}
+use Rattle.device.specs.declared.Refusal.the-variants as refusal
+use Rattle.words.specs.Places as places
+use Rattle.phases.specs.Words.{cuWord, ruWord}
+use Rattle.image.specs.Image.{imageOf, headShaped, shaped, decodeFull, decodeOf}
+use Rattle.image.specs.Ranges.{cuFits, frameFits, ruFits, unitsFit, initialisedOrFresh, inRange, Wide}
+use Rattle.image.specs.declared.Decoded.{Decoded}
+use Rattle.image.proofs.Steps.{length-image}
+use Rattle.image.proofs.Exact.{decode-image, device-back, image-bytes, fresh-wide}
+use Rattle.chip.specs.Call.{reset, attention, turn}
+use Rattle.chip.specs.Cases.{Word, _is_, put, passes}
+use Rattle.chip.specs.Turn.{servedBy, concluded, commandTurn, receiveTurn, turnBy, turnOf}
+use Rattle.chip.specs.World.{World, worldOf}
+use Rattle.lentoquist.specs.Calls.{Areas, areasOf, Called, packed, areasRight, refusalOf, keptBy, attentionCall, turnCall, resetCall}
+use Rattle.lentoquist.proofs.Laws.{accepted}
+use Rattle.traces.specs.Event.{call, isTurn}
+use Rattle.traces.specs.Bytes.{called, number, isRefused}
+use Rattle.progress.specs.Machine.{bit}
+use Rattle.held.specs.Held.{frameOf, isSettled, fateAt}
+use Rattle.held.specs.Kept.{unitsBy, frameKept, Lent, lent, isAccepted, worldIn, keptAfter, stepKept, turnsIn, Fair, AllFair, Settled, Within}
+use Rattle.held.proofs.Exact.{words, given, begun, frame, its-frame, and-left, and-right, not-settled}
+use Rattle.held.proofs.Kept.{Closed, held-frame}
+
+-- ---- what is lent
+
+-- memory as it was given, with the first buffer descriptor that the first frame's end wrote
+unfoldable pub memory : List ℕ
+memory = put (0x86 is 0xB0 ∷ []) (given .memory)
+
+abbrev pub area : List ℕ
+area = replicate areaSize 0
+
+-- a state on a memory m and areas h, and a turn that is lent these and the state's record
+abbrev pub on : List ℕ → List ℕ → Device → World
+on m h d = worldOf d m h h
+
+abbrev pub lentOn : List ℕ → List ℕ → Device → Areas
+lentOn m h d = areasOf m h h (imageOf d)
+
+abbrev pub turnOn : List ℕ → List ℕ → Device → Lent
+turnOn m h d = lent (turn 0) (lentOn m h d)
+
+abbrev pub next : List ℕ → List ℕ → Device → Device
+next m h d = turnOf (on m h d) 0 .outcome .device
+
+-- n turns, each on the record that the last one left
+abbrev pub turnsOn : ℕ → Device → List Lent
+turnsOn zero d = []
+turnsOn (suc n) d = turnOn memory area d ∷ turnsOn n (next memory area d)
+
+unfoldable pub device : Device
+device = begun .device
+
+-- ---- it is bytes, and of the right sizes
+
+pub record Right (m h : List ℕ) : Type 0 where
+  pub memory : Bytes m
+  pub area : Bytes h
+  pub size : sizeAllowed (length m) ≡ true
+  pub long : length h ≡ areaSize
+
+all-below : (v n i : ℕ) → v < 256 → getD (replicate n v) i 0 < 256
+all-below v zero i l = omega arith
+all-below v (suc n) zero l = l
+all-below v (suc n) (suc i) l = all-below v n i l
+
+filled-bytes : (v n : ℕ) → v < 256 → Bytes (replicate n v)
+filled-bytes v n l = record { each = λ i. all-below v n i l }
+
+words-bytes : (ws : List Word) (m : List ℕ) → Bytes m → Bytes (put ws m)
+words-bytes [] m b = b
+words-bytes (w ∷ ws) m b =
+    words-bytes ws (apply (wordTo (w .place) (w .value) ∷ []) m) (put-bytes m (w .place) (digits 2 (w .value)) b (digits-bytes 2 (w .value)))
+
+memory-bytes : Bytes memory
+unfolding memory
+memory-bytes = words-bytes (0x86 is 0xB0 ∷ []) (given .memory) (words-bytes words (replicate 8192 0) (filled-bytes 0 8192 (lit≤ tt)))
+
+memory-size : sizeAllowed (length memory) ≡ true
+unfolding memory passes sizeAllowed ones
+memory-size = refl
+
+memory-right : Right memory area
+memory-right = record { memory = memory-bytes; area = filled-bytes 0 areaSize (lit≤ tt); size = memory-size; long = refl }
+
+-- ---- the state is in range
+
+device-range : inRange device ≡ true
+unfolding device begun passes inRange unitsFit cuFits ruFits frameFits initialisedOrFresh
+device-range = refl
+
+device-wide : Wide device
+unfolding device begun passes cuWord ruWord
+device-wide =
+    record {
+      scb = lit≤ tt;
+      minimum = lit≤ tt;
+      cu = record { at = lit≤ tt; kind = lit≤ tt; size = lit≤ tt; next = lit≤ tt };
+      ru = record { at = lit≤ tt; kind = lit≤ tt; size = lit≤ tt; next = lit≤ tt };
+      own = refl;
+      listed = refl;
+      own-bytes = fresh-wide .own-bytes;
+      listed-bytes = fresh-wide .listed-bytes;
+    }
+
+-- ---- the calls on these areas are turns of these states
+
+pub record Good (d : Device) : Type 0 where
+  pub range : inRange d ≡ true
+  pub wide : Wide d
+
+-- a turn of the definitions is never refused
+turn-number : (c r l : Bool) (w : World) (report : ℕ) → turnBy (servedBy c r l) w report .outcome .answer .number ≡ refusal.Accepted
+unfolding commandTurn receiveTurn concluded
+turn-number false false l w report = refl
+turn-number true false l w report = refl
+turn-number false true l w report = refl
+turn-number true true true w report = refl
+turn-number true true false w report = refl
+
+turn-accepted : (w : World) (report : ℕ) → turnOf w report .outcome .answer .number ≡ refusal.Accepted
+unfolding turnOf
+turn-accepted w report =
+    turn-number (isActive (cuState (w .device .units .cu))) (isHolding (w .device .units .ru)) (w .device .units .rulast) w report
+
+number-zero : (a : Answer) → a .number ≡ refusal.Accepted → number (packed a) ≡ 0
+unfolding packed
+number-zero a e = rw e (omega arith)
+
+lengths : (h : List ℕ) (m : List ℕ) (d : Device) → length h ≡ areaSize → Wide d → areasRight (lentOn m h d) ≡ true
+unfolding areasRight
+lengths h m d l w = rw (length-image d (w .own) (w .listed), l)
+
+module _ (m h : List ℕ) (r : Right m h) (d : Device) (g : Good d) where
+  back : worldIn (lentOn m h d) ≡ on m h d
+  back = rw (decode-image d (g .wide) (g .range), device-back d (g .wide))
+
+  same : turnCall (lentOn m h d) 0 ≡ keptBy (turnOf (on m h d) 0)
+  unfolding turnCall
+  same =
+      accepted (lentOn m h d) [] (λ w. turnOf w 0) (d .units) (r .size) (lengths h m d (r .long) (g .wide)) refl (decode-image d (g .wide) (g .range))
+      ∙ ap (λ (x : Device). keptBy (turnOf (on m h x) 0)) (device-back d (g .wide))
+
+  taken : isAccepted (turnOn m h d) ≡ true
+  taken = ap (λ (x : Called). not (isRefused x)) same ∙ rw (number-zero (turnOf (on m h d) 0 .outcome .answer) (turn-accepted (on m h d) 0))
+
+  kept-next : stepKept (turnOn m h d) (imageOf d) ≡ imageOf (next m h d)
+  kept-next =
+      ap (λ (x : Bool). keptAfter x (turnCall (lentOn m h d) 0) (imageOf d)) taken ∙ ap (λ (x : Called). x .areas .kept) same
+
+  fair : Fair (turnOn m h d) (imageOf d)
+  fair =
+      record {
+        bytes = λ e. record { memory = r .memory; holding = r .area; outgoing = r .area; kept = image-bytes d (g .wide); frame = tt };
+        kept = λ e. refl;
+        calm = λ e. refl;
+      }
+
+-- ---- all along
+
+-- no turn of a trace settles a frame
+abbrev quietOn : List Lent → Bool
+quietOn [] = true
+quietOn (l ∷ ls) = not (isSettled (fateAt (call (l .call)) (worldIn (l .areas)))) && quietOn ls
+
+abbrev quiet : ℕ → Device → Bool
+quiet zero d = true
+quiet (suc n) d = not (isSettled (turnOf (on memory area d) 0 .outcome .fate)) && quiet n (next memory area d)
+
+module _ (k : Closed) where
+  good-next : (m h : List ℕ) → Right m h → (d : Device) → Good d → Good (next m h d)
+  good-next m h r d g =
+      let x = k (turn 0) (on m h d) tt (g .range) (g .wide) (r .memory) (r .area) (r .area) in record { range = x .0; wide = x .1 }
+
+  good-on : (d : Device) → Good d → Good (next memory area d)
+  good-on d g = good-next memory area memory-right d g
+
+  all-fair : (n : ℕ) (d : Device) → Good d → AllFair (turnsOn n d) (imageOf d)
+  all-fair zero d g = tt
+  all-fair (suc n) d g = (
+    fair memory area memory-right d g,
+    subst (λ (r : List ℕ). AllFair (turnsOn n (next memory area d)) r) (sym (kept-next memory area memory-right d g))
+        (all-fair n (next memory area d) (good-on d g)),
+  )
+
+  all-taken : (n : ℕ) (d : Device) → Good d → turnsIn (turnsOn n d) ≡ n
+  all-taken zero d g = refl
+  all-taken (suc n) d g = rw (taken memory area memory-right d g, all-taken n (next memory area d) (good-on d g)) (omega arith)
+
+  as-quiet : (n : ℕ) (d : Device) → Good d → quietOn (turnsOn n d) ≡ quiet n d
+  as-quiet zero d g = refl
+  as-quiet (suc n) d g =
+      ap (λ (w : World). not (isSettled (turnOf w 0 .outcome .fate)) && quietOn (turnsOn n (next memory area d))) (back memory area memory-right d g)
+      ∙ ap (λ (b : Bool). not (isSettled (turnOf (on memory area d) 0 .outcome .fate)) && b) (as-quiet n (next memory area d) (good-on d g))
+
+quiet-at : (before : List Lent) (report : ℕ) (a : Areas) (after : List Lent) → T (quietOn (before ++ (lent (turn report) a ∷ after)))
+    → isSettled (turnOf (worldIn a) report .outcome .fate) ≡ true → ⊥
+quiet-at [] report a after q =
+    not-settled (isSettled (turnOf (worldIn a) report .outcome .fate))
+    (and-left (not (isSettled (turnOf (worldIn a) report .outcome .fate))) (quietOn after) q)
+quiet-at (l ∷ ls) report a after q =
+    quiet-at ls report a after
+    (and-right (not (isSettled (fateAt (call (l .call)) (worldIn (l .areas))))) (quietOn (ls ++ (lent (turn report) a ∷ after))) q)
+
+-- ---- the run
+
+quiet-131 : T (quiet 131 device)
+unfolding memory device begun passes
+quiet-131 = tt
+
+device-good : Good device
+device-good = record { range = device-range; wide = device-wide }
+
+pub its-record : frameKept (imageOf device) ≡ some frame
+unfolding device
+its-record = ap (λ (x : Decoded). frameOf (unitsBy x .ru)) (decode-image device device-wide device-range) ∙ its-frame
+
+unsettled : Closed → (n : ℕ) → Settled n frame (turnsOn 131 device) (imageOf device) → ⊥
+unsettled k n s =
+    quiet-at (s .before) (s .report) (s .areas) (s .after)
+    (subst (λ (ls : List Lent). T (quietOn ls)) (s .split) (subst T (sym (as-quiet k 131 device device-good)) quiet-131)) (s .settled)
+
+-- 132 is exact on the calls: with any smaller number the statement is false
+pub exact : Closed → (n : ℕ) → n < 132 → Within n → ⊥
+exact k n l h =
+    unsettled k n (h (imageOf device) frame (turnsOn 131 device) its-record (all-fair k 131 device device-good)
+    (rw (all-taken k 131 device device-good) (omega (arith, l))))
+
+-- the premises can be met
+pub met : Closed → Settled 132 frame (turnsOn 132 device) (imageOf device)
+met k =
+    held-frame k (imageOf device) frame (turnsOn 132 device) its-record (all-fair k 132 device device-good)
+    (rw (all-taken k 132 device device-good) (lit≤ tt))
+
+-- ---- and met among refusals, with another memory of another size and other areas at each call
+
+-- refused: an attention on no memory, a reset of a record of no bytes, a turn on a record that is no image
+abbrev pub attended : Lent
+attended = lent attention (areasOf [] [] [] [])
+
+abbrev pub renewed : Lent
+renewed = lent reset (areasOf [] [] [] [])
+
+abbrev pub turned : Lent
+turned = lent (turn 0) (areasOf memory area area (replicate recordSize 0))
+
+abbrev pub refusals : List Lent → List Lent
+refusals ls = attended ∷ renewed ∷ turned ∷ ls
+
+-- the n-th memory and areas
+abbrev pub memoryAt : ℕ → List ℕ
+memoryAt n = replicate (8192 * 2 ^ (n % 3)) (n % 256)
+
+abbrev pub areaAt : ℕ → List ℕ
+areaAt n = replicate areaSize (n % 255)
+
+abbrev pub restless : ℕ → Device → List Lent
+restless zero d = []
+restless (suc n) d = refusals (turnOn (memoryAt n) (areaAt n) d ∷ restless n (next (memoryAt n) (areaAt n) d))
+
+size-by : (j : ℕ) → j < 3 → sizeAllowed (8192 * 2 ^ j) ≡ true
+unfolding sizeAllowed ones
+size-by zero l = refl
+size-by (suc zero) l = refl
+size-by (suc (suc zero)) l = refl
+size-by (suc (suc (suc j))) l = absurd (omega (arith, l))
+
+right-at : (n : ℕ) → Right (memoryAt n) (areaAt n)
+right-at n =
+    record {
+      memory = filled-bytes (n % 256) (8192 * 2 ^ (n % 3)) (omega arith);
+      area = filled-bytes (n % 255) areaSize (omega arith);
+      size = rw (length-replicate (8192 * 2 ^ (n % 3)) (n % 256)) (size-by (n % 3) (omega arith));
+      long = length-replicate areaSize (n % 255);
+    }
+
+-- a refused call may stand anywhere
+fair-refused : (l : Lent) (ls : List Lent) (r : List ℕ) → isAccepted l ≡ false → AllFair ls r → AllFair (l ∷ ls) r
+fair-refused l ls r e y = (
+  record {
+    bytes = λ t. absurd (false≢true (sym e ∙ t));
+    kept = λ t. absurd (false≢true (sym e ∙ t));
+    calm = λ t. absurd (false≢true (sym e ∙ t));
+  },
+  subst (λ (q : List ℕ). AllFair ls q) (sym (ap (λ (b : Bool). keptAfter b (called (l .call) (l .areas)) r) e)) y,
+)
+
+turns-refused : (l : Lent) (ls : List Lent) → isAccepted l ≡ false → turnsIn (l ∷ ls) ≡ turnsIn ls
+turns-refused l ls e = ap (λ (b : Bool). bit (b && isTurn (call (l .call))) + turnsIn ls) e ∙ omega arith
+
+no-memory : isAccepted attended ≡ false
+unfolding attentionCall refusalOf sizeAllowed packed
+no-memory = refl
+
+no-record : isAccepted renewed ≡ false
+unfolding resetCall packed
+no-record = refl
+
+no-image : isAccepted turned ≡ false
+unfolding memory passes sizeAllowed ones turnCall refusalOf areasRight packed decodeOf decodeFull shaped headShaped places.field places.bytesFrom
+no-image = refl
+
+among-fair : (ls : List Lent) (r : List ℕ) → AllFair ls r → AllFair (refusals ls) r
+among-fair ls r y =
+    fair-refused attended (renewed ∷ turned ∷ ls) r no-memory
+    (fair-refused renewed (turned ∷ ls) r no-record (fair-refused turned ls r no-image y))
+
+among-turns : (ls : List Lent) → turnsIn (refusals ls) ≡ turnsIn ls
+among-turns ls =
+    turns-refused attended (renewed ∷ turned ∷ ls) no-memory ∙ turns-refused renewed (turned ∷ ls) no-record ∙ turns-refused turned ls no-image
+
+module _ (k : Closed) where
+  restless-fair : (n : ℕ) (d : Device) → Good d → AllFair (restless n d) (imageOf d)
+  restless-fair zero d g = tt
+  restless-fair (suc n) d g =
+      let m = memoryAt n in
+      let h = areaAt n in
+      let x = restless-fair n (next m h d) (good-next k m h (right-at n) d g) in
+      among-fair (turnOn m h d ∷ restless n (next m h d)) (imageOf d)
+      (fair m h (right-at n) d g, subst (λ (r : List ℕ). AllFair (restless n (next m h d)) r) (sym (kept-next m h (right-at n) d g)) x)
+
+  restless-turns : (n : ℕ) (d : Device) → Good d → turnsIn (restless n d) ≡ n
+  restless-turns zero d g = refl
+  restless-turns (suc n) d g =
+      let m = memoryAt n in
+      let h = areaAt n in
+      among-turns (turnOn m h d ∷ restless n (next m h d))
+      ∙ rw (taken m h (right-at n) d g, restless-turns n (next m h d) (good-next k m h (right-at n) d g)) (omega arith)
+
+pub met-restless : Closed → Settled 132 frame (restless 132 device) (imageOf device)
+met-restless k =
+    held-frame k (imageOf device) frame (restless 132 device) its-record (restless-fair k 132 device device-good)
+    (rw (restless-turns k 132 device device-good) (lit≤ tt))

@@ -1,0 +1,134 @@
+-- Demand 3, second half, over the calls on byte areas: the host keeps the record, and lends what it will of all else. Assumes nothing.
+use mathlib.Core.Path.{_≡_}
+use mathlib.Core.Bool.{Bool, true, false, not, _&&_}
+use mathlib.Core.List.{List, [], _∷_, _++_}
+use mathlib.Core.Option.{Option, none, some}
+use Prim.Native.Nat.{ℕ, _+_, _≤_, _<_}
+use Rattle.memory.proofs.Bytes.{Bytes}
+use Rattle.device.specs.State.{freshUnits}
+use Rattle.device.specs.declared.Fate.{Fate}
+use Rattle.device.specs.declared.Fate.the-variants as fate
+use Rattle.device.specs.declared.Frame.{Frame}
+use Rattle.device.specs.declared.Units.{Units}
+use Rattle.image.specs.Image.{decodeOf, deviceAt}
+use Rattle.image.specs.declared.Decoded.{Decoded}
+use Rattle.image.specs.declared.Decoded.the-variants as is
+use Rattle.chip.specs.World.{World, worldOf}
+use Rattle.chip.specs.Call.{Call, reset, attention, arrive, turn}
+use Rattle.chip.specs.Turn.{turnOf}
+use Rattle.lentoquist.specs.Calls.{Areas, Called, keptBy, turnCall}
+use Rattle.traces.specs.Event.{call, isTurn, isCalm}
+use Rattle.traces.specs.Bytes.{called, isRefused}
+use Rattle.progress.specs.Machine.{bit}
+use Rattle.held.specs.Ending.{run}
+use Rattle.held.specs.Held.{frameOf, isSettled}
+use Rattle.held.specs.Held as held
+
+-- ---- a record
+
+-- the units that a record says; a record that is no image says nothing, as after reset
+abbrev pub unitsBy : Decoded → Units
+unitsBy (is.Units u) = u
+unitsBy is.Foreign = freshUnits
+
+abbrev pub unitsOf : List ℕ → Units
+unitsOf r = unitsBy (decodeOf r)
+
+-- the frame that it holds
+abbrev pub frameKept : List ℕ → Option Frame
+frameKept r = frameOf (unitsOf r .ru)
+
+-- ---- a call and the areas that it is lent
+
+pub record Lent : Type 0 where
+  pub call : Call
+  pub areas : Areas
+
+abbrev pub lent : Call → Areas → Lent
+lent c a = record { call = c; areas = a }
+
+abbrev pub isAccepted : Lent → Bool
+isAccepted l = not (isRefused (called (l .call) (l .areas)))
+
+-- the world that the areas say
+abbrev pub worldIn : Areas → World
+worldIn a = worldOf (deviceAt (a .kept) (unitsOf (a .kept))) (a .memory) (a .holding) (a .outgoing)
+
+-- the record that the host keeps after a call: what the call left, if it was not refused
+abbrev pub keptAfter : (accepted : Bool) → Called → List ℕ → List ℕ
+keptAfter true c r = c .areas .kept
+keptAfter false c r = r
+
+abbrev pub stepKept : Lent → List ℕ → List ℕ
+stepKept l r = keptAfter (isAccepted l) (called (l .call) (l .areas)) r
+
+-- a turn that is not refused
+abbrev pub isTaken : Lent → Bool
+isTaken l = isAccepted l && isTurn (call (l .call))
+
+-- what a call makes of a held frame
+abbrev pub fateBy : (accepted : Bool) → Call → World → Fate
+fateBy true c w = held.fateAt (call c) w
+fateBy false c w = fate.Nothing
+
+abbrev pub fateAt : Lent → Fate
+fateAt l = fateBy (isAccepted l) (l .call) (worldIn (l .areas))
+
+-- ---- a trace
+
+abbrev pub turnsIn : List Lent → ℕ
+turnsIn [] = 0
+turnsIn (l ∷ ls) = bit (isTaken l) + turnsIn ls
+
+-- byte areas hold bytes
+abbrev pub frameBytes : Call → Type 0
+frameBytes reset = Unit {0}
+frameBytes attention = Unit {0}
+frameBytes (arrive f v) = Bytes f
+frameBytes (turn report) = Unit {0}
+
+pub record AreBytes (l : Lent) : Type 0 where
+  pub memory : Bytes (l .areas .memory)
+  pub holding : Bytes (l .areas .holding)
+  pub outgoing : Bytes (l .areas .outgoing)
+  pub kept : Bytes (l .areas .kept)
+  pub frame : frameBytes (l .call)
+
+-- a call that is not refused is lent the record that was kept, and is no attention and no reset. All else is as the host will, and of a call
+-- that is refused nothing is asked
+pub record Fair (l : Lent) (r : List ℕ) : Type 0 where
+  pub bytes : isAccepted l ≡ true → AreBytes l
+  pub kept : isAccepted l ≡ true → l .areas .kept ≡ r
+  pub calm : isAccepted l ≡ true → isCalm (call (l .call)) ≡ true
+
+-- so at each call, from the record r on
+abbrev pub AllFair : List Lent → List ℕ → Type 0
+AllFair [] r = Unit {0}
+AllFair (l ∷ ls) r = Fair l r × AllFair ls (stepKept l r)
+
+-- the frame f is held in the record all along, and nothing is made of it
+abbrev pub Holds : Frame → List Lent → List ℕ → Type 0
+Holds f [] r = frameKept r ≡ some f
+Holds f (l ∷ ls) r = (frameKept r ≡ some f) × (fateAt l ≡ fate.Nothing) × Holds f ls (stepKept l r)
+
+-- ---- the statement
+
+-- one of the first n turns that are not refused settles the frame f, which is held until then and no longer: this call leaves what the turn
+-- of the definitions leaves, and that turn stores or counts f
+pub record Settled (n : ℕ) (f : Frame) (ls : List Lent) (r : List ℕ) : Type 0 where
+  pub before : List Lent
+  pub report : ℕ
+  pub areas : Areas
+  pub after : List Lent
+  pub split : ls ≡ before ++ (lent (turn report) areas ∷ after)
+  pub soon : turnsIn before < n
+  pub holds : Holds f before r
+  pub accepted : isAccepted (lent (turn report) areas) ≡ true
+  pub kept : areas .kept ≡ run stepKept before r
+  pub leaves : turnCall areas report ≡ keptBy (turnOf (worldIn areas) report)
+  pub settled : isSettled (turnOf (worldIn areas) report .outcome .fate) ≡ true
+  pub free : frameKept (turnCall areas report .areas .kept) ≡ none
+
+-- the frame that a record holds is stored or counted within n turns that are not refused, if the record is kept and no attention or reset comes
+abbrev pub Within : ℕ → Type 0
+Within n = (r : List ℕ) (f : Frame) (ls : List Lent) → frameKept r ≡ some f → AllFair ls r → n ≤ turnsIn ls → Settled n f ls r
