@@ -23,7 +23,7 @@ use Rattle.receive.specs.Service.{serviceBy, service}
 use Rattle.chip.specs.World.{World}
 use Rattle.chip.specs.Turn.{statusBy, raisedIn, concluded, receiveUnits, receiveTurn, turnOf}
 use Rattle.traces.specs.Event.{Event, step}
-use Rattle.held.specs.Ending.{run}
+use Rattle.progress.specs.Holder.{run}
 use Rattle.held.specs.Held.{frameOf, frameIn, isSettled, Settled}
 use Rattle.held.specs.Kept.{frameKept, Lent, worldIn}
 use Rattle.held.specs.Kept as kept

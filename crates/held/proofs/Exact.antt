@@ -18,7 +18,7 @@ use Rattle.chip.specs.Turn.{turnOf}
 use Rattle.chip.specs.World.{World, afterwards}
 use Rattle.chip.proofs.Board.{board, descriptors, bufferAt, broadcast, good}
 use Rattle.traces.specs.Event.{Event, call, host, step}
-use Rattle.held.specs.Ending.{run}
+use Rattle.progress.specs.Holder.{run}
 use Rattle.held.specs.Held.{frameIn, isSettled, Calm, fateAt, Settled, Within}
 use Rattle.held.proofs.Held.{held-frame}
 

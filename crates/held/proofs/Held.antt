@@ -18,10 +18,10 @@ use Rattle.chip.specs.Turn.{turnOf}
 use Rattle.traces.specs.Event.{Event, call, host, step, isTurn, isCalm}
 use Rattle.progress.specs.Machine.{turns}
 use Rattle.progress.specs.Holder.{Holder, Went, ended, goes, Stays, Mays}
-use Rattle.held.specs.Ending.{run, Ends}
-use Rattle.held.specs.Ending as ending
+use Rattle.progress.specs.Holder.{run, Ends}
+use Rattle.progress.specs.Holder as ending
 use Rattle.held.specs.Held.{frameOf, frameIn, isToHold, isSettled, turnsIn, Calm, fateAt, Holds, Settled, Within}
-use Rattle.held.proofs.Ending.{ends-within}
+use Rattle.progress.proofs.Holder.{ends-within}
 use Rattle.held.proofs.Service as service
 use Rattle.held.proofs.Service.{leftOf, left-positive, left-most, isFate, Serving}
 use Rattle.held.proofs.Turn.{receives, receive-last, Passes, passes, isReceiving, turn-received, turn-commanded, arrival-unit, arrival-last}

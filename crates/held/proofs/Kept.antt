@@ -35,13 +35,13 @@ use Rattle.traces.specs.Event.{call, step, isTurn, isCalm}
 use Rattle.traces.specs.Bytes.{called, isRefused}
 use Rattle.progress.specs.Machine.{turns}
 use Rattle.progress.specs.Holder.{Holder, Went, ended, goes, Stays, Mays}
-use Rattle.held.specs.Ending.{run, Ends}
-use Rattle.held.specs.Ending as ending
+use Rattle.progress.specs.Holder.{run, Ends}
+use Rattle.progress.specs.Holder as ending
 use Rattle.held.specs.Held.{frameOf, frameIn, isToHold}
 use Rattle.held.specs.Held as held
 use Rattle.held.specs.Kept.{unitsBy, unitsOf, frameKept, Lent, lent, isAccepted, worldIn, keptAfter, stepKept, isTaken, fateBy, fateAt}
 use Rattle.held.specs.Kept.{turnsIn, frameBytes, AreBytes, Fair, AllFair, Holds, Settled, Within}
-use Rattle.held.proofs.Ending.{ends-within}
+use Rattle.progress.proofs.Holder.{ends-within}
 use Rattle.held.proofs.Service.{leftOf, left-positive, left-most, isFate}
 use Rattle.held.proofs.Turn.{isReceiving}
 use Rattle.held.proofs.Held as states

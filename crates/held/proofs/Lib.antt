@@ -1,5 +1,4 @@
 -- A held frame is stored or counted within 132 turns, and no fewer would do.
-pub mod Ending
 pub mod Service
 pub mod Turn
 pub mod Held

@@ -16,7 +16,7 @@ use Rattle.chip.specs.Call.{reset, attention, arrive, turn}
 use Rattle.chip.specs.Turn.{turnOf}
 use Rattle.traces.specs.Event.{Event, call, host, step, isTurn, isCalm}
 use Rattle.progress.specs.Machine.{bit}
-use Rattle.held.specs.Ending.{run}
+use Rattle.progress.specs.Holder.{run}
 
 -- ---- the held frame
 

@@ -20,7 +20,7 @@ use Rattle.lentoquist.specs.Calls.{Areas, Called, keptBy, turnCall}
 use Rattle.traces.specs.Event.{call, isTurn, isCalm}
 use Rattle.traces.specs.Bytes.{called, isRefused}
 use Rattle.progress.specs.Machine.{bit}
-use Rattle.held.specs.Ending.{run}
+use Rattle.progress.specs.Holder.{run}
 use Rattle.held.specs.Held.{frameOf, isSettled}
 use Rattle.held.specs.Held as held
 

@@ -1,5 +1,4 @@
 -- Demand 3, second half: the held frame, over states and over records.
-pub mod Ending
 pub mod Held
 pub mod Kept
 pub mod Effects
