@@ -1,1 +1,2 @@
--- No laws yet.
+-- What becomes of each frame.
+pub mod Arrival

@@ -1,1 +1,3 @@
--- No definitions yet.
+-- What becomes of each frame, for the laws of this crate.
+pub mod Arrival
+pub mod Held
