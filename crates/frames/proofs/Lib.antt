@@ -1,2 +1,4 @@
 -- What becomes of each frame.
 pub mod Arrival
+pub mod End
+pub mod Held

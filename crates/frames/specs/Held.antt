@@ -135,10 +135,12 @@ statusAfter r = statusTo (r .outcome .device .units) ∷ []
 
 -- ---- stored, counted
 
--- stored: the turn's writes contain the 14 header bytes from the holding area and the status word with C, and FR is set in the record
+-- stored: the turn's writes contain the 14 header bytes from the holding area and the status word with C (and bit 9 exactly if out of buffers), and
+-- FR is set in the record
 pub record Stored (lacking : Bool) (s : Storing) (rest : List Write) (w : World) (r : Ran) : Type 0 where
   pub memory : r .memory ≡ apply (headerTo w s ∷ markTo w s (frameStatus lacking (s .frame)) ∷ rest) (w .memory)
   pub complete : bit (frameStatus lacking (s .frame)) 15 ≡ true
+  pub lacks : bit (frameStatus lacking (s .frame)) 9 ≡ lacking
   pub fr : r .outcome .device .units .events .fr ≡ true
   pub gone : heldIn (r .outcome .device .units .ru) ≡ []
   pub holding : r .holding ≡ w .holding
@@ -195,7 +197,6 @@ pub data BadFate (f : Frame) (c : Call) (w : World) : Type 0 where
       → Stored false s (bareTo w s ++ (onward w s free full ++ statusAfter (ran c w))) w (ran c w)
       → BadFate f c w
   lacking : (s : Storing) → ends c w ≡ true → unitOf w ≡ ru.Lacking s → s .frame ≡ f
-      → bit (frameStatus true f) 9 ≡ true
       → ran c w .outcome .fate ≡ fate.Stored
       → Stored true s (bareTo w s ++ statusAfter (ran c w)) w (ran c w)
       → BadFate f c w
