@@ -50,7 +50,7 @@ use Rattle.frames.proofs.End.{part, turned, Closed, closed, Both, both,
 
 -- ---- a unit that holds a frame
 
-none≢one : {f : Frame} → [] ≡ f ∷ [] → ⊥
+pub none≢one : {f : Frame} → [] ≡ f ∷ [] → ⊥
 none≢one e = nil≢cons e
 
 pub holds : (u : Ru) (f : Frame) → heldIn u ≡ f ∷ [] → isHolding u ≡ true
@@ -67,7 +67,7 @@ firstOf : Frame → List Frame → Frame
 firstOf d [] = d
 firstOf d (f ∷ fs) = f
 
-same-frame : (f g : Frame) → g ∷ [] ≡ f ∷ [] → g ≡ f
+pub same-frame : (f g : Frame) → g ∷ [] ≡ f ∷ [] → g ≡ f
 unfolding firstOf
 same-frame f g e = ap (firstOf f) e
 
@@ -84,7 +84,7 @@ not-idle c (ru.Filling s w) h i = false≢true (parts c _ i .1)
 not-idle c (ru.Closing s free full) h i = false≢true (parts c _ i .1)
 not-idle c (ru.Lacking s) h i = false≢true (parts c _ i .1)
 
-or-left : (a b : Bool) → (a || b) ≡ true → (b ≡ true → ⊥) → a ≡ true
+pub or-left : (a b : Bool) → (a || b) ≡ true → (b ≡ true → ⊥) → a ≡ true
 or-left true b h n = refl
 or-left false b h n = absurd (n h)
 
@@ -175,10 +175,10 @@ at-arrival w f bs v h =
 
 -- ---- an attention
 
-attended : World → attentions.Attended → Ran
+unfoldable pub attended : World → attentions.Attended → Ran
 attended w a = writing w (a .writes) (a .outcome)
 
-to-attend : (w : World) → w .device .units .initialised ≡ true
+pub to-attend : (w : World) → w .device .units .initialised ≡ true
     → attended w (attentions.attendBy (resets (commandOf w)) (w .device) (commandOf w) (w .memory)) ≡ attentionOf w
 unfolding attended attentionOf attentions.attention attentions.attend
 to-attend w i = ap (λ (b : Bool). attended w (attentions.attentionBy b (w .device) (w .memory))) (sym i)
@@ -202,13 +202,13 @@ at-reset w h r e =
     (ap (λ (x : Ran). x .memory) (sym e) ∙ reset-memory w)
 
 -- it obeys, and the table leads the receive unit to n
-obeyed : RuState → World → Ran
+unfoldable pub obeyed : RuState → World → Ran
 obeyed n w =
     let u = w .device .units in
     let c = obeyCuc u (commandOf w) (w .memory) in
     attended w (attentions.obeyedBy (w .device) (commandOf w) c (ruObeys n u (ruFirst u (commandOf w) (apply (c .writes) (w .memory)))))
 
-obey-is : (w : World) → obeyed (ruNext (ruc (commandOf w)) (ruState (unitOf w))) w ≡ attended w (attentions.obey (w .device) (commandOf w) (w .memory))
+pub obey-is : (w : World) → obeyed (ruNext (ruc (commandOf w)) (ruState (unitOf w))) w ≡ attended w (attentions.obey (w .device) (commandOf w) (w .memory))
 unfolding obeyed attentions.obey obeyRuc
 obey-is w = refl
 
@@ -223,7 +223,7 @@ aborted-idle : (w : World) → isHolding (unitOf w) ≡ true → Aborted w (obey
 unfolding obeyed attended attentions.unitsAfter
 aborted-idle w h = record { fate = ap (λ (b : Bool). lostBy fate.Aborted b false) h; unit = refl; memory = refl }
 
-isIdle : RuState → Bool
+abbrev pub isIdle : RuState → Bool
 isIdle rus.Idle = true
 isIdle rus.Suspended = false
 isIdle rus.NoResources = false
@@ -250,14 +250,13 @@ ready-keeps first (ru.Filling s w) = refl
 ready-keeps first (ru.Closing s free full) = refl
 ready-keeps first (ru.Lacking s) = refl
 
-goes-on : (n : RuState) (first : Offset) (u : Ru) → isIdle n ≡ false → heldIn (ruGoes n first u) ≡ heldIn u
-unfolding isIdle
+pub goes-on : (n : RuState) (first : Offset) (u : Ru) → isIdle n ≡ false → heldIn (ruGoes n first u) ≡ heldIn u
 goes-on rus.Idle first u i = absurd (true≢false i)
 goes-on rus.Suspended first u i = suspended-keeps u
 goes-on rus.NoResources first u i = refl
 goes-on rus.Ready first u i = ready-keeps first u
 
-not-lost : (a b : Bool) → b ≡ true → ofHeld (lostBy fate.Aborted a b) ≡ false
+pub not-lost : (a b : Bool) → b ≡ true → ofHeld (lostBy fate.Aborted a b) ≡ false
 not-lost true true h = refl
 not-lost true false h = absurd (false≢true h)
 not-lost false b h = refl
@@ -272,7 +271,6 @@ obeyed-keeps n w f h i =
 
 -- the table, from Ready: ABORT alone leads to Idle
 next-by : (a b c : Bool) → isIdle (cond a rus.Ready (cond b rus.Ready (cond c rus.Suspended rus.Ready))) ≡ false
-unfolding isIdle
 next-by true b c = refl
 next-by false true c = refl
 next-by false false true = refl
@@ -323,7 +321,7 @@ unfolding commandTurn concluded
 command-keeps w f report h = record { unit = h; holding = refl; fate = refl }
 
 -- the receive unit is
-to-turned : (w : World) (u : Ru) → unitOf w ≡ u → turned w (services.serviceBy u (part w) (w .memory)) ≡ receiveTurn w
+pub to-turned : (w : World) (u : Ru) → unitOf w ≡ u → turned w (services.serviceBy u (part w) (w .memory)) ≡ receiveTurn w
 unfolding turned receiveTurn services.service
 to-turned w u e = ap (λ (x : Ru). turned w (services.serviceBy x (part w) (w .memory))) (sym e)
 
@@ -365,7 +363,7 @@ at-service (ru.Closing s free full) w f c e h r l n =
     closing s free full n e (same-frame f (s .frame) h) (subst (Closed w s free full) r (closed w s free full))
 at-service (ru.Lacking s) w f c e h r l n = lacking s n e (same-frame f (s .frame) h) r
 
-served-as : (c h l : Bool) (w : World) (report : ℕ) → isActive (cuState (w .device .units .cu)) ≡ c → isHolding (unitOf w) ≡ h → w .device .units .rulast ≡ l
+pub served-as : (c h l : Bool) (w : World) (report : ℕ) → isActive (cuState (w .device .units .cu)) ≡ c → isHolding (unitOf w) ≡ h → w .device .units .rulast ≡ l
     → turnBy (servedBy c h l) w report ≡ turnOf w report
 unfolding turnOf
 served-as c h l w report a b d =
@@ -398,12 +396,11 @@ reset-lost : (w : World) → Lost w reset
 unfolding resetOf
 reset-lost w = by-reset refl refl
 
-pub held-fate : (c : Call) (w : World) (f : Frame) → inRange (w .device) ≡ true → heldIn (unitOf w) ≡ f ∷ [] → HeldFate f c w
-held-fate reset w f r h = lost refl (reset-lost w)
-held-fate attention w f r h =
-    at-attention (resets (commandOf w)) (eqb (ruc (commandOf w)) 4) w f h (held-initialised (w .device) r (holds (unitOf w) f h)) refl refl
-held-fate (arrive bs v) w f r h = stays refl refl (at-arrival w f bs v h)
-held-fate (turn report) w f r h = at-turn (isActive (cuState (w .device .units .cu))) (w .device .units .rulast) w f report h refl refl
+pub held-fate : (c : Call) (w : World) (f : Frame) → w .device .units .initialised ≡ true → heldIn (unitOf w) ≡ f ∷ [] → HeldFate f c w
+held-fate reset w f i h = lost refl (reset-lost w)
+held-fate attention w f i h = at-attention (resets (commandOf w)) (eqb (ruc (commandOf w)) 4) w f h i refl refl
+held-fate (arrive bs v) w f i h = stays refl refl (at-arrival w f bs v h)
+held-fate (turn report) w f i h = at-turn (isActive (cuState (w .device .units .cu))) (w .device .units .rulast) w f report h refl refl
 
 -- ---- a good one
 
@@ -416,7 +413,7 @@ good-lacking false c w f s n e q g b r =
     let x = subst (OnlyCounted w s) r (only-counted w s (ap (λ (k : Frame). k .savebad) q ∙ b) (ap isGood q ∙ g)) in
     held.counted s n e q b (x .fate) (x .counted)
 
-good-of : (c : Call) (w : World) (f : Frame) → isGood f ≡ true → HeldFate f c w → GoodFate f c w
+pub good-of : (c : Call) (w : World) (f : Frame) → isGood f ≡ true → HeldFate f c w → GoodFate f c w
 good-of c w f g (stays l n k) = held.stays l n k
 good-of c w f g (closing s free full n e q k) = held.stored s free full n e q (k .fate) (k .stored)
 good-of c w f g (lacking s n e q r) = good-lacking (f .savebad) c w f s n e q g refl r
@@ -425,15 +422,15 @@ good-of c w f g (lost l k) = held.lost l k
 -- every call, while a good frame is held: it stays held; or it is stored; or counted; or both, exactly if kept with too few buffers; or lost, and
 -- only by an RU abort, the reset call or a resetting attention
 pub good-held : (c : Call) (w : World) (f : Frame) → inRange (w .device) ≡ true → heldIn (unitOf w) ≡ f ∷ [] → isGood f ≡ true → GoodFate f c w
-good-held c w f r h g = good-of c w f g (held-fate c w f r h)
+good-held c w f r h g = good-of c w f g (held-fate c w f (held-initialised (w .device) r (holds (unitOf w) f h)) h)
 
 -- ---- a bad one
 
-or-right : (a b : Bool) → (a || b) ≡ true → a ≡ false → b ≡ true
+pub or-right : (a b : Bool) → (a || b) ≡ true → a ≡ false → b ≡ true
 or-right true b h n = absurd (true≢false n)
 or-right false b h n = h
 
-bad-of : (c : Call) (w : World) (f : Frame) → isGood f ≡ false → f .savebad ≡ true → HeldFate f c w → BadFate f c w
+pub bad-of : (c : Call) (w : World) (f : Frame) → isGood f ≡ false → f .savebad ≡ true → HeldFate f c w → BadFate f c w
 bad-of c w f g b (stays l n k) = held.stays l n k
 bad-of c w f g b (closing s free full n e q k) = held.stored s free full n e q (k .fate) (k .stored)
 bad-of c w f g b (lacking s n e q r) =
@@ -444,4 +441,6 @@ bad-of c w f g b (lost l k) = held.lost l k
 -- every call, while a bad frame is held: it stays held; or is stored, with bit 9 if out of buffers, and no counter moves in that turn; or is lost in
 -- the same three ways
 pub bad-held : (c : Call) (w : World) (f : Frame) → inRange (w .device) ≡ true → heldIn (unitOf w) ≡ f ∷ [] → isGood f ≡ false → BadFate f c w
-bad-held c w f r h g = bad-of c w f g (or-right (isGood f) (f .savebad) (held-saved (w .device) f r h) g) (held-fate c w f r h)
+bad-held c w f r h g =
+    bad-of c w f g (or-right (isGood f) (f .savebad) (held-saved (w .device) f r h) g)
+    (held-fate c w f (held-initialised (w .device) r (holds (unitOf w) f h)) h)

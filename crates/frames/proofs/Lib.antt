@@ -2,4 +2,5 @@
 pub mod Arrival
 pub mod End
 pub mod Held
+pub mod Sound
 pub mod Stands

@@ -2,3 +2,4 @@
 pub mod Arrival
 pub mod Held
 pub mod Stands
+pub mod Fates
