@@ -4,3 +4,4 @@ pub mod End
 pub mod Held
 pub mod Sound
 pub mod Stands
+pub mod Fates
