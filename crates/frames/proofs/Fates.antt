@@ -141,3 +141,90 @@ all-fates (event (call c) ∷ ds) w k =
     (λ f h g. good-sound c w f k h g, λ f h g. bad-sound c w f k h g, all-fates ds (worldAfter (event (call c)) w) (deed-sound (event (call c)) w k))
 all-fates (event (host m h out) ∷ ds) w k = all-fates ds (worldAfter (event (host m h out)) w) k
 all-fates (alter d r ∷ ds) w k = all-fates ds (worldAfter (alter d r) w) (in-range-sound d r)
+
+-- ---- each number once
+
+times-append : (k : ℕ) (xs ys : List Noted) → times k (xs ++ ys) ≡ times k xs + times k ys
+times-append k [] ys = omega arith
+times-append k (x ∷ xs) ys =
+    let i : times k (xs ++ ys) ≡ times k xs + times k ys = times-append k xs ys in
+    omega arith
+
+-- what begins with a deed has the next number, and takes it
+data Begins (d : Deed) (s : Scene) : Type 0 where
+  nothing : begun d s ≡ [] → Begins d s
+  one : (f : List Frame) → begun d s ≡ noted (s .next) f ∷ [] → takes d ≡ 1 → Begins d s
+
+begins-if : (b : Bool) (f : List ℕ) (v : ℕ) (s : Scene) → isHeld (ran (arrive f v) (s .world) .outcome .fate) ≡ b → Begins (event (call (arrive f v))) s
+begins-if true f v s h =
+    let j = arrivals.judged (settingsOf (s .world)) f v in
+    one (j ∷ []) (ap (λ (b : Bool). begunIf b (s .next) j) h) refl
+begins-if false f v s h = nothing (ap (λ (b : Bool). begunIf b (s .next) (arrivals.judged (settingsOf (s .world)) f v)) h)
+
+begins-held : (d : Device) (r : inRange d ≡ true) (s : Scene) (fs : List Frame) → heldIn (d .units .ru) ≡ fs → Begins (alter d r) s
+begins-held d r s [] h = nothing (ap (heldAs (s .next)) h)
+begins-held d r s (f ∷ fs) h = one (f ∷ []) (ap (heldAs (s .next)) h) refl
+
+begins : (d : Deed) (s : Scene) → Begins d s
+begins (event (call reset)) s = nothing refl
+begins (event (call attention)) s = nothing refl
+begins (event (call (arrive f v))) s = begins-if (isHeld (ran (arrive f v) (s .world) .outcome .fate)) f v s refl
+begins (event (call (turn report))) s = nothing refl
+begins (event (host m h out)) s = nothing refl
+begins (alter d r) s = begins-held d r s (heldIn (d .units .ru)) refl
+
+-- no number that is behind begins
+behind-by : (d : Deed) (ds : List Deed) (s : Scene) (k : ℕ) → k < s .next → times k (beginnings ds (advance d s)) ≡ 0 → Begins d s
+    → times k (begun d s ++ beginnings ds (advance d s)) ≡ 0
+behind-by d ds s k h i (nothing e) = ap (λ (l : List Noted). times k (l ++ beginnings ds (advance d s))) e ∙ i
+behind-by d ds s k h i (one f e t) =
+    ap (λ (l : List Noted). times k (l ++ beginnings ds (advance d s))) e
+    ∙ ap₂ (λ (b : Bool) (n : ℕ). cond b 1 0 + n) (ne-eqb (s .next) k (λ q. omega arith)) i
+
+behind : (ds : List Deed) (s : Scene) (k : ℕ) → k < s .next → times k (beginnings ds s) ≡ 0
+behind [] s k h = refl
+behind (d ∷ ds) s k h = behind-by d ds s k h (behind ds (advance d s) k (omega arith)) (begins d s)
+
+-- no number begins twice
+counts-once : (b : Bool) (rest : ℕ) → rest ≤ 1 → (b ≡ true → rest ≡ 0) → cond b 1 0 + rest ≤ 1
+counts-once true rest h z =
+    let e = z refl in
+    omega arith
+counts-once false rest h z = omega arith
+
+not-twice-by : (d : Deed) (ds : List Deed) (s : Scene) (k : ℕ) → times k (beginnings ds (advance d s)) ≤ 1 → Begins d s
+    → times k (begun d s ++ beginnings ds (advance d s)) ≤ 1
+not-twice-by d ds s k i (nothing e) = subst (λ (l : List Noted). times k (l ++ beginnings ds (advance d s)) ≤ 1) (sym e) i
+not-twice-by d ds s k i (one f e t) =
+    subst (λ (l : List Noted). times k (l ++ beginnings ds (advance d s)) ≤ 1) (sym e)
+    (counts-once (eqb (s .next) k) (times k (beginnings ds (advance d s))) i
+    (λ b. behind ds (advance d s) k (omega (arith, eqb-true (s .next) k b, t))))
+
+not-twice : (ds : List Deed) (s : Scene) (k : ℕ) → times k (beginnings ds s) ≤ 1
+not-twice [] s k = omega arith
+not-twice (d ∷ ds) s k = not-twice-by d ds s k (not-twice ds (advance d s) k) (begins d s)
+
+all-once : (fs : List Frame) (ds : List Deed) (s : Scene) (k : ℕ) → s .last < s .next → times k (heldAs (s .last) fs ++ beginnings ds s) ≤ 1
+all-once [] ds s k l = not-twice ds s k
+all-once (f ∷ fs) ds s k l =
+    counts-once (eqb (s .last) k) (times k (beginnings ds s)) (not-twice ds s k) (λ b. behind ds s k (omega (arith, eqb-true (s .last) k b)))
+
+-- ---- the demand
+
+-- from any world in range on: what was held, at first or from an arrival on, under its number k, has exactly one end, noted with its way, or is still
+-- held at the end
+pub exactly-one : (w : World) (ds : List Deed) (k : ℕ) → inRange (w .device) ≡ true → 0 < times k (still (opening w) ++ beginnings ds (opening w))
+    → times k (namesOf (endings ds (opening w))) + times k (still (after ds (opening w))) ≡ 1
+exactly-one w ds k r h =
+    let s = opening w in
+    let c : times k (namesOf (endings ds s) ++ still (after ds s)) ≡ times k (still s ++ beginnings ds s) =
+    ap (times k) (conserved ds s (in-range-sound (w .device) r))
+    in
+    omega (arith, times-append k (namesOf (endings ds s)) (still (after ds s)), all-once (heldIn (unitOf w)) ds s k (omega arith))
+
+-- and no other number has one
+pub no-other : (w : World) (ds : List Deed) (k : ℕ) → inRange (w .device) ≡ true → times k (still (opening w) ++ beginnings ds (opening w)) ≡ 0
+    → times k (namesOf (endings ds (opening w))) + times k (still (after ds (opening w))) ≡ 0
+no-other w ds k r h =
+    let s = opening w in
+    sym (times-append k (namesOf (endings ds s)) (still (after ds s))) ∙ ap (times k) (conserved ds s (in-range-sound (w .device) r)) ∙ h
