@@ -3,10 +3,10 @@
 use mathlib.Core.Path.{_≡_, refl, sym, ap, ap₂, _∙_, subst}
 use mathlib.Core.Bool.{Bool, true, false, _&&_, cond, true≢false, false≢true}
 use mathlib.Core.List.{List, [], _∷_, _++_}
-use Prim.Native.Nat.{ℕ, _+_, _%_, _≤_, _<_, min}
+use Prim.Native.Nat.{ℕ, zero, suc, _+_, _%_, _≤_, _<_, min}
 use native.Mathlib.Nat.{min-eq-left, zero-add}
 use native.Mathlib.Omega.{arith}
-use borrow.Author.Tests.{lt-ltb, le-ltb, leb-true, eqb-true, eq-eqb, ne-eqb}
+use borrow.Author.Tests.{lt-ltb, le-ltb, ltb-true, ltb-false, eqb-true, eqb-false, ne-eqb}
 use lib.Dec.{eqb, leb, ltb}
 use lib.ListN.{length, take, drop}
 use lib.Seq.{sets, sets-eq, take-append-seam, drop-append-seam}
@@ -35,7 +35,8 @@ use Rattle.device.specs.declared.Verdict.the-variants as verdict
 use Rattle.receive.specs.Arrival as receive
 use Rattle.chip.specs.Arrival as chip
 use Rattle.chip.specs.World.{World, Ran}
-use Rattle.frames.specs.Arrival.{Lent, inScb, shortBy, settingsOf, unitOf, isOurs, Ours, Short, Good, Bad, short, crc, misaligned, OneMore, Counts, NotHeld, IsHeld, judgedAs}
+use Rattle.frames.specs.Arrival.{Lent, inScb, shortBy, settingsOf, unitOf, isOurs, Ours, Short, Good, Bad, short, crc, misaligned, OneMore, Counts, NotHeld, IsHeld, judgedAs, ArrivalFate}
+use Rattle.frames.specs.Arrival as classes
 
 -- ---- one more
 
@@ -226,3 +227,58 @@ pub bad-unready : (w : World) (f : List ℕ) (v : ℕ) (c : Counter) → Lent w 
 bad-unready w f v c l o b u =
     not-held (fate.Bad c) w f v refl l
     (in-unit w f v ru.NoResources _ o u (bad-judged w f v c l b) ∙ rw (bad-good w f v c b, bad-counter w f v c b))
+
+-- ---- there is no other class
+
+at-least-two : (v : ℕ) → (v ≡ 0 → ⊥) → (v ≡ 1 → ⊥) → 2 ≤ v
+at-least-two zero a b = absurd (a refl)
+at-least-two (suc zero) a b = absurd (b refl)
+at-least-two (suc (suc v)) a b = omega arith
+
+data Judgement (w : World) (f : List ℕ) (v : ℕ) : Type 0 where
+  is-good : Good w f v → Judgement w f v
+  is-bad : (c : Counter) → Bad w f v c → Judgement w f v
+
+verdicts : (zero? one? : Bool) (w : World) (f : List ℕ) (v : ℕ) → settingsOf w .minimum ≤ length f + fcs → eqb v 0 ≡ zero? → eqb v 1 ≡ one? → Judgement w f v
+verdicts true one? w f v l a b = is-good (record { long = l; verdict = eqb-true v 0 a })
+verdicts false true w f v l a b = is-bad counter.Crc (crc l (eqb-true v 1 b))
+verdicts false false w f v l a b =
+    is-bad counter.Alignment (misaligned l (at-least-two v (eqb-false v 0 a) (eqb-false v 1 b)))
+
+judgement : (isShort : Bool) (w : World) (f : List ℕ) (v : ℕ) → ltb (length f + fcs) (settingsOf w .minimum) ≡ isShort → Judgement w f v
+judgement true w f v h = is-bad counter.Uncounted (short (ltb-true (length f + fcs) (settingsOf w .minimum) h))
+judgement false w f v h = verdicts (eqb v 0) (eqb v 1) w f v (ltb-false (length f + fcs) (settingsOf w .minimum) h) refl refl
+
+ready-class : (saved : Bool) (w : World) (f : List ℕ) (v : ℕ) (fd : Offset) → Lent w f → Ours w f → unitOf w ≡ ru.Ready fd → settingsOf w .savebad ≡ saved → Judgement w f v
+    → ArrivalFate w f v (chip.arrivalOf w f v)
+ready-class saved w f v fd l o u s (is-good g) = classes.good-ready fd o g u (good-ready w f v fd l o g u)
+ready-class true w f v fd l o u s (is-bad c b) = classes.bad-saved fd c o b u s (bad-saved w f v fd c l o b u s)
+ready-class false w f v fd l o u s (is-bad c b) = classes.bad-unsaved fd c o b u s (bad-unsaved w f v fd c l o b u s)
+
+unready-class : (w : World) (f : List ℕ) (v : ℕ) → Lent w f → Ours w f → unitOf w ≡ ru.NoResources → Judgement w f v → ArrivalFate w f v (chip.arrivalOf w f v)
+unready-class w f v l o u (is-good g) = classes.good-unready o g u (good-unready w f v l o g u)
+unready-class w f v l o u (is-bad c b) = classes.bad-unready c o b u (bad-unready w f v c l o b u)
+
+our-class : (u : Ru) (w : World) (f : List ℕ) (v : ℕ) → Lent w f → Ours w f → unitOf w ≡ u → ArrivalFate w f v (chip.arrivalOf w f v)
+our-class ru.Idle w f v l o u = classes.idle o u (idle w f v l o u)
+our-class ru.NoResources w f v l o u = unready-class w f v l o u (judgement (ltb (length f + fcs) (settingsOf w .minimum)) w f v refl)
+our-class (ru.Suspended fd) w f v l o u = classes.suspended fd o u (suspended w f v fd l o u)
+our-class (ru.Ready fd) w f v l o u =
+    ready-class (settingsOf w .savebad) w f v fd l o u refl (judgement (ltb (length f + fcs) (settingsOf w .minimum)) w f v refl)
+our-class (ru.Held fd h p) w f v l o u = classes.overrun o (ap isHolding u) (overrun w f v l o (ap isHolding u))
+our-class (ru.Filling s k) w f v l o u = classes.overrun o (ap isHolding u) (overrun w f v l o (ap isHolding u))
+our-class (ru.Closing s free full) w f v l o u = classes.overrun o (ap isHolding u) (overrun w f v l o (ap isHolding u))
+our-class (ru.Lacking s) w f v l o u = classes.overrun o (ap isHolding u) (overrun w f v l o (ap isHolding u))
+
+class-by : (isFew matched : Bool) (w : World) (f : List ℕ) (v : ℕ) → Lent w f → ltb (length f) header ≡ isFew → isOurs w f ≡ matched
+    → ArrivalFate w f v (chip.arrivalOf w f v)
+class-by true matched w f v l a b =
+    let n = ltb-true (length f) header a in classes.few n (few w f v l n)
+class-by false false w f v l a b =
+    let n = ltb-false (length f) header a in classes.unmatched n b (unmatched w f v l n b)
+class-by false true w f v l a b =
+    our-class (unitOf w) w f v l (record { enough = ltb-false (length f) header a; matched = b }) refl
+
+-- whatever arrives, where the call is not refused
+pub arrival-fate : (w : World) (f : List ℕ) (v : ℕ) → Lent w f → ArrivalFate w f v (chip.arrivalOf w f v)
+arrival-fate w f v l = class-by (ltb (length f) header) (isOurs w f) w f v l refl refl

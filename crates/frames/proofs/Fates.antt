@@ -24,7 +24,7 @@ use Rattle.chip.specs.World.{World, Ran, resetOf}
 use Rattle.filter.specs.Match.{matches}
 use Rattle.traces.specs.Event.{Event, call, host}
 use Rattle.frames.specs.Arrival.{unitOf, settingsOf}
-use Rattle.frames.specs.Held.{heldIn, ofHeld}
+use Rattle.frames.specs.Held.{heldIn, ofHeld, FateOfHeld}
 use Rattle.frames.specs.Fates.{Deed, event, alter, worldAfter, Scene, opening, Noted, noted, Way, by-call, by-altering, Ended, heldAs, still, begunIf, begun, endedIf, endedBy, fateIn, ended, takes, lastBy, advance, after, beginnings, endings, times, namesOf, AllFates}
 use Rattle.frames.proofs.Sound.{Sound, in-range-sound, good-sound, bad-sound, Went, keeps, ends, attention-went, turn-went, Arrives, kept, comes, arrives, arrival-new, call-sound}
 
@@ -141,6 +141,28 @@ all-fates (event (call c) ∷ ds) w k =
     (λ f h g. good-sound c w f k h g, λ f h g. bad-sound c w f k h g, all-fates ds (worldAfter (event (call c)) w) (deed-sound (event (call c)) w k))
 all-fates (event (host m h out) ∷ ds) w k = all-fates ds (worldAfter (event (host m h out)) w) k
 all-fates (alter d r ∷ ds) w k = all-fates ds (worldAfter (alter d r) w) (in-range-sound d r)
+
+-- ---- no fate is noted beside what is done
+
+went-held : (w : World) (r : Ran) → Went w r → ofHeld (r .outcome .fate) ≡ true → FateOfHeld w r
+went-held w r (keeps e x) h = absurd (false≢true (sym x ∙ h))
+went-held w r (ends f e n x) h = record { frame = f; held = e; gone = n }
+
+arrival-fate : (w : World) (f : List ℕ) (v : ℕ) → ofHeld (chip.arrivalOf w f v .outcome .fate) ≡ false
+unfolding chip.arrivalOf chip.arrival arrivals.arrival arrivals.fateOf
+arrival-fate w f v =
+    arrival-new (ltb (length f) header) (matches (settingsOf w) (w .device .own) (w .device .listed) f) (unitOf w) (arrivals.judged (settingsOf w) f v)
+
+reset-fate : (w : World) → ofHeld (ran reset w .outcome .fate) ≡ false
+unfolding resetOf
+reset-fate w = refl
+
+-- an outcome that gives a held frame's fate: a frame was held, and is no more
+pub fate-of-held : (c : Call) (w : World) → inRange (w .device) ≡ true → ofHeld (ran c w .outcome .fate) ≡ true → FateOfHeld w (ran c w)
+fate-of-held reset w r h = absurd (false≢true (sym (reset-fate w) ∙ h))
+fate-of-held attention w r h = went-held w (ran attention w) (attention-went w (in-range-sound (w .device) r)) h
+fate-of-held (arrive f v) w r h = absurd (false≢true (sym (arrival-fate w f v) ∙ h))
+fate-of-held (turn report) w r h = went-held w (ran (turn report) w) (turn-went w report (in-range-sound (w .device) r)) h
 
 -- ---- each number once
 

@@ -12,6 +12,8 @@ use Rattle.memory.proofs.Fields.{Apart}
 use Rattle.device.specs.Answers.{answered}
 use Rattle.device.specs.Change.{withRu, withUnits}
 use Rattle.device.specs.Limits.{header, areaSize, longest, fcs}
+use Rattle.device.specs.Numbers.{verdictOf}
+use Rattle.device.specs.State.{isHolding}
 use Rattle.device.specs.declared.Counter.{Counter}
 use Rattle.device.specs.declared.Counter.the-variants as counter
 use Rattle.device.specs.declared.Fate.{Fate}
@@ -21,6 +23,7 @@ use Rattle.device.specs.declared.Ru.{Ru}
 use Rattle.device.specs.declared.Ru.the-variants as ru
 use Rattle.device.specs.declared.Settings.{Settings}
 use Rattle.device.specs.declared.Verdict.{Verdict}
+use Rattle.device.specs.declared.Verdict.the-variants as verdict
 use Rattle.filter.specs.Match.{matches}
 use Rattle.chip.specs.World.{World, Ran}
 
@@ -113,3 +116,27 @@ shortBy counter.Overruns = false
 -- how a frame is judged: once, by the settings at arrival
 abbrev pub judgedAs : World → List ℕ → Verdict → Bool → Frame
 judgedAs w f v isShort = record { length = length f; verdict = v; short = isShort; savebad = settingsOf w .savebad }
+
+-- ---- every class of frames, in the order of the rules, and what it comes to
+
+pub data ArrivalFate (w : World) (f : List ℕ) (v : ℕ) (r : Ran) : Type 0 where
+  -- under 14 bytes, dropped. No match, dropped. RU Idle or Suspended, dropped
+  few : length f < header → NotHeld w fate.TooFew counter.Uncounted r → ArrivalFate w f v r
+  unmatched : header ≤ length f → isOurs w f ≡ false → NotHeld w fate.NoMatch counter.Uncounted r → ArrivalFate w f v r
+  idle : Ours w f → unitOf w ≡ ru.Idle → NotHeld w fate.UnitIdle counter.Uncounted r → ArrivalFate w f v r
+  suspended : (fd : Offset) → Ours w f → unitOf w ≡ ru.Suspended fd → NotHeld w fate.UnitSuspended counter.Uncounted r → ArrivalFate w f v r
+  -- a frame already held: OVRNERRS
+  overrun : Ours w f → isHolding (unitOf w) ≡ true → NotHeld w fate.Overrun counter.Overruns r → ArrivalFate w f v r
+  -- a good one is held in Ready, else RSCERRS
+  good-ready : (fd : Offset) → Ours w f → Good w f v → unitOf w ≡ ru.Ready fd
+      → IsHeld w f fd (judgedAs w f verdict.Good false) counter.Uncounted r
+      → ArrivalFate w f v r
+  good-unready : Ours w f → Good w f v → unitOf w ≡ ru.NoResources → NotHeld w fate.NoResources counter.Resources r → ArrivalFate w f v r
+  -- a bad one is held only in Ready with save-bad set
+  bad-saved : (fd : Offset) (c : Counter) → Ours w f → Bad w f v c → unitOf w ≡ ru.Ready fd → settingsOf w .savebad ≡ true
+      → IsHeld w f fd (judgedAs w f (verdictOf v) (shortBy c)) c r
+      → ArrivalFate w f v r
+  bad-unsaved : (fd : Offset) (c : Counter) → Ours w f → Bad w f v c → unitOf w ≡ ru.Ready fd → settingsOf w .savebad ≡ false
+      → NotHeld w (fate.Bad c) c r
+      → ArrivalFate w f v r
+  bad-unready : (c : Counter) → Ours w f → Bad w f v c → unitOf w ≡ ru.NoResources → NotHeld w (fate.Bad c) c r → ArrivalFate w f v r

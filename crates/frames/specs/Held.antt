@@ -100,6 +100,13 @@ pub record StaysHeld (f : Frame) (w : World) (r : Ran) : Type 0 where
   pub holding : r .holding ≡ w .holding
   pub fate : ofHeld (r .outcome .fate) ≡ false
 
+-- ---- it is held no more: so much is there wherever a held frame's fate is given
+
+pub record FateOfHeld (w : World) (r : Ran) : Type 0 where
+  pub frame : Frame
+  pub held : heldIn (unitOf w) ≡ frame ∷ []
+  pub gone : heldIn (r .outcome .device .units .ru) ≡ []
+
 -- ---- the writes of an end turn
 
 -- a field of its frame descriptor
