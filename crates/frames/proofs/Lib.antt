@@ -5,3 +5,4 @@ pub mod Held
 pub mod Sound
 pub mod Stands
 pub mod Fates
+pub mod Accepted

@@ -3,3 +3,4 @@ pub mod Arrival
 pub mod Held
 pub mod Stands
 pub mod Fates
+pub mod Accepted
