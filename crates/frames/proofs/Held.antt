@@ -300,17 +300,17 @@ at-abort w r a x = by-abort r a (x .fate) (x .unit) (x .memory)
 at-attention : (reset aborts : Bool) (w : World) (f : Frame) → heldIn (unitOf w) ≡ f ∷ [] → w .device .units .initialised ≡ true
     → resets (commandOf w) ≡ reset → eqb (ruc (commandOf w)) 4 ≡ aborts → HeldFate f attention w
 at-attention true aborts w f h i r a =
-    lost (rw r) (at-reset w (holds (unitOf w) f h) r (ap (λ (b : Bool). attended w (attentions.attendBy b (w .device) (commandOf w) (w .memory))) (sym r) ∙ to-attend w i))
+    lost (ap (λ (x : Bool). x || eqb (ruc (commandOf w)) 4) r) (at-reset w (holds (unitOf w) f h) r (ap (λ (b : Bool). attended w (attentions.attendBy b (w .device) (commandOf w) (w .memory))) (sym r) ∙ to-attend w i))
 at-attention false true w f h i r a =
     let to = ap (λ (b : Bool). attended w (attentions.attendBy b (w .device) (commandOf w) (w .memory))) (sym r) ∙ to-attend w i in
     let n = ap₂ ruNext (eqb-true (ruc (commandOf w)) 4 a) (held-state (unitOf w) f h) ∙ next-idle 4 refl in
-    lost (rw (r, a))
+    lost (ap₂ (λ (x y : Bool). x || y) r a)
     (at-abort w r (eqb-true (ruc (commandOf w)) 4 a)
     (subst (Aborted w) (ap (λ (x : RuState). obeyed x w) (sym n) ∙ obey-is w ∙ to) (aborted-idle w (holds (unitOf w) f h))))
 at-attention false false w f h i r a =
     let to = ap (λ (b : Bool). attended w (attentions.attendBy b (w .device) (commandOf w) (w .memory))) (sym r) ∙ to-attend w i in
     let n = ap isIdle (ap (ruNext (ruc (commandOf w))) (held-state (unitOf w) f h)) ∙ next-kept (ruc (commandOf w)) a in
-    stays (rw (r, a)) refl
+    stays (ap₂ (λ (x y : Bool). x || y) r a) refl
     (subst (StaysHeld f w) (obey-is w ∙ to) (obeyed-keeps (ruNext (ruc (commandOf w)) (ruState (unitOf w))) w f h n))
 
 -- ---- a turn

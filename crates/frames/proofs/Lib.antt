@@ -6,3 +6,4 @@ pub mod Sound
 pub mod Stands
 pub mod Fates
 pub mod Accepted
+pub mod Witness
