@@ -21,6 +21,7 @@ use Rattle.device.specs.declared.Verdict.the-variants as verdict
 use Rattle.receive.specs.Begin.{isBare}
 use Rattle.receive.specs.Part as receive
 use Rattle.receive.specs.End.{fateBy, fateOf, errorBits, verdictBit, frameStatus, bareMark, descriptorBy, settles, endAt, before, goesOn, close, lack}
+use Rattle.attention.specs.Status.{statusTo}
 use Rattle.chip.specs.Turn.{raisedIn, statusBy, written, concluded, receiveUnits}
 use Rattle.chip.specs.World.{World, Ran, writing}
 use Rattle.frames.specs.Arrival.{inScb, unitOf}
@@ -106,15 +107,15 @@ before-gone false link = refl
 -- what is said of a closing frame, of any turn
 pub record Closed (w : World) (s : Storing) (free : Offset) (full : Bool) (r : Ran) : Type 0 where
   pub fate : r .outcome .fate ≡ fate.Stored
-  pub stored : Stored false s (bareTo w s ++ (onward w s free full ++ statusAfter r)) w r
+  pub stored : Stored false s (bareTo w s ++ (onward w s free full ++ statusAfter w r)) w r
 
 closed-by : (x : Bool) (w : World) (s : Storing) (free : Offset)
     → Stored false s
     (bareTo w s
     ++ (onwardBy x w s free (apply (described false w s) (w .memory))
-    ++ statusAfter (turned w (goesOn x (part w) s free fate.Stored (described false w s) (w .memory)))))
+    ++ statusAfter w (turned w (goesOn x (part w) s free fate.Stored (described false w s) (w .memory)))))
     w (turned w (goesOn x (part w) s free fate.Stored (described false w s) (w .memory)))
-unfolding turned concluded anyOf
+unfolding turned concluded anyOf statusTo
 closed-by true w s free =
     record {
       memory = refl;
@@ -129,7 +130,7 @@ closed-by false w s free =
       memory =
           ap (λ (ws : List Write). apply ws (w .memory))
           (append-assoc (described false w s) (onwardBy false w s free (apply (described false w s) (w .memory)))
-          (statusAfter (turned w (goesOn false (part w) s free fate.Stored (described false w s) (w .memory)))));
+          (statusAfter w (turned w (goesOn false (part w) s free fate.Stored (described false w s) (w .memory)))));
       complete = complete false (s .frame);
       lacks = lacks false (s .frame);
       fr = or-true (w .device .units .events .fr);
@@ -160,15 +161,15 @@ lack-is x w s e = ap (λ (y : Fate). lackBy y (part w) s (w .memory)) (sym e)
 -- a good one, kept
 pub record Both (w : World) (s : Storing) (r : Ran) : Type 0 where
   pub fate : r .outcome .fate ≡ fate.StoredCounted
-  pub stored : Stored true s (bareTo w s ++ (countTo (apply (described true w s) (w .memory)) (inScb w 12) ∷ statusAfter r)) w r
+  pub stored : Stored true s (bareTo w s ++ (countTo (apply (described true w s) (w .memory)) (inScb w 12) ∷ statusAfter w r)) w r
   pub counted : Counted (described true w s) w r
 
 both-by : (w : World) (s : Storing) → Both w s (turned w (lackBy fate.StoredCounted (part w) s (w .memory)))
-unfolding turned lackBy endBy counts concluded anyOf
+unfolding turned lackBy endBy counts concluded anyOf statusTo
 both-by w s =
     let l =
     append-assoc (described true w s) (countTo (apply (described true w s) (w .memory)) (inScb w 12) ∷ [])
-    (statusAfter (turned w (lackBy fate.StoredCounted (part w) s (w .memory))))
+    (statusAfter w (turned w (lackBy fate.StoredCounted (part w) s (w .memory))))
     in
     record {
       fate = refl;
@@ -193,7 +194,7 @@ pub record OnlyCounted (w : World) (s : Storing) (r : Ran) : Type 0 where
   pub counted : Counted (markTo w s 0x0000 ∷ []) w r
 
 counted-by : (w : World) (s : Storing) → OnlyCounted w s (turned w (lackBy fate.Counted (part w) s (w .memory)))
-unfolding turned lackBy endBy counts concluded anyOf
+unfolding turned lackBy endBy counts concluded anyOf statusTo
 counted-by w s = record { fate = refl; counted = record { memory = refl; gone = refl; holding = refl } }
 
 pub only-counted : (w : World) (s : Storing) → s .frame .savebad ≡ false → isGood (s .frame) ≡ true → OnlyCounted w s (turned w (lack (part w) s (w .memory)))
@@ -202,10 +203,10 @@ only-counted w s b g = subst (λ (v : receive.Service). OnlyCounted w s (turned 
 -- a bad one, which is held only to be saved
 pub record Kept (w : World) (s : Storing) (r : Ran) : Type 0 where
   pub fate : r .outcome .fate ≡ fate.Stored
-  pub stored : Stored true s (bareTo w s ++ statusAfter r) w r
+  pub stored : Stored true s (bareTo w s ++ statusAfter w r) w r
 
 kept-by : (w : World) (s : Storing) → Kept w s (turned w (endAt fate.Stored ru.NoResources (described true w s)))
-unfolding turned concluded anyOf
+unfolding turned concluded anyOf statusTo
 kept-by w s =
     record {
       fate = refl;

@@ -1,6 +1,6 @@
 -- Demand 2 of frames, corollary: where no piece lies over another, stored and counted are facts about memory at exit. Assumes nothing.
 use mathlib.Core.Path.{_≡_, refl, sym, ap, ap₂, _∙_, subst}
-use mathlib.Core.Bool.{Bool, true, false}
+use mathlib.Core.Bool.{Bool, true, false, _||_}
 use mathlib.Core.List.{List, [], _∷_, _++_}
 use Prim.Native.Nat.{ℕ, _+_, _%_, _≤_, _<_}
 use native.Mathlib.Omega.{arith}
@@ -9,17 +9,29 @@ use lib.Seq.{length-take-le}
 use Rattle.memory.specs.Memory.{Write, bytesTo, wordTo, countTo, wordAt, bytesAt, fieldAt, value, digits, putBytes, apply}
 use Rattle.memory.proofs.Fields.{Apart, AllApart, apply-other, bytes-same, length-digits, value-digits}
 use Rattle.memory.proofs.Laws.{apply-append, length-apply, length-putBytes}
-use Rattle.scb.specs.Words.{bit, field}
+use Rattle.memory.proofs.Power.{allowed}
+use Rattle.memory.specs.Address.{place, offsetAt}
+use Rattle.memory.specs.declared.Offset.{Offset}
+use Rattle.scb.specs.Words.{bit, field, statusAt, statusWord}
 use Rattle.device.specs.Limits.{header, areaSize}
+use Rattle.device.specs.State.{isGood}
 use Rattle.device.specs.declared.Frame.{Frame}
+use Rattle.device.specs.declared.Ru.{Ru}
+use Rattle.device.specs.declared.Ru.the-variants as ru
 use Rattle.device.specs.declared.Storing.{Storing}
 use Rattle.device.specs.declared.Verdict.{Verdict}
 use Rattle.device.specs.declared.Verdict.the-variants as verdict
-use Rattle.receive.specs.End.{frameStatus}
+use Rattle.image.specs.Ranges.{inRange}
+use Rattle.receive.specs.Begin.{isBare}
+use Rattle.receive.specs.End.{frameStatus, bareMark}
+use Rattle.chip.specs.Call.{Call, ran}
 use Rattle.chip.specs.World.{World, Ran}
-use Rattle.frames.specs.Arrival.{Lent, inScb}
-use Rattle.frames.specs.Held.{inFrame, headerTo, markTo, statusAfter, Stored, Counted}
-use Rattle.frames.specs.Stands.{Separate, StoredStands, CountedStands, CountersStand}
+use Rattle.frames.specs.Arrival.{Lent, inScb, unitOf}
+use Rattle.frames.specs.Held.{heldIn, inFrame, headerTo, markTo, bareTo, described, onwardBy, statusAfter, Stored, Counted, GoodFate}
+use Rattle.frames.specs.Held as held
+use Rattle.frames.specs.Stands.{Separate, StoredStands, CountedStands, CountersStand, Piece, piece, Away, NoOverlap, nextFirst, pieces, GoodExit}
+use Rattle.frames.specs.Stands as exit
+use Rattle.frames.proofs.Held.{good-held}
 
 -- ---- what is written stands at the end, if no later write meets it
 
@@ -109,7 +121,7 @@ stored-stands lacking s rest w r x h l p =
 -- ---- counted
 
 pub counted-stands : (others : List Write) (w : World) (r : Ran) → Counted others w r → 2 ≤ length (w .memory)
-    → Separate (length (w .memory)) (others ++ (countTo (apply others (w .memory)) (inScb w 12) ∷ statusAfter r))
+    → Separate (length (w .memory)) (others ++ (countTo (apply others (w .memory)) (inScb w 12) ∷ statusAfter w r))
     → CountedStands w r
 unfolding fieldAt
 counted-stands others w r x l p =
@@ -118,10 +130,10 @@ counted-stands others w r x l p =
     let d = length-digits 2 v in
     let n = length (w .memory) in
     let same : wordAt (apply others (w .memory)) a ≡ wordAt (w .memory) a =
-    ap value (apply-other others (w .memory) a 2 (subst (AllApart n others a) d (before-apart n others (wordTo a v) (statusAfter r) p)))
+    ap value (apply-other others (w .memory) a 2 (subst (AllApart n others a) d (before-apart n others (wordTo a v) (statusAfter w r) p)))
     in
     ap (λ (m : List ℕ). wordAt m a) (x .memory)
-    ∙ word-stands others a v (statusAfter r) (w .memory) l (subst (AllApart n (statusAfter r) a) d (after-apart n others (wordTo a v) (statusAfter r) p))
+    ∙ word-stands others a v (statusAfter w r) (w .memory) l (subst (AllApart n (statusAfter w r) a) d (after-apart n others (wordTo a v) (statusAfter w r) p))
     ∙ omega (arith, same)
 
 -- ---- no counter moves where all that is written is elsewhere
@@ -129,3 +141,131 @@ counted-stands others w r x l p =
 pub counters-stand : (writes : List Write) (w : World) (r : Ran) → r .memory ≡ apply writes (w .memory) → AllApart (length (w .memory)) writes (inScb w 8) 8
     → CountersStand w r
 counters-stand writes w r e p = ap (λ (m : List ℕ). bytesAt m (inScb w 8) 8) e ∙ apply-other writes (w .memory) (inScb w 8) 8 p
+
+-- ---- the pieces by their places
+
+pieceOf : Write → Piece
+pieceOf x = piece (x .to) (length (x .bytes))
+
+piecesOf : List Write → List Piece
+piecesOf [] = []
+piecesOf (x ∷ xs) = pieceOf x ∷ piecesOf xs
+
+away-apart : (n : ℕ) (xs : List Write) (p : Piece) → Away n (piecesOf xs) p → AllApart n xs (p .from) (p .size)
+unfolding piecesOf pieceOf
+away-apart n [] p h = tt
+away-apart n (x ∷ xs) p h = (h .0, away-apart n xs p (h .1))
+
+separate : (n : ℕ) (xs : List Write) → NoOverlap n (piecesOf xs) → Separate n xs
+unfolding piecesOf pieceOf
+separate n [] h = tt
+separate n (x ∷ xs) h = (away-apart n xs (pieceOf x) (h .0), separate n xs (h .1))
+
+-- a piece less
+away-less : (n : ℕ) (xs : List Piece) (y : Piece) (ys : List Piece) (p : Piece) → Away n (xs ++ y ∷ ys) p → Away n (xs ++ ys) p
+away-less n [] y ys p h = h .1
+away-less n (x ∷ xs) y ys p h = (h .0, away-less n xs y ys p (h .1))
+
+less : (n : ℕ) (xs : List Piece) (y : Piece) (ys : List Piece) → NoOverlap n (xs ++ y ∷ ys) → NoOverlap n (xs ++ ys)
+less n [] y ys h = h .1
+less n (x ∷ xs) y ys h = (away-less n xs y ys x (h .0), less n xs y ys (h .1))
+
+pieces-append : (xs ys : List Write) → piecesOf (xs ++ ys) ≡ piecesOf xs ++ piecesOf ys
+unfolding piecesOf
+pieces-append [] ys = refl
+pieces-append (x ∷ xs) ys = ap (λ (l : List Piece). pieceOf x ∷ l) (pieces-append xs ys)
+
+word-piece : (a v : ℕ) → pieceOf (wordTo a v) ≡ piece a 2
+unfolding pieceOf
+word-piece a v = ap (piece a) (length-digits 2 v)
+
+header-piece : (w : World) (s : Storing) → length (w .holding) ≡ areaSize → pieceOf (headerTo w s) ≡ piece (inFrame w s 8) header
+unfolding pieceOf
+header-piece w s h = ap (piece (inFrame w s 8)) (length-take-le header (w .holding) (omega arith))
+
+status-piece : (w : World) (r : Ran) → piecesOf (statusAfter w r) ≡ piece (inScb w statusAt) 2 ∷ []
+unfolding piecesOf
+status-piece w r = ap (λ (p : Piece). p ∷ []) (word-piece (inScb w statusAt) _)
+
+front2 : {a b c d : Piece} {ps qs : List Piece} → a ≡ c → b ≡ d → ps ≡ qs → a ∷ b ∷ ps ≡ c ∷ d ∷ qs
+front2 x y z = ap₂ (λ (p : Piece) (l : List Piece). p ∷ l) x (ap₂ (λ (p : Piece) (l : List Piece). p ∷ l) y z)
+
+front3 : {a b c d e f : Piece} {ps qs : List Piece} → a ≡ d → b ≡ e → c ≡ f → ps ≡ qs → a ∷ b ∷ c ∷ ps ≡ d ∷ e ∷ f ∷ qs
+front3 x y z t = ap₂ (λ (p : Piece) (l : List Piece). p ∷ l) x (front2 y z t)
+
+-- ---- where no piece lies over another, neither does a write
+
+ending-separate : (b : Bool) (n : ℕ) (w : World) (s : Storing) (status : ℕ) (rest : List Write) (ps : List Piece) → length (w .holding) ≡ areaSize
+    → piecesOf rest ≡ ps
+    → NoOverlap n (piece (inFrame w s 8) header ∷ piece (inFrame w s 0) 2 ∷ piece (inFrame w s 6) 2 ∷ ps)
+    → Separate n (headerTo w s ∷ markTo w s status ∷ (bareMark b (inFrame w s 6) ++ rest))
+unfolding piecesOf
+ending-separate true n w s status rest ps h e p =
+    separate n (headerTo w s ∷ markTo w s status ∷ wordTo (inFrame w s 6) 0xFFFF ∷ rest)
+    (subst (NoOverlap n) (sym (front3 (header-piece w s h) (word-piece (inFrame w s 0) status) (word-piece (inFrame w s 6) 0xFFFF) e)) p)
+ending-separate false n w s status rest ps h e p =
+    separate n (headerTo w s ∷ markTo w s status ∷ rest)
+    (subst (NoOverlap n) (sym (front2 (header-piece w s h) (word-piece (inFrame w s 0) status) e))
+    (less n (piece (inFrame w s 8) header ∷ piece (inFrame w s 0) 2 ∷ []) (piece (inFrame w s 6) 2) ps p))
+
+onward-separate : (x : Bool) (n : ℕ) (w : World) (r : Ran) (s : Storing) (free : Offset) → length (w .holding) ≡ areaSize
+    → NoOverlap n (pieces (ru.Closing s free x) w)
+    → Separate n
+    (headerTo w s
+    ∷ markTo w s (frameStatus false (s .frame))
+    ∷ (bareTo w s ++ (onwardBy x w s free (apply (described false w s) (w .memory)) ++ statusAfter w r)))
+unfolding piecesOf
+onward-separate true n w r s free h p =
+    ending-separate (isBare (s .frame)) n w s (frameStatus false (s .frame)) (statusAfter w r) (piece (inScb w statusAt) 2 ∷ []) h (status-piece w r)
+    (less n (piece (inFrame w s 8) header ∷ piece (inFrame w s 0) 2 ∷ piece (inFrame w s 6) 2 ∷ []) (piece (nextFirst w s) 2) (piece (inScb w statusAt) 2 ∷ []) p)
+onward-separate false n w r s free h p =
+    ending-separate (isBare (s .frame)) n w s (frameStatus false (s .frame))
+    (onwardBy false w s free (apply (described false w s) (w .memory)) ++ statusAfter w r)
+    (piece (nextFirst w s) 2 ∷ piece (inScb w statusAt) 2 ∷ []) h
+    (ap₂ (λ (a : Piece) (l : List Piece). a ∷ l) (word-piece (nextFirst w s) (free .0)) (status-piece w r)) p
+
+lacking-separate : (n : ℕ) (w : World) (r : Ran) (s : Storing) (v : ℕ) → length (w .holding) ≡ areaSize → NoOverlap n (pieces (ru.Lacking s) w)
+    → Separate n (headerTo w s ∷ markTo w s (frameStatus true (s .frame)) ∷ (bareTo w s ++ (wordTo (inScb w 12) v ∷ statusAfter w r)))
+unfolding piecesOf
+lacking-separate n w r s v h p =
+    ending-separate (isBare (s .frame)) n w s (frameStatus true (s .frame)) (wordTo (inScb w 12) v ∷ statusAfter w r)
+    (piece (inScb w 12) 2 ∷ piece (inScb w statusAt) 2 ∷ []) h
+    (ap₂ (λ (a : Piece) (l : List Piece). a ∷ l) (word-piece (inScb w 12) v) (status-piece w r)) p
+
+counted-separate : (n : ℕ) (w : World) (r : Ran) (s : Storing) (v : ℕ) → NoOverlap n (pieces (ru.Lacking s) w)
+    → Separate n (markTo w s 0x0000 ∷ wordTo (inScb w 12) v ∷ statusAfter w r)
+unfolding piecesOf
+counted-separate n w r s v p =
+    separate n (markTo w s 0x0000 ∷ wordTo (inScb w 12) v ∷ statusAfter w r)
+    (subst (NoOverlap n) (sym (front2 (word-piece (inFrame w s 0) 0x0000) (word-piece (inScb w 12) v) (status-piece w r)))
+    (less n (piece (inFrame w s 0) 2 ∷ []) (piece (inFrame w s 6) 2) (piece (inScb w 12) 2 ∷ piece (inScb w statusAt) 2 ∷ []) (p .1)))
+
+-- ---- the demand, as facts about memory at exit
+
+exit-of : (c : Call) (w : World) (f : Frame) → length (w .holding) ≡ areaSize → header ≤ length (w .memory)
+    → NoOverlap (length (w .memory)) (pieces (unitOf w) w)
+    → GoodFate f c w
+    → GoodExit f c w
+exit-of c w f h l p (held.stays a b k) = exit.stays a b k
+exit-of c w f h l p (held.stored s free full n e q x k) =
+    let o = subst (λ (u : Ru). NoOverlap (length (w .memory)) (pieces u w)) e p in
+    exit.stored s free full n e q x
+    (stored-stands false s _ w (ran c w) k h l (onward-separate (s .el || full) (length (w .memory)) w (ran c w) s free h o)) (k .fr)
+exit-of c w f h l p (held.counted s n e q b x k) =
+    let o = subst (λ (u : Ru). NoOverlap (length (w .memory)) (pieces u w)) e p in
+    exit.counted s n e q b x
+    (counted-stands (markTo w s 0x0000 ∷ []) w (ran c w) k (omega arith) (counted-separate (length (w .memory)) w (ran c w) s _ o))
+exit-of c w f h l p (held.both s n e q b x k j) =
+    let o = subst (λ (u : Ru). NoOverlap (length (w .memory)) (pieces u w)) e p in
+    let d = lacking-separate (length (w .memory)) w (ran c w) s ((wordAt (apply (described true w s) (w .memory)) (inScb w 12) + 1) % 65536) h o in
+    exit.both s n e q b x (stored-stands true s _ w (ran c w) k h l d) (k .fr)
+    (counted-stands (described true w s) w (ran c w) j (omega arith) d)
+exit-of c w f h l p (held.lost a k) = exit.lost a k
+
+-- every call that is not refused, while a good frame is held, where no piece that is written lies over another
+pub good-exit : (c : Call) (w : World) (f : Frame) → Lent w [] → inRange (w .device) ≡ true → heldIn (unitOf w) ≡ f ∷ [] → isGood f ≡ true
+    → NoOverlap (length (w .memory)) (pieces (unitOf w) w)
+    → GoodExit f c w
+good-exit c w f l r h g p =
+    let least = allowed (length (w .memory)) (l .size) .least in
+    exit-of c w f (l .area) (omega arith) p (good-held c w f r h g)

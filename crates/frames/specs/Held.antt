@@ -9,9 +9,9 @@ use lib.ListN.{take}
 use Rattle.memory.specs.Address.{place, offsetAt}
 use Rattle.memory.specs.Memory.{Write, bytesTo, wordTo, wordAt, countTo, apply}
 use Rattle.memory.specs.declared.Offset.{Offset}
-use Rattle.scb.specs.Words.{bit, commandAt, resets, ruc}
+use Rattle.scb.specs.Words.{bit, statusAt, commandAt, statusWord, resets, ruc}
 use Rattle.device.specs.Limits.{header}
-use Rattle.device.specs.State.{cuState, isActive, isHolding, fresh}
+use Rattle.device.specs.State.{cuState, ruState, isActive, isHolding, fresh}
 use Rattle.device.specs.declared.Fate.{Fate}
 use Rattle.device.specs.declared.Fate.the-variants as fate
 use Rattle.device.specs.declared.Frame.{Frame}
@@ -23,7 +23,6 @@ use Rattle.receive.specs.End.{frameStatus, bareMark}
 use Rattle.control.specs.Control.{abortedRu}
 use Rattle.control.specs.Obey.{obeyCuc}
 use Rattle.attention.specs.Attention.{settledWrites}
-use Rattle.attention.specs.Status.{statusTo}
 use Rattle.chip.specs.Call.{Call, reset, attention, arrive, turn, ran}
 use Rattle.chip.specs.World.{World, Ran}
 use Rattle.frames.specs.Arrival.{inScb, unitOf}
@@ -136,9 +135,10 @@ onwardBy false w s free now = wordTo (place (w .device .units .base) (offsetAt n
 abbrev pub onward : World → Storing → Offset → Bool → List Write
 onward w s free full = onwardBy (s .el || full) w s free (apply (described false w s) (w .memory))
 
--- the SCB status as the record has it after the call
-abbrev pub statusAfter : Ran → List Write
-statusAfter r = statusTo (r .outcome .device .units) ∷ []
+-- the SCB status, as the record has it after the call
+abbrev pub statusAfter : World → Ran → List Write
+statusAfter w r =
+    let u = r .outcome .device .units in wordTo (inScb w statusAt) (statusWord (u .events) (cuState (u .cu)) (ruState (u .ru))) ∷ []
 
 -- ---- stored, counted
 
@@ -155,7 +155,7 @@ pub record Stored (lacking : Bool) (s : Storing) (rest : List Write) (w : World)
 -- counted: after the frame's other writes RSCERRS becomes one more (modulo 65,536) than the word that stands there then, and only the SCB status
 -- follows
 pub record Counted (others : List Write) (w : World) (r : Ran) : Type 0 where
-  pub memory : r .memory ≡ apply (others ++ (countTo (apply others (w .memory)) (inScb w 12) ∷ statusAfter r)) (w .memory)
+  pub memory : r .memory ≡ apply (others ++ (countTo (apply others (w .memory)) (inScb w 12) ∷ statusAfter w r)) (w .memory)
   pub gone : heldIn (r .outcome .device .units .ru) ≡ []
   pub holding : r .holding ≡ w .holding
 
@@ -182,7 +182,7 @@ pub data GoodFate (f : Frame) (c : Call) (w : World) : Type 0 where
   stays : loses c w ≡ false → ends c w ≡ false → StaysHeld f w (ran c w) → GoodFate f c w
   stored : (s : Storing) (free : Offset) (full : Bool) → ends c w ≡ true → unitOf w ≡ ru.Closing s free full → s .frame ≡ f
       → ran c w .outcome .fate ≡ fate.Stored
-      → Stored false s (bareTo w s ++ (onward w s free full ++ statusAfter (ran c w))) w (ran c w)
+      → Stored false s (bareTo w s ++ (onward w s free full ++ statusAfter w (ran c w))) w (ran c w)
       → GoodFate f c w
   counted : (s : Storing) → ends c w ≡ true → unitOf w ≡ ru.Lacking s → s .frame ≡ f → f .savebad ≡ false
       → ran c w .outcome .fate ≡ fate.Counted
@@ -190,7 +190,7 @@ pub data GoodFate (f : Frame) (c : Call) (w : World) : Type 0 where
       → GoodFate f c w
   both : (s : Storing) → ends c w ≡ true → unitOf w ≡ ru.Lacking s → s .frame ≡ f → f .savebad ≡ true
       → ran c w .outcome .fate ≡ fate.StoredCounted
-      → Stored true s (bareTo w s ++ (countTo (apply (described true w s) (w .memory)) (inScb w 12) ∷ statusAfter (ran c w))) w (ran c w)
+      → Stored true s (bareTo w s ++ (countTo (apply (described true w s) (w .memory)) (inScb w 12) ∷ statusAfter w (ran c w))) w (ran c w)
       → Counted (described true w s) w (ran c w)
       → GoodFate f c w
   lost : loses c w ≡ true → Lost w c → GoodFate f c w
@@ -201,10 +201,10 @@ pub data BadFate (f : Frame) (c : Call) (w : World) : Type 0 where
   stays : loses c w ≡ false → ends c w ≡ false → StaysHeld f w (ran c w) → BadFate f c w
   stored : (s : Storing) (free : Offset) (full : Bool) → ends c w ≡ true → unitOf w ≡ ru.Closing s free full → s .frame ≡ f
       → ran c w .outcome .fate ≡ fate.Stored
-      → Stored false s (bareTo w s ++ (onward w s free full ++ statusAfter (ran c w))) w (ran c w)
+      → Stored false s (bareTo w s ++ (onward w s free full ++ statusAfter w (ran c w))) w (ran c w)
       → BadFate f c w
   lacking : (s : Storing) → ends c w ≡ true → unitOf w ≡ ru.Lacking s → s .frame ≡ f
       → ran c w .outcome .fate ≡ fate.Stored
-      → Stored true s (bareTo w s ++ statusAfter (ran c w)) w (ran c w)
+      → Stored true s (bareTo w s ++ statusAfter w (ran c w)) w (ran c w)
       → BadFate f c w
   lost : loses c w ≡ true → Lost w c → BadFate f c w

@@ -1,18 +1,25 @@
 -- Stored and counted as facts about memory at exit, where no piece that the turn writes lies over another. Assumes nothing.
 use mathlib.Core.Path.{_≡_}
-use mathlib.Core.Bool.{Bool, true}
+use mathlib.Core.Bool.{Bool, true, false}
 use mathlib.Core.List.{List, [], _∷_}
 use Prim.Native.Nat.{ℕ, _+_, _%_}
 use lib.ListN.{length, take}
-use Rattle.memory.specs.Memory.{Write, wordAt, bytesAt}
-use Rattle.memory.proofs.Fields.{AllApart}
-use Rattle.scb.specs.Words.{bit}
+use Rattle.memory.specs.Address.{place, offsetAt}
+use Rattle.memory.specs.Memory.{Write, wordAt, bytesAt, apply}
+use Rattle.memory.specs.declared.Offset.{Offset}
+use Rattle.memory.proofs.Fields.{Apart, AllApart}
+use Rattle.scb.specs.Words.{bit, statusAt}
 use Rattle.device.specs.Limits.{header}
+use Rattle.device.specs.declared.Fate.the-variants as fate
+use Rattle.device.specs.declared.Frame.{Frame}
+use Rattle.device.specs.declared.Ru.{Ru}
+use Rattle.device.specs.declared.Ru.the-variants as ru
 use Rattle.device.specs.declared.Storing.{Storing}
 use Rattle.receive.specs.End.{frameStatus}
+use Rattle.chip.specs.Call.{Call, ran}
 use Rattle.chip.specs.World.{World, Ran}
-use Rattle.frames.specs.Arrival.{inScb}
-use Rattle.frames.specs.Held.{inFrame}
+use Rattle.frames.specs.Arrival.{inScb, unitOf}
+use Rattle.frames.specs.Held.{inFrame, described, loses, ends, StaysHeld, Lost}
 
 -- in a memory of n bytes no write lies over another
 abbrev pub Separate : ℕ → List Write → Type 0
@@ -32,3 +39,69 @@ CountedStands w r = wordAt (r .memory) (inScb w 12) ≡ (wordAt (w .memory) (inS
 -- the four counters are as at entry: CRCERRS, ALNERRS, RSCERRS, OVRNERRS, in this order from +8 on
 abbrev pub CountersStand : World → Ran → Type 0
 CountersStand w r = bytesAt (r .memory) (inScb w 8) 8 ≡ bytesAt (w .memory) (inScb w 8) 8
+
+-- ---- the pieces by their places
+
+-- so many bytes from an address on
+pub record Piece : Type 0 where
+  pub from : ℕ
+  pub size : ℕ
+
+abbrev pub piece : ℕ → ℕ → Piece
+piece a n = record { from = a; size = n }
+
+-- in a memory of n bytes no piece lies over another
+abbrev pub Away : ℕ → List Piece → Piece → Type 0
+Away n [] p = Unit {0}
+Away n (q ∷ qs) p = Apart n (q .from) (q .size) (p .from) (p .size) × Away n qs p
+
+abbrev pub NoOverlap : ℕ → List Piece → Type 0
+NoOverlap n [] = Unit {0}
+NoOverlap n (p ∷ ps) = Away n ps p × NoOverlap n ps
+
+-- +6 of the next frame descriptor, link read now
+abbrev pub nextFirst : World → Storing → ℕ
+nextFirst w s = place (w .device .units .base) (offsetAt (apply (described false w s) (w .memory)) (inFrame w s 4)) 6
+
+-- the end turn's: header bytes, status word and +6 of the frame descriptor; then +6 of the next one, or RSCERRS; the SCB status
+abbrev pub pieces : Ru → World → List Piece
+pieces ru.Idle w = []
+pieces ru.NoResources w = []
+pieces (ru.Suspended fd) w = []
+pieces (ru.Ready fd) w = []
+pieces (ru.Held fd f p) w = []
+pieces (ru.Filling s k) w = []
+pieces (ru.Closing s free full) w =
+    piece (inFrame w s 8) header
+    ∷ piece (inFrame w s 0) 2
+    ∷ piece (inFrame w s 6) 2
+    ∷ piece (nextFirst w s) 2
+    ∷ piece (inScb w statusAt) 2
+    ∷ []
+pieces (ru.Lacking s) w =
+    piece (inFrame w s 8) header
+    ∷ piece (inFrame w s 0) 2
+    ∷ piece (inFrame w s 6) 2
+    ∷ piece (inScb w 12) 2
+    ∷ piece (inScb w statusAt) 2
+    ∷ []
+
+-- what becomes of a good frame, as facts about memory at exit
+pub data GoodExit (f : Frame) (c : Call) (w : World) : Type 0 where
+  stays : loses c w ≡ false → ends c w ≡ false → StaysHeld f w (ran c w) → GoodExit f c w
+  stored : (s : Storing) (free : Offset) (full : Bool) → ends c w ≡ true → unitOf w ≡ ru.Closing s free full → s .frame ≡ f
+      → ran c w .outcome .fate ≡ fate.Stored
+      → StoredStands false s w (ran c w)
+      → ran c w .outcome .device .units .events .fr ≡ true
+      → GoodExit f c w
+  counted : (s : Storing) → ends c w ≡ true → unitOf w ≡ ru.Lacking s → s .frame ≡ f → f .savebad ≡ false
+      → ran c w .outcome .fate ≡ fate.Counted
+      → CountedStands w (ran c w)
+      → GoodExit f c w
+  both : (s : Storing) → ends c w ≡ true → unitOf w ≡ ru.Lacking s → s .frame ≡ f → f .savebad ≡ true
+      → ran c w .outcome .fate ≡ fate.StoredCounted
+      → StoredStands true s w (ran c w)
+      → ran c w .outcome .device .units .events .fr ≡ true
+      → CountedStands w (ran c w)
+      → GoodExit f c w
+  lost : loses c w ≡ true → Lost w c → GoodExit f c w
