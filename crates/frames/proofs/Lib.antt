@@ -4,6 +4,7 @@ pub mod End
 pub mod Held
 pub mod Sound
 pub mod Stands
+pub mod Clear
 pub mod Fates
 pub mod Accepted
 pub mod Witness

@@ -1,7 +1,7 @@
 -- Demand 2 of frames, corollary: where no piece lies over another, stored and counted are facts about memory at exit. Assumes nothing.
 use mathlib.Core.Path.{_≡_, refl, sym, ap, ap₂, _∙_, subst}
 use mathlib.Core.Bool.{Bool, true, false, _||_}
-use mathlib.Core.List.{List, [], _∷_, _++_}
+use mathlib.Core.List.{List, [], _∷_, _++_, append-nil}
 use Prim.Native.Nat.{ℕ, _+_, _%_, _≤_, _<_}
 use native.Mathlib.Omega.{arith}
 use lib.ListN.{length, take}
@@ -15,6 +15,7 @@ use Rattle.memory.specs.declared.Offset.{Offset}
 use Rattle.scb.specs.Words.{bit, field, statusAt, statusWord}
 use Rattle.device.specs.Limits.{header, areaSize}
 use Rattle.device.specs.State.{isGood}
+use Rattle.device.specs.declared.Fate.the-variants as fate
 use Rattle.device.specs.declared.Frame.{Frame}
 use Rattle.device.specs.declared.Ru.{Ru}
 use Rattle.device.specs.declared.Ru.the-variants as ru
@@ -27,11 +28,11 @@ use Rattle.receive.specs.End.{frameStatus, bareMark}
 use Rattle.chip.specs.Call.{Call, ran}
 use Rattle.chip.specs.World.{World, Ran}
 use Rattle.frames.specs.Arrival.{Lent, inScb, unitOf}
-use Rattle.frames.specs.Held.{heldIn, inFrame, headerTo, markTo, bareTo, described, onwardBy, statusAfter, Stored, Counted, GoodFate}
+use Rattle.frames.specs.Held.{heldIn, inFrame, headerTo, markTo, bareTo, described, onwardBy, statusAfter, Stored, Counted, GoodFate, BadFate}
 use Rattle.frames.specs.Held as held
-use Rattle.frames.specs.Stands.{Separate, StoredStands, CountedStands, CountersStand, Piece, piece, Away, NoOverlap, nextFirst, pieces, GoodExit}
+use Rattle.frames.specs.Stands.{Separate, StoredStands, CountedStands, CountersStand, Piece, piece, Away, NoOverlap, nextFirst, pieces, GoodExit, piecesAndCounters, SavedStands, BadExit}
 use Rattle.frames.specs.Stands as exit
-use Rattle.frames.proofs.Held.{good-held}
+use Rattle.frames.proofs.Held.{good-held, bad-held}
 
 -- ---- what is written stands at the end, if no later write meets it
 
@@ -269,3 +270,94 @@ pub good-exit : (c : Call) (w : World) (f : Frame) → Lent w [] → inRange (w 
 good-exit c w f l r h g p =
     let least = allowed (length (w .memory)) (l .size) .least in
     exit-of c w f (l .area) (omega arith) p (good-held c w f r h g)
+
+-- ---- a bad frame
+
+-- what lies apart from every piece
+away-last : (n : ℕ) (ps : List Piece) (c p : Piece) → Away n (ps ++ c ∷ []) p → Apart n (c .from) (c .size) (p .from) (p .size)
+away-last n [] c p h = h .0
+away-last n (q ∷ qs) c p h = away-last n qs c p (h .1)
+
+to-last : (n : ℕ) (xs : List Write) (c : Piece) → NoOverlap n (piecesOf xs ++ c ∷ []) → AllApart n xs (c .from) (c .size)
+unfolding piecesOf pieceOf
+to-last n [] c h = tt
+to-last n (x ∷ xs) c h =
+    (apart-sym n (c .from) (c .size) (x .to) (length (x .bytes)) (away-last n (piecesOf xs) c (pieceOf x) (h .0)), to-last n xs c (h .1))
+
+but-last : (n : ℕ) (xs : List Write) (c : Piece) → NoOverlap n (piecesOf xs ++ c ∷ []) → Separate n xs
+but-last n xs c h = separate n xs (subst (NoOverlap n) (append-nil (piecesOf xs)) (less n (piecesOf xs) c [] h))
+
+ending-pieces : (b : Bool) (n : ℕ) (w : World) (s : Storing) (status : ℕ) (rest : List Write) (ps : List Piece) (c : Piece) → length (w .holding) ≡ areaSize
+    → piecesOf rest ≡ ps
+    → NoOverlap n (piece (inFrame w s 8) header ∷ piece (inFrame w s 0) 2 ∷ piece (inFrame w s 6) 2 ∷ (ps ++ c ∷ []))
+    → NoOverlap n (piecesOf (headerTo w s ∷ markTo w s status ∷ (bareMark b (inFrame w s 6) ++ rest)) ++ c ∷ [])
+unfolding piecesOf
+ending-pieces true n w s status rest ps c h e p =
+    subst (NoOverlap n)
+    (sym
+    (front3 (header-piece w s h) (word-piece (inFrame w s 0) status) (word-piece (inFrame w s 6) 0xFFFF) (ap (λ (l : List Piece). l ++ c ∷ []) e)))
+    p
+ending-pieces false n w s status rest ps c h e p =
+    subst (NoOverlap n) (sym (front2 (header-piece w s h) (word-piece (inFrame w s 0) status) (ap (λ (l : List Piece). l ++ c ∷ []) e)))
+    (less n (piece (inFrame w s 8) header ∷ piece (inFrame w s 0) 2 ∷ []) (piece (inFrame w s 6) 2) (ps ++ c ∷ []) p)
+
+onward-pieces : (x : Bool) (n : ℕ) (w : World) (r : Ran) (s : Storing) (free : Offset) → length (w .holding) ≡ areaSize
+    → NoOverlap n (piecesAndCounters (ru.Closing s free x) w)
+    → NoOverlap n
+    (piecesOf
+    (headerTo w s
+    ∷ markTo w s (frameStatus false (s .frame))
+    ∷ (bareTo w s ++ (onwardBy x w s free (apply (described false w s) (w .memory)) ++ statusAfter w r)))
+    ++ piece (inScb w 8) 8 ∷ [])
+unfolding piecesOf
+onward-pieces true n w r s free h p =
+    ending-pieces (isBare (s .frame)) n w s (frameStatus false (s .frame)) (statusAfter w r) (piece (inScb w statusAt) 2 ∷ []) (piece (inScb w 8) 8) h
+    (status-piece w r)
+    (less n (piece (inFrame w s 8) header ∷ piece (inFrame w s 0) 2 ∷ piece (inFrame w s 6) 2 ∷ []) (piece (nextFirst w s) 2)
+    (piece (inScb w statusAt) 2 ∷ piece (inScb w 8) 8 ∷ []) p)
+onward-pieces false n w r s free h p =
+    ending-pieces (isBare (s .frame)) n w s (frameStatus false (s .frame))
+    (onwardBy false w s free (apply (described false w s) (w .memory)) ++ statusAfter w r)
+    (piece (nextFirst w s) 2 ∷ piece (inScb w statusAt) 2 ∷ []) (piece (inScb w 8) 8) h
+    (ap₂ (λ (a : Piece) (l : List Piece). a ∷ l) (word-piece (nextFirst w s) (free .0)) (status-piece w r)) p
+
+saved-stands : (lacking : Bool) (s : Storing) (rest : List Write) (w : World) (r : Ran) → length (w .holding) ≡ areaSize → header ≤ length (w .memory)
+    → NoOverlap (length (w .memory))
+    (piecesOf (headerTo w s ∷ markTo w s (frameStatus lacking (s .frame)) ∷ rest) ++ piece (inScb w 8) 8 ∷ [])
+    → Stored lacking s rest w r
+    → SavedStands lacking s w r
+saved-stands lacking s rest w r h l p k =
+    let writes = headerTo w s ∷ markTo w s (frameStatus lacking (s .frame)) ∷ rest in
+    let stored = stored-stands lacking s rest w r k h l (but-last (length (w .memory)) writes (piece (inScb w 8) 8) p) in
+    record {
+      stored = stored;
+      lacks = ap (λ (n : ℕ). bit n 9) (stored .status) ∙ k .lacks;
+      fr = k .fr;
+      counters = counters-stand writes w r (k .memory) (to-last (length (w .memory)) writes (piece (inScb w 8) 8) p);
+    }
+
+bad-exit-of : (c : Call) (w : World) (f : Frame) → length (w .holding) ≡ areaSize → header ≤ length (w .memory)
+    → NoOverlap (length (w .memory)) (piecesAndCounters (unitOf w) w)
+    → BadFate f c w
+    → BadExit f c w
+bad-exit-of c w f h l p (held.stays a b k) = exit.stays a b k
+bad-exit-of c w f h l p (held.stored s free full n e q x k) =
+    let o = subst (λ (u : Ru). NoOverlap (length (w .memory)) (piecesAndCounters u w)) e p in
+    exit.stored s free full n e q x
+    (saved-stands false s _ w (ran c w) h l (onward-pieces (s .el || full) (length (w .memory)) w (ran c w) s free h o) k)
+bad-exit-of c w f h l p (held.lacking s n e q x k) =
+    let o = subst (λ (u : Ru). NoOverlap (length (w .memory)) (piecesAndCounters u w)) e p in
+    exit.lacking s n e q x
+    (saved-stands true s _ w (ran c w) h l
+    (ending-pieces (isBare (s .frame)) (length (w .memory)) w s (frameStatus true (s .frame)) (statusAfter w (ran c w)) (piece (inScb w statusAt) 2 ∷ [])
+    (piece (inScb w 8) 8) h (status-piece w (ran c w)) o)
+    k)
+bad-exit-of c w f h l p (held.lost a k) = exit.lost a k
+
+-- every call that is not refused, while a bad frame is held, where no piece that is written lies over another or over a counter
+pub bad-exit : (c : Call) (w : World) (f : Frame) → Lent w [] → inRange (w .device) ≡ true → heldIn (unitOf w) ≡ f ∷ [] → isGood f ≡ false
+    → NoOverlap (length (w .memory)) (piecesAndCounters (unitOf w) w)
+    → BadExit f c w
+bad-exit c w f l r h g p =
+    let least = allowed (length (w .memory)) (l .size) .least in
+    bad-exit-of c w f (l .area) (omega arith) p (bad-held c w f r h g)

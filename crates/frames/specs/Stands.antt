@@ -2,7 +2,7 @@
 use mathlib.Core.Path.{_≡_}
 use mathlib.Core.Bool.{Bool, true, false}
 use mathlib.Core.List.{List, [], _∷_}
-use Prim.Native.Nat.{ℕ, _+_, _%_}
+use Prim.Native.Nat.{ℕ, _+_, _%_, _≤_}
 use lib.ListN.{length, take}
 use Rattle.memory.specs.Address.{place, offsetAt}
 use Rattle.memory.specs.Memory.{Write, wordAt, bytesAt, apply}
@@ -105,3 +105,61 @@ pub data GoodExit (f : Frame) (c : Call) (w : World) : Type 0 where
       → CountedStands w (ran c w)
       → GoodExit f c w
   lost : loses c w ≡ true → Lost w c → GoodExit f c w
+
+-- ---- a bad frame: no counter moves
+
+-- the end turn's pieces, and the four counters, which are none of them
+abbrev pub piecesAndCounters : Ru → World → List Piece
+piecesAndCounters ru.Idle w = []
+piecesAndCounters ru.NoResources w = []
+piecesAndCounters (ru.Suspended fd) w = []
+piecesAndCounters (ru.Ready fd) w = []
+piecesAndCounters (ru.Held fd f p) w = []
+piecesAndCounters (ru.Filling s k) w = []
+piecesAndCounters (ru.Closing s free full) w =
+    piece (inFrame w s 8) header
+    ∷ piece (inFrame w s 0) 2
+    ∷ piece (inFrame w s 6) 2
+    ∷ piece (nextFirst w s) 2
+    ∷ piece (inScb w statusAt) 2
+    ∷ piece (inScb w 8) 8
+    ∷ []
+piecesAndCounters (ru.Lacking s) w =
+    piece (inFrame w s 8) header
+    ∷ piece (inFrame w s 0) 2
+    ∷ piece (inFrame w s 6) 2
+    ∷ piece (inScb w statusAt) 2
+    ∷ piece (inScb w 8) 8
+    ∷ []
+
+-- header bytes and status stand, bit 9 is set exactly if out of buffers, FR is set in the record, and the counters are as at entry
+pub record SavedStands (lacking : Bool) (s : Storing) (w : World) (r : Ran) : Type 0 where
+  pub stored : StoredStands lacking s w r
+  pub lacks : bit (wordAt (r .memory) (inFrame w s 0)) 9 ≡ lacking
+  pub fr : r .outcome .device .units .events .fr ≡ true
+  pub counters : CountersStand w r
+
+-- what becomes of a bad frame, as facts about memory at exit
+pub data BadExit (f : Frame) (c : Call) (w : World) : Type 0 where
+  stays : loses c w ≡ false → ends c w ≡ false → StaysHeld f w (ran c w) → BadExit f c w
+  stored : (s : Storing) (free : Offset) (full : Bool) → ends c w ≡ true → unitOf w ≡ ru.Closing s free full → s .frame ≡ f
+      → ran c w .outcome .fate ≡ fate.Stored
+      → SavedStands false s w (ran c w)
+      → BadExit f c w
+  lacking : (s : Storing) → ends c w ≡ true → unitOf w ≡ ru.Lacking s → s .frame ≡ f
+      → ran c w .outcome .fate ≡ fate.Stored
+      → SavedStands true s w (ran c w)
+      → BadExit f c w
+  lost : loses c w ≡ true → Lost w c → BadExit f c w
+
+-- ---- when that is so
+
+-- the frame descriptor's 22 bytes and the SCB's 16 have no byte in common
+pub record Clear (w : World) (s : Storing) : Type 0 where
+  pub room : 22 ≤ length (w .memory)
+  pub apart : Apart (length (w .memory)) (inFrame w s 0) 22 (inScb w 0) 16
+
+-- nor has +6 of the next frame descriptor with either
+pub record NextClear (w : World) (s : Storing) : Type 0 where
+  pub frame : Apart (length (w .memory)) (nextFirst w s) 2 (inFrame w s 0) 22
+  pub scb : Apart (length (w .memory)) (nextFirst w s) 2 (inScb w 0) 16

@@ -1,0 +1,143 @@
+-- When no piece of an end turn lies over another: it is enough that the frame descriptor, the SCB and +6 of the next frame descriptor lie apart.
+-- Assumes nothing.
+use mathlib.Core.Path.{_≡_, refl, sym, ap, ap₂, _∙_, subst}
+use mathlib.Core.Bool.{Bool}
+use mathlib.Core.List.{List, [], _∷_}
+use Prim.Native.Nat.{ℕ, _+_, _%_, _≤_, _<_}
+use native.Mathlib.Omega.{arith}
+use lib.ListN.{length}
+use Rattle.memory.specs.Address.{place}
+use Rattle.memory.specs.declared.Offset.{Offset}
+use Rattle.memory.specs.declared.RealAddress.{RealAddress}
+use Rattle.memory.proofs.Fields.{Apart}
+use Rattle.memory.proofs.Places.{place-up, place-down}
+use Rattle.device.specs.declared.Ru.the-variants as ru
+use Rattle.device.specs.declared.Storing.{Storing}
+use Rattle.chip.specs.World.{World}
+use Rattle.frames.specs.Arrival.{inScb}
+use Rattle.frames.specs.Held.{inFrame}
+use Rattle.frames.specs.Stands.{NoOverlap, nextFirst, pieces, piecesAndCounters, Clear, NextClear}
+
+-- ---- parts of what lies apart
+
+at-field : (base : RealAddress) (o : Offset) (f x : ℕ) → place base o 0 + (f + x) ≡ place base o f + x
+unfolding place
+at-field base o f x = omega arith
+
+part-apart : (n : ℕ) (base : RealAddress) (o p : Offset) (j k f g i l : ℕ) → f + i ≤ j → g + l ≤ k → Apart n (place base o 0) j (place base p 0) k
+    → Apart n (place base p g) l (place base o f) i
+part-apart n base o p j k f g i l a b h x hx y hy e =
+    h (f + y) (omega arith) (g + x) (omega arith)
+    (ap (λ (z : ℕ). z % n) (at-field base o f y) ∙ sym e ∙ ap (λ (z : ℕ). z % n) (sym (at-field base p g x)))
+
+word-apart : (n a : ℕ) (base : RealAddress) (o : Offset) (j f i : ℕ) → f + i ≤ j → Apart n a 2 (place base o 0) j → Apart n a 2 (place base o f) i
+word-apart n a base o j f i b h x hx y hy e = h x hx (f + y) (omega arith) (e ∙ ap (λ (z : ℕ). z % n) (sym (at-field base o f y)))
+
+word-apart′ : (n a : ℕ) (base : RealAddress) (o : Offset) (j f i : ℕ) → f + i ≤ j → Apart n a 2 (place base o 0) j → Apart n (place base o f) i a 2
+word-apart′ n a base o j f i b h x hx y hy e = word-apart n a base o j f i b h y hy x hx (sym e)
+
+-- ---- pieces of the frame descriptor and of the SCB
+
+abbrev size : World → ℕ
+size w = length (w .memory)
+
+-- two of the frame descriptor's, the first before or behind the second
+frame-up : (w : World) (s : Storing) (f j g k : ℕ) → Clear w s → f + j ≤ g → g + k ≤ f + 22 → Apart (size w) (inFrame w s f) j (inFrame w s g) k
+frame-up w s f j g k c a b =
+    let room = c .room in place-up (w .device .units .base) (s .fd) (size w) f j g k a (omega arith)
+
+frame-down : (w : World) (s : Storing) (f j g k : ℕ) → Clear w s → g + k ≤ f → f + j ≤ g + 22 → Apart (size w) (inFrame w s f) j (inFrame w s g) k
+frame-down w s f j g k c a b =
+    let room = c .room in place-down (w .device .units .base) (s .fd) (size w) f j g k a (omega arith)
+
+-- two of the SCB's
+scb-up : (w : World) (s : Storing) (f j g k : ℕ) → Clear w s → f + j ≤ g → g + k ≤ f + 22 → Apart (size w) (inScb w f) j (inScb w g) k
+scb-up w s f j g k c a b =
+    let room = c .room in place-up (w .device .units .base) (w .device .units .scb) (size w) f j g k a (omega arith)
+
+scb-down : (w : World) (s : Storing) (f j g k : ℕ) → Clear w s → g + k ≤ f → f + j ≤ g + 22 → Apart (size w) (inScb w f) j (inScb w g) k
+scb-down w s f j g k c a b =
+    let room = c .room in place-down (w .device .units .base) (w .device .units .scb) (size w) f j g k a (omega arith)
+
+-- one of each
+across : (w : World) (s : Storing) (f i g l : ℕ) → Clear w s → f + i ≤ 22 → g + l ≤ 16 → Apart (size w) (inScb w g) l (inFrame w s f) i
+across w s f i g l c a b = part-apart (size w) (w .device .units .base) (s .fd) (w .device .units .scb) 22 16 f g i l a b (c .apart)
+
+-- +6 of the next frame descriptor and one of either
+next-frame : (w : World) (s : Storing) (f i : ℕ) → NextClear w s → f + i ≤ 22 → Apart (size w) (nextFirst w s) 2 (inFrame w s f) i
+next-frame w s f i c a = word-apart (size w) (nextFirst w s) (w .device .units .base) (s .fd) 22 f i a (c .frame)
+
+next-scb : (w : World) (s : Storing) (f i : ℕ) → NextClear w s → f + i ≤ 16 → Apart (size w) (inScb w f) i (nextFirst w s) 2
+next-scb w s f i c a = word-apart′ (size w) (nextFirst w s) (w .device .units .base) (w .device .units .scb) 16 f i a (c .scb)
+
+-- ---- the premises of the facts at exit
+
+pub lacking-clear : (w : World) (s : Storing) → Clear w s → NoOverlap (size w) (pieces (ru.Lacking s) w)
+lacking-clear w s c = (
+  (
+    frame-up w s 0 2 8 14 c (omega arith) (omega arith),
+    (frame-up w s 6 2 8 14 c (omega arith) (omega arith), (across w s 8 14 12 2 c (omega arith) (omega arith), (across w s 8 14 0 2 c (omega arith) (omega arith), tt))),
+  ),
+  (
+    (frame-down w s 6 2 0 2 c (omega arith) (omega arith), (across w s 0 2 12 2 c (omega arith) (omega arith), (across w s 0 2 0 2 c (omega arith) (omega arith), tt))),
+    (
+      (across w s 6 2 12 2 c (omega arith) (omega arith), (across w s 6 2 0 2 c (omega arith) (omega arith), tt)),
+      ((scb-up w s 0 2 12 2 c (omega arith) (omega arith), tt), (tt, tt)),
+    ),
+  ),
+)
+
+pub closing-clear : (w : World) (s : Storing) (free : Offset) (full : Bool) → Clear w s → NextClear w s → NoOverlap (size w) (pieces (ru.Closing s free full) w)
+closing-clear w s free full c k = (
+  (
+    frame-up w s 0 2 8 14 c (omega arith) (omega arith),
+    (frame-up w s 6 2 8 14 c (omega arith) (omega arith), (next-frame w s 8 14 k (omega arith), (across w s 8 14 0 2 c (omega arith) (omega arith), tt))),
+  ),
+  (
+    (frame-down w s 6 2 0 2 c (omega arith) (omega arith), (next-frame w s 0 2 k (omega arith), (across w s 0 2 0 2 c (omega arith) (omega arith), tt))),
+    (
+      (next-frame w s 6 2 k (omega arith), (across w s 6 2 0 2 c (omega arith) (omega arith), tt)),
+      ((next-scb w s 0 2 k (omega arith), tt), (tt, tt)),
+    ),
+  ),
+)
+
+pub lacking-clear-all : (w : World) (s : Storing) → Clear w s → NoOverlap (size w) (piecesAndCounters (ru.Lacking s) w)
+lacking-clear-all w s c = (
+  (
+    frame-up w s 0 2 8 14 c (omega arith) (omega arith),
+    (frame-up w s 6 2 8 14 c (omega arith) (omega arith), (across w s 8 14 0 2 c (omega arith) (omega arith), (across w s 8 14 8 8 c (omega arith) (omega arith), tt))),
+  ),
+  (
+    (frame-down w s 6 2 0 2 c (omega arith) (omega arith), (across w s 0 2 0 2 c (omega arith) (omega arith), (across w s 0 2 8 8 c (omega arith) (omega arith), tt))),
+    (
+      (across w s 6 2 0 2 c (omega arith) (omega arith), (across w s 6 2 8 8 c (omega arith) (omega arith), tt)),
+      ((scb-down w s 8 8 0 2 c (omega arith) (omega arith), tt), (tt, tt)),
+    ),
+  ),
+)
+
+pub closing-clear-all : (w : World) (s : Storing) (free : Offset) (full : Bool) → Clear w s → NextClear w s
+    → NoOverlap (size w) (piecesAndCounters (ru.Closing s free full) w)
+closing-clear-all w s free full c k = (
+  (
+    frame-up w s 0 2 8 14 c (omega arith) (omega arith),
+    (
+      frame-up w s 6 2 8 14 c (omega arith) (omega arith),
+      (next-frame w s 8 14 k (omega arith), (across w s 8 14 0 2 c (omega arith) (omega arith), (across w s 8 14 8 8 c (omega arith) (omega arith), tt))),
+    ),
+  ),
+  (
+    (
+      frame-down w s 6 2 0 2 c (omega arith) (omega arith),
+      (next-frame w s 0 2 k (omega arith), (across w s 0 2 0 2 c (omega arith) (omega arith), (across w s 0 2 8 8 c (omega arith) (omega arith), tt))),
+    ),
+    (
+      (next-frame w s 6 2 k (omega arith), (across w s 6 2 0 2 c (omega arith) (omega arith), (across w s 6 2 8 8 c (omega arith) (omega arith), tt))),
+      (
+        (next-scb w s 0 2 k (omega arith), (next-scb w s 8 8 k (omega arith), tt)),
+        ((scb-down w s 8 8 0 2 c (omega arith) (omega arith), tt), (tt, tt)),
+      ),
+    ),
+  ),
+)
