@@ -1,6 +1,6 @@
 -- Every call that is not refused meets what the laws of this crate ask for. Assumes nothing.
-use mathlib.Core.Path.{_≡_, refl, sym, ap, _∙_, subst}
-use mathlib.Core.Bool.{Bool, true, false, _&&_, true≢false, false≢true}
+use mathlib.Core.Path.{_≡_, refl, ap, _∙_, subst}
+use mathlib.Core.Bool.{Bool, true, false, _&&_, false≢true}
 use mathlib.Core.List.{List}
 use Prim.Native.Nat.{ℕ}
 use native.Mathlib.Omega.{arith}
@@ -10,7 +10,6 @@ use lib.ListN.{length}
 use Rattle.memory.specs.Size.{sizeAllowed}
 use Rattle.device.specs.Limits.{areaSize, recordSize, longest}
 use Rattle.device.specs.Numbers.{refusalNumber}
-use Rattle.device.specs.declared.Refusal.{Refusal}
 use Rattle.device.specs.declared.Refusal.the-variants as refusal
 use Rattle.device.specs.declared.Units.{Units}
 use Rattle.image.specs.Image.{decodeOf, decodeFull, shaped, rangeFrom, unitsAt, deviceFrom, deviceAt}
@@ -19,15 +18,15 @@ use Rattle.image.specs.declared.Decoded.{Decoded}
 use Rattle.image.specs.declared.Decoded.the-variants as is
 use Rattle.image.proofs.Steps.{full-taken, full-out, full-other, decode-full, device-full}
 use Rattle.phases.proofs.Units.{both as parts}
-use Rattle.chip.specs.World.{World, Ran, worldOf}
-use Rattle.lentoquist.specs.Calls.{Areas, lengthsRight, areasRight, isImage, refusedBy, refusalOf, keptBy, calledBy}
+use Rattle.chip.specs.World.{worldOf}
+use Rattle.lentoquist.specs.Calls.{Areas, areasRight, isImage, refusedBy, refusalOf}
 use Rattle.lentoquist.proofs.Laws as calls
-use Rattle.frames.specs.Arrival.{Lent}
 use Rattle.frames.specs.Accepted.{Runs}
 
 -- ---- what is decoded is in range
 
-in-range-by : (x y : Bool) (r : List ℕ) (u : Units) → shaped r ≡ x → rangeFrom r (unitsAt r) ≡ y → decodeFull r ≡ is.Units u → inRange (deviceFrom r u) ≡ true
+in-range-by : (x y : Bool) (r : List ℕ) (u : Units) → shaped r ≡ x → rangeFrom r (unitsAt r) ≡ y → decodeFull r ≡ is.Units u
+    → inRange (deviceFrom r u) ≡ true
 unfolding rangeFrom
 in-range-by true true r u a b d =
     let e : unitsAt r ≡ u = cc (full-taken r a b) in

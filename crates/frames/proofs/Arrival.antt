@@ -1,24 +1,22 @@
 -- Demand 2 of frames at an arrival: a theorem for each class of frames, in the order of 01, "Arrival and storing". Each settles the record, memory,
 -- both areas and the answer. Assumes nothing.
 use mathlib.Core.Path.{_≡_, refl, sym, ap, ap₂, _∙_, subst}
-use mathlib.Core.Bool.{Bool, true, false, _&&_, cond, true≢false, false≢true}
-use mathlib.Core.List.{List, [], _∷_, _++_}
-use Prim.Native.Nat.{ℕ, zero, suc, _+_, _%_, _≤_, _<_, min}
+use mathlib.Core.Bool.{Bool, true, false, false≢true}
+use mathlib.Core.List.{List, [], _∷_}
+use Prim.Native.Nat.{ℕ, zero, suc, _+_, _%_, _≤_, _<_}
 use native.Mathlib.Nat.{min-eq-left, zero-add}
 use native.Mathlib.Omega.{arith}
 use borrow.Author.Tests.{lt-ltb, le-ltb, ltb-true, ltb-false, eqb-true, eqb-false, ne-eqb}
-use lib.Dec.{eqb, leb, ltb}
+use lib.Dec.{eqb, ltb}
 use lib.ListN.{length, take, drop}
 use lib.Seq.{sets, sets-eq, take-append-seam, drop-append-seam}
-use Rattle.memory.specs.Address.{place}
-use Rattle.memory.specs.Memory.{wordAt, bytesAt, putBytes, digits, countTo, apply}
-use Rattle.memory.specs.Size.{sizeAllowed}
+use Rattle.memory.specs.Memory.{wordAt, digits, countTo, apply}
 use Rattle.memory.specs.declared.Offset.{Offset}
-use Rattle.memory.proofs.Fields.{Apart, word-same, bytes-other, length-digits}
+use Rattle.memory.proofs.Fields.{word-same, bytes-other, length-digits}
 use Rattle.memory.proofs.Laws.{length-putBytes}
 use Rattle.memory.proofs.Power.{allowed}
-use Rattle.device.specs.Answers.{answered, counterOf, counts, isHeld}
-use Rattle.device.specs.Limits.{header, areaSize, longest, fcs, heldFrom}
+use Rattle.device.specs.Answers.{counterOf, counts, isHeld}
+use Rattle.device.specs.Limits.{header, fcs, heldFrom}
 use Rattle.device.specs.Numbers.{verdictOf}
 use Rattle.device.specs.State.{isHolding, goodBy}
 use Rattle.device.specs.Change.{withRu, withUnits}
@@ -29,13 +27,11 @@ use Rattle.device.specs.declared.Fate.the-variants as fate
 use Rattle.device.specs.declared.Frame.{Frame}
 use Rattle.device.specs.declared.Ru.{Ru}
 use Rattle.device.specs.declared.Ru.the-variants as ru
-use Rattle.device.specs.declared.Settings.{Settings}
-use Rattle.device.specs.declared.Verdict.{Verdict}
 use Rattle.device.specs.declared.Verdict.the-variants as verdict
 use Rattle.receive.specs.Arrival as receive
 use Rattle.chip.specs.Arrival as chip
 use Rattle.chip.specs.World.{World, Ran}
-use Rattle.frames.specs.Arrival.{Lent, inScb, shortBy, settingsOf, unitOf, isOurs, Ours, Short, Good, Bad, short, crc, misaligned, OneMore, Counts, NotHeld, IsHeld, judgedAs, ArrivalFate}
+use Rattle.frames.specs.Arrival.{Lent, inScb, shortBy, settingsOf, unitOf, isOurs, Ours, Good, Bad, short, crc, misaligned, OneMore, Counts, NotHeld, IsHeld, judgedAs, ArrivalFate}
 use Rattle.frames.specs.Arrival as classes
 
 -- ---- one more
@@ -85,7 +81,8 @@ not-held-said x w f v h l =
       memory = counted (counterOf x) w (enough l);
     }
 
-not-held : (x : Fate) (w : World) (f : List ℕ) (v : ℕ) → isHeld x ≡ false → Lent w f → fated w f v ≡ x → NotHeld w x (counterOf x) (chip.arrivalOf w f v)
+not-held : (x : Fate) (w : World) (f : List ℕ) (v : ℕ) → isHeld x ≡ false → Lent w f → fated w f v ≡ x
+    → NotHeld w x (counterOf x) (chip.arrivalOf w f v)
 not-held x w f v h l e = subst (λ (r : Ran). NotHeld w x (counterOf x) r) (ap (said w f v) (sym e) ∙ by-fate w f v) (not-held-said x w f v h l)
 
 -- a frame that is set down at the front of the holding area
@@ -101,7 +98,8 @@ fits {w} {f} l =
     let frame = l .frame in
     omega arith
 
-is-held-said : (c : Counter) (w : World) (f : List ℕ) (v : ℕ) (fd : Offset) (j : Frame) → Lent w f → unitOf w ≡ ru.Ready fd → receive.judged (settingsOf w) f v ≡ j
+is-held-said : (c : Counter) (w : World) (f : List ℕ) (v : ℕ) (fd : Offset) (j : Frame) → Lent w f → unitOf w ≡ ru.Ready fd
+    → receive.judged (settingsOf w) f v ≡ j
     → IsHeld w f fd j c (said w f v (fate.Held c))
 unfolding said
 is-held-said c w f v fd j l u e =
@@ -115,7 +113,8 @@ is-held-said c w f v fd j l u e =
       memory = counted c w (enough l);
     }
 
-is-held : (c : Counter) (w : World) (f : List ℕ) (v : ℕ) (fd : Offset) (j : Frame) → Lent w f → unitOf w ≡ ru.Ready fd → receive.judged (settingsOf w) f v ≡ j
+is-held : (c : Counter) (w : World) (f : List ℕ) (v : ℕ) (fd : Offset) (j : Frame) → Lent w f → unitOf w ≡ ru.Ready fd
+    → receive.judged (settingsOf w) f v ≡ j
     → fated w f v ≡ fate.Held c → IsHeld w f fd j c (chip.arrivalOf w f v)
 is-held c w f v fd j l u e x =
     subst (λ (r : Ran). IsHeld w f fd j c r) (ap (said w f v) (sym x) ∙ by-fate w f v) (is-held-said c w f v fd j l u e)
@@ -132,7 +131,8 @@ unfolding verdictOf
 good-judged w f v l g =
     judged-as w f v false l (le-ltb _ _ (g .long)) ∙ ap (λ (n : ℕ). judgedAs w f (verdictOf n) false) (g .verdict)
 
-bad-judged : (w : World) (f : List ℕ) (v : ℕ) (c : Counter) → Lent w f → Bad w f v c → receive.judged (settingsOf w) f v ≡ judgedAs w f (verdictOf v) (shortBy c)
+bad-judged : (w : World) (f : List ℕ) (v : ℕ) (c : Counter) → Lent w f → Bad w f v c
+    → receive.judged (settingsOf w) f v ≡ judgedAs w f (verdictOf v) (shortBy c)
 bad-judged w f v c l (short s) = judged-as w f v true l (lt-ltb _ _ s)
 bad-judged w f v c l (crc n e) = judged-as w f v false l (le-ltb _ _ n)
 bad-judged w f v c l (misaligned n e) = judged-as w f v false l (le-ltb _ _ n)
@@ -156,7 +156,8 @@ bad-counter w f v c (crc n e) = rw (crc-verdict v e)
 bad-counter w f v c (misaligned n e) = rw (misaligned-verdict v e)
 
 -- a frame of ours has the fate that the unit and the judgement give it
-in-unit : (w : World) (f : List ℕ) (v : ℕ) (u : Ru) (j : Frame) → Ours w f → unitOf w ≡ u → receive.judged (settingsOf w) f v ≡ j → fated w f v ≡ receive.fateIn u j
+in-unit : (w : World) (f : List ℕ) (v : ℕ) (u : Ru) (j : Frame) → Ours w f → unitOf w ≡ u → receive.judged (settingsOf w) f v ≡ j
+    → fated w f v ≡ receive.fateIn u j
 unfolding fated receive.fateOf
 in-unit w f v u j o e g = rw (le-ltb (length f) header (o .enough), o .matched) (ap₂ receive.fateIn e g)
 
@@ -174,7 +175,8 @@ unfolding fated receive.fateOf
 unmatched w f v l h n = not-held fate.NoMatch w f v refl l (rw (le-ltb (length f) header h, n))
 
 -- RU Idle or Suspended, dropped
-pub idle : (w : World) (f : List ℕ) (v : ℕ) → Lent w f → Ours w f → unitOf w ≡ ru.Idle → NotHeld w fate.UnitIdle counter.Uncounted (chip.arrivalOf w f v)
+pub idle : (w : World) (f : List ℕ) (v : ℕ) → Lent w f → Ours w f → unitOf w ≡ ru.Idle
+    → NotHeld w fate.UnitIdle counter.Uncounted (chip.arrivalOf w f v)
 idle w f v l o u = not-held fate.UnitIdle w f v refl l (in-unit w f v ru.Idle _ o u refl)
 
 pub suspended : (w : World) (f : List ℕ) (v : ℕ) (fd : Offset) → Lent w f → Ours w f → unitOf w ≡ ru.Suspended fd
@@ -210,13 +212,15 @@ good-unready w f v l o g u =
     not-held fate.NoResources w f v refl l (in-unit w f v ru.NoResources _ o u (good-judged w f v l g))
 
 -- a bad one is held only in Ready with save-bad set; its counter moves in either case
-pub bad-saved : (w : World) (f : List ℕ) (v : ℕ) (fd : Offset) (c : Counter) → Lent w f → Ours w f → Bad w f v c → unitOf w ≡ ru.Ready fd → settingsOf w .savebad ≡ true
+pub bad-saved : (w : World) (f : List ℕ) (v : ℕ) (fd : Offset) (c : Counter) → Lent w f → Ours w f → Bad w f v c → unitOf w ≡ ru.Ready fd
+    → settingsOf w .savebad ≡ true
     → IsHeld w f fd (judgedAs w f (verdictOf v) (shortBy c)) c (chip.arrivalOf w f v)
 bad-saved w f v fd c l o b u s =
     let j = bad-judged w f v c l b in
     is-held c w f v fd _ l u j (in-unit w f v (ru.Ready fd) _ o u j ∙ rw (bad-good w f v c b, s, bad-counter w f v c b))
 
-pub bad-unsaved : (w : World) (f : List ℕ) (v : ℕ) (fd : Offset) (c : Counter) → Lent w f → Ours w f → Bad w f v c → unitOf w ≡ ru.Ready fd → settingsOf w .savebad ≡ false
+pub bad-unsaved : (w : World) (f : List ℕ) (v : ℕ) (fd : Offset) (c : Counter) → Lent w f → Ours w f → Bad w f v c → unitOf w ≡ ru.Ready fd
+    → settingsOf w .savebad ≡ false
     → NotHeld w (fate.Bad c) c (chip.arrivalOf w f v)
 bad-unsaved w f v fd c l o b u s =
     not-held (fate.Bad c) w f v refl l
@@ -239,7 +243,8 @@ data Judgement (w : World) (f : List ℕ) (v : ℕ) : Type 0 where
   is-good : Good w f v → Judgement w f v
   is-bad : (c : Counter) → Bad w f v c → Judgement w f v
 
-verdicts : (zero? one? : Bool) (w : World) (f : List ℕ) (v : ℕ) → settingsOf w .minimum ≤ length f + fcs → eqb v 0 ≡ zero? → eqb v 1 ≡ one? → Judgement w f v
+verdicts : (zero? one? : Bool) (w : World) (f : List ℕ) (v : ℕ) → settingsOf w .minimum ≤ length f + fcs → eqb v 0 ≡ zero? → eqb v 1 ≡ one?
+    → Judgement w f v
 verdicts true one? w f v l a b = is-good (record { long = l; verdict = eqb-true v 0 a })
 verdicts false true w f v l a b = is-bad counter.Crc (crc l (eqb-true v 1 b))
 verdicts false false w f v l a b =
@@ -249,13 +254,15 @@ judgement : (isShort : Bool) (w : World) (f : List ℕ) (v : ℕ) → ltb (lengt
 judgement true w f v h = is-bad counter.Uncounted (short (ltb-true (length f + fcs) (settingsOf w .minimum) h))
 judgement false w f v h = verdicts (eqb v 0) (eqb v 1) w f v (ltb-false (length f + fcs) (settingsOf w .minimum) h) refl refl
 
-ready-class : (saved : Bool) (w : World) (f : List ℕ) (v : ℕ) (fd : Offset) → Lent w f → Ours w f → unitOf w ≡ ru.Ready fd → settingsOf w .savebad ≡ saved → Judgement w f v
+ready-class : (saved : Bool) (w : World) (f : List ℕ) (v : ℕ) (fd : Offset) → Lent w f → Ours w f → unitOf w ≡ ru.Ready fd
+    → settingsOf w .savebad ≡ saved → Judgement w f v
     → ArrivalFate w f v (chip.arrivalOf w f v)
 ready-class saved w f v fd l o u s (is-good g) = classes.good-ready fd o g u (good-ready w f v fd l o g u)
 ready-class true w f v fd l o u s (is-bad c b) = classes.bad-saved fd c o b u s (bad-saved w f v fd c l o b u s)
 ready-class false w f v fd l o u s (is-bad c b) = classes.bad-unsaved fd c o b u s (bad-unsaved w f v fd c l o b u s)
 
-unready-class : (w : World) (f : List ℕ) (v : ℕ) → Lent w f → Ours w f → unitOf w ≡ ru.NoResources → Judgement w f v → ArrivalFate w f v (chip.arrivalOf w f v)
+unready-class : (w : World) (f : List ℕ) (v : ℕ) → Lent w f → Ours w f → unitOf w ≡ ru.NoResources → Judgement w f v
+    → ArrivalFate w f v (chip.arrivalOf w f v)
 unready-class w f v l o u (is-good g) = classes.good-unready o g u (good-unready w f v l o g u)
 unready-class w f v l o u (is-bad c b) = classes.bad-unready c o b u (bad-unready w f v c l o b u)
 

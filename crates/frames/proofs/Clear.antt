@@ -1,10 +1,10 @@
 -- When no piece of an end turn lies over another: it is enough that the frame descriptor, the SCB and +6 of the next frame descriptor lie apart.
 -- Assumes nothing.
-use mathlib.Core.Path.{_≡_, refl, sym, ap, ap₂, _∙_, subst}
+use mathlib.Core.Path.{_≡_, sym, ap, _∙_}
 use mathlib.Core.Bool.{Bool}
-use mathlib.Core.List.{List, [], _∷_}
-use Prim.Native.Nat.{ℕ, _+_, _%_, _≤_, _<_}
+use Prim.Native.Nat.{ℕ, _+_, _%_, _≤_}
 use native.Mathlib.Omega.{arith}
+use lib.Dec.{T, leb, lit≤}
 use lib.ListN.{length}
 use Rattle.memory.specs.Address.{place}
 use Rattle.memory.specs.declared.Offset.{Offset}
@@ -42,62 +42,76 @@ abbrev size : World → ℕ
 size w = length (w .memory)
 
 -- two of the frame descriptor's, the first before or behind the second
-frame-up : (w : World) (s : Storing) (f j g k : ℕ) → Clear w s → f + j ≤ g → g + k ≤ f + 22 → Apart (size w) (inFrame w s f) j (inFrame w s g) k
+frame-up : (w : World) (s : Storing) (f j g k : ℕ) → Clear w s → T (leb (f + j) g) → T (leb (g + k) (f + 22))
+    → Apart (size w) (inFrame w s f) j (inFrame w s g) k
 frame-up w s f j g k c a b =
-    let room = c .room in place-up (w .device .units .base) (s .fd) (size w) f j g k a (omega arith)
+    let room = c .room in
+    let fits : g + k ≤ f + 22 = lit≤ b in
+    place-up (w .device .units .base) (s .fd) (size w) f j g k (lit≤ a) (omega arith)
 
-frame-down : (w : World) (s : Storing) (f j g k : ℕ) → Clear w s → g + k ≤ f → f + j ≤ g + 22 → Apart (size w) (inFrame w s f) j (inFrame w s g) k
+frame-down : (w : World) (s : Storing) (f j g k : ℕ) → Clear w s → T (leb (g + k) f) → T (leb (f + j) (g + 22))
+    → Apart (size w) (inFrame w s f) j (inFrame w s g) k
 frame-down w s f j g k c a b =
-    let room = c .room in place-down (w .device .units .base) (s .fd) (size w) f j g k a (omega arith)
+    let room = c .room in
+    let fits : f + j ≤ g + 22 = lit≤ b in
+    place-down (w .device .units .base) (s .fd) (size w) f j g k (lit≤ a) (omega arith)
 
 -- two of the SCB's
-scb-up : (w : World) (s : Storing) (f j g k : ℕ) → Clear w s → f + j ≤ g → g + k ≤ f + 22 → Apart (size w) (inScb w f) j (inScb w g) k
+scb-up : (w : World) (s : Storing) (f j g k : ℕ) → Clear w s → T (leb (f + j) g) → T (leb (g + k) (f + 22))
+    → Apart (size w) (inScb w f) j (inScb w g) k
 scb-up w s f j g k c a b =
-    let room = c .room in place-up (w .device .units .base) (w .device .units .scb) (size w) f j g k a (omega arith)
+    let room = c .room in
+    let fits : g + k ≤ f + 22 = lit≤ b in
+    place-up (w .device .units .base) (w .device .units .scb) (size w) f j g k (lit≤ a) (omega arith)
 
-scb-down : (w : World) (s : Storing) (f j g k : ℕ) → Clear w s → g + k ≤ f → f + j ≤ g + 22 → Apart (size w) (inScb w f) j (inScb w g) k
+scb-down : (w : World) (s : Storing) (f j g k : ℕ) → Clear w s → T (leb (g + k) f) → T (leb (f + j) (g + 22))
+    → Apart (size w) (inScb w f) j (inScb w g) k
 scb-down w s f j g k c a b =
-    let room = c .room in place-down (w .device .units .base) (w .device .units .scb) (size w) f j g k a (omega arith)
+    let room = c .room in
+    let fits : f + j ≤ g + 22 = lit≤ b in
+    place-down (w .device .units .base) (w .device .units .scb) (size w) f j g k (lit≤ a) (omega arith)
 
 -- one of each
-across : (w : World) (s : Storing) (f i g l : ℕ) → Clear w s → f + i ≤ 22 → g + l ≤ 16 → Apart (size w) (inScb w g) l (inFrame w s f) i
-across w s f i g l c a b = part-apart (size w) (w .device .units .base) (s .fd) (w .device .units .scb) 22 16 f g i l a b (c .apart)
+across : (w : World) (s : Storing) (f i g l : ℕ) → Clear w s → T (leb (f + i) 22) → T (leb (g + l) 16)
+    → Apart (size w) (inScb w g) l (inFrame w s f) i
+across w s f i g l c a b = part-apart (size w) (w .device .units .base) (s .fd) (w .device .units .scb) 22 16 f g i l (lit≤ a) (lit≤ b) (c .apart)
 
 -- +6 of the next frame descriptor and one of either
-next-frame : (w : World) (s : Storing) (f i : ℕ) → NextClear w s → f + i ≤ 22 → Apart (size w) (nextFirst w s) 2 (inFrame w s f) i
-next-frame w s f i c a = word-apart (size w) (nextFirst w s) (w .device .units .base) (s .fd) 22 f i a (c .frame)
+next-frame : (w : World) (s : Storing) (f i : ℕ) → NextClear w s → T (leb (f + i) 22) → Apart (size w) (nextFirst w s) 2 (inFrame w s f) i
+next-frame w s f i c a = word-apart (size w) (nextFirst w s) (w .device .units .base) (s .fd) 22 f i (lit≤ a) (c .frame)
 
-next-scb : (w : World) (s : Storing) (f i : ℕ) → NextClear w s → f + i ≤ 16 → Apart (size w) (inScb w f) i (nextFirst w s) 2
-next-scb w s f i c a = word-apart′ (size w) (nextFirst w s) (w .device .units .base) (w .device .units .scb) 16 f i a (c .scb)
+next-scb : (w : World) (s : Storing) (f i : ℕ) → NextClear w s → T (leb (f + i) 16) → Apart (size w) (inScb w f) i (nextFirst w s) 2
+next-scb w s f i c a = word-apart′ (size w) (nextFirst w s) (w .device .units .base) (w .device .units .scb) 16 f i (lit≤ a) (c .scb)
 
 -- ---- the premises of the facts at exit
 
 pub lacking-clear : (w : World) (s : Storing) → Clear w s → NoOverlap (size w) (pieces (ru.Lacking s) w)
 lacking-clear w s c = (
   (
-    frame-up w s 0 2 8 14 c (omega arith) (omega arith),
-    (frame-up w s 6 2 8 14 c (omega arith) (omega arith), (across w s 8 14 12 2 c (omega arith) (omega arith), (across w s 8 14 0 2 c (omega arith) (omega arith), tt))),
+    frame-up w s 0 2 8 14 c tt tt,
+    (frame-up w s 6 2 8 14 c tt tt, (across w s 8 14 12 2 c tt tt, (across w s 8 14 0 2 c tt tt, tt))),
   ),
   (
-    (frame-down w s 6 2 0 2 c (omega arith) (omega arith), (across w s 0 2 12 2 c (omega arith) (omega arith), (across w s 0 2 0 2 c (omega arith) (omega arith), tt))),
+    (frame-down w s 6 2 0 2 c tt tt, (across w s 0 2 12 2 c tt tt, (across w s 0 2 0 2 c tt tt, tt))),
     (
-      (across w s 6 2 12 2 c (omega arith) (omega arith), (across w s 6 2 0 2 c (omega arith) (omega arith), tt)),
-      ((scb-up w s 0 2 12 2 c (omega arith) (omega arith), tt), (tt, tt)),
+      (across w s 6 2 12 2 c tt tt, (across w s 6 2 0 2 c tt tt, tt)),
+      ((scb-up w s 0 2 12 2 c tt tt, tt), (tt, tt)),
     ),
   ),
 )
 
-pub closing-clear : (w : World) (s : Storing) (free : Offset) (full : Bool) → Clear w s → NextClear w s → NoOverlap (size w) (pieces (ru.Closing s free full) w)
+pub closing-clear : (w : World) (s : Storing) (free : Offset) (full : Bool) → Clear w s → NextClear w s
+    → NoOverlap (size w) (pieces (ru.Closing s free full) w)
 closing-clear w s free full c k = (
   (
-    frame-up w s 0 2 8 14 c (omega arith) (omega arith),
-    (frame-up w s 6 2 8 14 c (omega arith) (omega arith), (next-frame w s 8 14 k (omega arith), (across w s 8 14 0 2 c (omega arith) (omega arith), tt))),
+    frame-up w s 0 2 8 14 c tt tt,
+    (frame-up w s 6 2 8 14 c tt tt, (next-frame w s 8 14 k tt, (across w s 8 14 0 2 c tt tt, tt))),
   ),
   (
-    (frame-down w s 6 2 0 2 c (omega arith) (omega arith), (next-frame w s 0 2 k (omega arith), (across w s 0 2 0 2 c (omega arith) (omega arith), tt))),
+    (frame-down w s 6 2 0 2 c tt tt, (next-frame w s 0 2 k tt, (across w s 0 2 0 2 c tt tt, tt))),
     (
-      (next-frame w s 6 2 k (omega arith), (across w s 6 2 0 2 c (omega arith) (omega arith), tt)),
-      ((next-scb w s 0 2 k (omega arith), tt), (tt, tt)),
+      (next-frame w s 6 2 k tt, (across w s 6 2 0 2 c tt tt, tt)),
+      ((next-scb w s 0 2 k tt, tt), (tt, tt)),
     ),
   ),
 )
@@ -105,14 +119,14 @@ closing-clear w s free full c k = (
 pub lacking-clear-all : (w : World) (s : Storing) → Clear w s → NoOverlap (size w) (piecesAndCounters (ru.Lacking s) w)
 lacking-clear-all w s c = (
   (
-    frame-up w s 0 2 8 14 c (omega arith) (omega arith),
-    (frame-up w s 6 2 8 14 c (omega arith) (omega arith), (across w s 8 14 0 2 c (omega arith) (omega arith), (across w s 8 14 8 8 c (omega arith) (omega arith), tt))),
+    frame-up w s 0 2 8 14 c tt tt,
+    (frame-up w s 6 2 8 14 c tt tt, (across w s 8 14 0 2 c tt tt, (across w s 8 14 8 8 c tt tt, tt))),
   ),
   (
-    (frame-down w s 6 2 0 2 c (omega arith) (omega arith), (across w s 0 2 0 2 c (omega arith) (omega arith), (across w s 0 2 8 8 c (omega arith) (omega arith), tt))),
+    (frame-down w s 6 2 0 2 c tt tt, (across w s 0 2 0 2 c tt tt, (across w s 0 2 8 8 c tt tt, tt))),
     (
-      (across w s 6 2 0 2 c (omega arith) (omega arith), (across w s 6 2 8 8 c (omega arith) (omega arith), tt)),
-      ((scb-down w s 8 8 0 2 c (omega arith) (omega arith), tt), (tt, tt)),
+      (across w s 6 2 0 2 c tt tt, (across w s 6 2 8 8 c tt tt, tt)),
+      ((scb-down w s 8 8 0 2 c tt tt, tt), (tt, tt)),
     ),
   ),
 )
@@ -121,22 +135,22 @@ pub closing-clear-all : (w : World) (s : Storing) (free : Offset) (full : Bool) 
     → NoOverlap (size w) (piecesAndCounters (ru.Closing s free full) w)
 closing-clear-all w s free full c k = (
   (
-    frame-up w s 0 2 8 14 c (omega arith) (omega arith),
+    frame-up w s 0 2 8 14 c tt tt,
     (
-      frame-up w s 6 2 8 14 c (omega arith) (omega arith),
-      (next-frame w s 8 14 k (omega arith), (across w s 8 14 0 2 c (omega arith) (omega arith), (across w s 8 14 8 8 c (omega arith) (omega arith), tt))),
+      frame-up w s 6 2 8 14 c tt tt,
+      (next-frame w s 8 14 k tt, (across w s 8 14 0 2 c tt tt, (across w s 8 14 8 8 c tt tt, tt))),
     ),
   ),
   (
     (
-      frame-down w s 6 2 0 2 c (omega arith) (omega arith),
-      (next-frame w s 0 2 k (omega arith), (across w s 0 2 0 2 c (omega arith) (omega arith), (across w s 0 2 8 8 c (omega arith) (omega arith), tt))),
+      frame-down w s 6 2 0 2 c tt tt,
+      (next-frame w s 0 2 k tt, (across w s 0 2 0 2 c tt tt, (across w s 0 2 8 8 c tt tt, tt))),
     ),
     (
-      (next-frame w s 6 2 k (omega arith), (across w s 6 2 0 2 c (omega arith) (omega arith), (across w s 6 2 8 8 c (omega arith) (omega arith), tt))),
+      (next-frame w s 6 2 k tt, (across w s 6 2 0 2 c tt tt, (across w s 6 2 8 8 c tt tt, tt))),
       (
-        (next-scb w s 0 2 k (omega arith), (next-scb w s 8 8 k (omega arith), tt)),
-        ((scb-down w s 8 8 0 2 c (omega arith) (omega arith), tt), (tt, tt)),
+        (next-scb w s 0 2 k tt, (next-scb w s 8 8 k tt, tt)),
+        ((scb-down w s 8 8 0 2 c tt tt, tt), (tt, tt)),
       ),
     ),
   ),

@@ -1,31 +1,28 @@
 -- An end turn of a held frame, with its writes in full. Assumes nothing.
 use mathlib.Core.Path.{_≡_, refl, sym, ap, ap₂, _∙_, subst}
-use mathlib.Core.Bool.{Bool, true, false, not, cond, _||_}
+use mathlib.Core.Bool.{Bool, true, false, _||_}
 use mathlib.Core.List.{List, [], _∷_, _++_, append-nil, append-assoc}
-use Prim.Native.Nat.{ℕ, _+_}
-use lib.Dec.{eqb}
-use Rattle.memory.specs.Address.{place, offsetAt}
-use Rattle.memory.specs.Memory.{Write, wordTo, countTo, apply}
+use Prim.Native.Nat.{ℕ}
+use Rattle.memory.specs.Address.{offsetAt}
+use Rattle.memory.specs.Memory.{Write, countTo, apply}
 use Rattle.memory.specs.declared.Offset.{Offset}
 use Rattle.scb.specs.Words.{anyOf, bit, field}
 use Rattle.device.specs.Answers.{counterOf, counts, isStored}
-use Rattle.device.specs.State.{isGood, isReady, ruState}
+use Rattle.device.specs.State.{isGood}
 use Rattle.device.specs.declared.Fate.{Fate}
 use Rattle.device.specs.declared.Fate.the-variants as fate
 use Rattle.device.specs.declared.Frame.{Frame}
-use Rattle.device.specs.declared.Ru.{Ru}
 use Rattle.device.specs.declared.Ru.the-variants as ru
 use Rattle.device.specs.declared.Storing.{Storing}
 use Rattle.device.specs.declared.Verdict.{Verdict}
 use Rattle.device.specs.declared.Verdict.the-variants as verdict
-use Rattle.receive.specs.Begin.{isBare}
 use Rattle.receive.specs.Part as receive
-use Rattle.receive.specs.End.{fateBy, fateOf, errorBits, verdictBit, frameStatus, bareMark, descriptorBy, settles, endAt, before, goesOn, close, lack}
+use Rattle.receive.specs.End.{fateBy, fateOf, frameStatus, descriptorBy, settles, endAt, before, goesOn, close, lack}
 use Rattle.attention.specs.Status.{statusTo}
-use Rattle.chip.specs.Turn.{raisedIn, statusBy, written, concluded, receiveUnits}
+use Rattle.chip.specs.Turn.{written, concluded, receiveUnits}
 use Rattle.chip.specs.World.{World, Ran, writing}
-use Rattle.frames.specs.Arrival.{inScb, unitOf}
-use Rattle.frames.specs.Held.{heldIn, inFrame, headerTo, markTo, bareTo, described, onwardBy, onward, statusAfter, Stored, Counted}
+use Rattle.frames.specs.Arrival.{inScb}
+use Rattle.frames.specs.Held.{heldIn, inFrame, markTo, bareTo, described, onwardBy, onward, statusAfter, Stored, Counted}
 
 -- ---- a turn with a service of the receive unit
 
@@ -34,7 +31,8 @@ part w = receive.partOf (w .device .units) (w .holding)
 
 unfoldable pub turned : World → receive.Service → Ran
 turned w s =
-    writing w (written (s .writes) (s .raised) (receiveUnits (w .device) s)) (concluded (w .device) (receiveUnits (w .device) s) (s .raised) 0 (s .fate))
+    writing w (written (s .writes) (s .raised) (receiveUnits (w .device) s))
+    (concluded (w .device) (receiveUnits (w .device) s) (s .raised) 0 (s .fate))
 
 -- ---- the status word
 
@@ -197,8 +195,10 @@ counted-by : (w : World) (s : Storing) → OnlyCounted w s (turned w (lackBy fat
 unfolding turned lackBy endBy counts concluded anyOf statusTo
 counted-by w s = record { fate = refl; counted = record { memory = refl; gone = refl; holding = refl } }
 
-pub only-counted : (w : World) (s : Storing) → s .frame .savebad ≡ false → isGood (s .frame) ≡ true → OnlyCounted w s (turned w (lack (part w) s (w .memory)))
-only-counted w s b g = subst (λ (v : receive.Service). OnlyCounted w s (turned w v)) (lack-is fate.Counted w s (ap₂ (fateBy true) b g)) (counted-by w s)
+pub only-counted : (w : World) (s : Storing) → s .frame .savebad ≡ false → isGood (s .frame) ≡ true
+    → OnlyCounted w s (turned w (lack (part w) s (w .memory)))
+only-counted w s b g =
+    subst (λ (v : receive.Service). OnlyCounted w s (turned w v)) (lack-is fate.Counted w s (ap₂ (fateBy true) b g)) (counted-by w s)
 
 -- a bad one, which is held only to be saved
 pub record Kept (w : World) (s : Storing) (r : Ran) : Type 0 where

@@ -2,9 +2,8 @@
 -- Assumes nothing.
 use mathlib.Core.Path.{_≡_, refl, sym, ap, ap₂, _∙_, subst}
 use mathlib.Core.Bool.{Bool, true, false, cond, true≢false, false≢true}
-use mathlib.Core.List.{List, [], _∷_, _++_, map, append-nil, append-assoc}
-use Prim.Native.Nat.{ℕ, zero, suc, _+_, _≤_, _<_}
-use native.Mathlib.Nat.{add-zero}
+use mathlib.Core.List.{List, [], _∷_, _++_, append-nil, append-assoc}
+use Prim.Native.Nat.{ℕ, _+_, _≤_, _<_}
 use native.Mathlib.Omega.{arith}
 use borrow.Author.Tests.{eqb-true, ne-eqb}
 use lib.Dec.{eqb, ltb}
@@ -22,10 +21,10 @@ use Rattle.chip.specs.Arrival as chip
 use Rattle.chip.specs.Call.{Call, reset, attention, arrive, turn, ran}
 use Rattle.chip.specs.World.{World, Ran, resetOf}
 use Rattle.filter.specs.Match.{matches}
-use Rattle.traces.specs.Event.{Event, call, host}
+use Rattle.traces.specs.Event.{call, host}
 use Rattle.frames.specs.Arrival.{unitOf, settingsOf}
 use Rattle.frames.specs.Held.{heldIn, ofHeld, FateOfHeld}
-use Rattle.frames.specs.Fates.{Deed, event, alter, worldAfter, Scene, opening, Noted, noted, Way, by-call, by-altering, Ended, heldAs, still, begunIf, begun, endedIf, endedBy, fateIn, ended, takes, lastBy, advance, after, beginnings, endings, times, namesOf, AllFates}
+use Rattle.frames.specs.Fates.{Deed, event, alter, worldAfter, Scene, opening, Noted, noted, Way, by-call, by-altering, Ended, heldAs, still, begunIf, begun, endedIf, endedBy, ended, takes, lastBy, advance, after, beginnings, endings, times, namesOf, AllFates}
 use Rattle.frames.proofs.Sound.{Sound, in-range-sound, good-sound, bad-sound, Went, keeps, ends, attention-went, turn-went, Arrives, kept, comes, arrives, arrival-new, call-sound}
 
 -- ---- one deed
@@ -61,7 +60,8 @@ balance-old true b next last u j x h e = absurd (true≢false h)
 balance-old false true next last u j x h e = absurd (true≢false e)
 balance-old false false next last u j x h e = sym (append-nil (heldAs last (heldIn u)))
 
-balance-new : (o b : Bool) (next last : ℕ) (u : Ru) (j : Frame) (x : Fate) → o ≡ false → b ≡ true → heldIn u ≡ [] → heldIn (arrivals.unitBy true u j) ≡ j ∷ []
+balance-new : (o b : Bool) (next last : ℕ) (u : Ru) (j : Frame) (x : Fate) → o ≡ false → b ≡ true → heldIn u ≡ []
+    → heldIn (arrivals.unitBy true u j) ≡ j ∷ []
     → namesOf (endedIf o last (heldIn u) x) ++ heldAs (lastBy (begunIf b next j) last) (heldIn (arrivals.unitBy b u j))
     ≡ heldAs last (heldIn u) ++ begunIf b next j
 balance-new true b next last u j x h e n q = absurd (true≢false h)
@@ -71,7 +71,8 @@ balance-new false true next last u j x h e n q =
 
 balance-arrives : (few matched : Bool) (next last : ℕ) (u : Ru) (j : Frame) → Arrives few matched u j
     → namesOf (endedIf (ofHeld (arrivals.fateBy few matched u j)) last (heldIn u) (arrivals.fateBy few matched u j))
-    ++ heldAs (lastBy (begunIf (isHeld (arrivals.fateBy few matched u j)) next j) last) (heldIn (arrivals.unitBy (isHeld (arrivals.fateBy few matched u j)) u j))
+    ++ heldAs (lastBy (begunIf (isHeld (arrivals.fateBy few matched u j)) next j) last)
+    (heldIn (arrivals.unitBy (isHeld (arrivals.fateBy few matched u j)) u j))
     ≡ heldAs last (heldIn u) ++ begunIf (isHeld (arrivals.fateBy few matched u j)) next j
 balance-arrives few matched next last u j (kept k) =
     balance-old (ofHeld (arrivals.fateBy few matched u j)) (isHeld (arrivals.fateBy few matched u j)) next last u j (arrivals.fateBy few matched u j)
@@ -107,7 +108,8 @@ balanced (event (call (arrive f v))) s k = balance-arrival f v s
 balanced (event (call (turn report))) s k = balance-went (s .last) (s .world) (ran (turn report) (s .world)) (turn-went (s .world) report k)
 balanced (event (host m h out)) s k = sym (append-nil (still s))
 balanced (alter d r) s k =
-    ap₂ (λ (x y : List Noted). x ++ y) (balance-lost by-altering (s .last) (heldIn (unitOf (s .world)))) (balance-altered (s .next) (s .last) (heldIn (d .units .ru)))
+    ap₂ (λ (x y : List Noted). x ++ y) (balance-lost by-altering (s .last) (heldIn (unitOf (s .world))))
+    (balance-altered (s .next) (s .last) (heldIn (d .units .ru)))
 
 -- ---- over time
 
@@ -151,7 +153,8 @@ went-held w r (ends f e n x) h = record { frame = f; held = e; gone = n }
 arrival-fate : (w : World) (f : List ℕ) (v : ℕ) → ofHeld (chip.arrivalOf w f v .outcome .fate) ≡ false
 unfolding chip.arrivalOf chip.arrival arrivals.arrival arrivals.fateOf
 arrival-fate w f v =
-    arrival-new (ltb (length f) header) (matches (settingsOf w) (w .device .own) (w .device .listed) f) (unitOf w) (arrivals.judged (settingsOf w) f v)
+    arrival-new (ltb (length f) header) (matches (settingsOf w) (w .device .own) (w .device .listed) f) (unitOf w)
+    (arrivals.judged (settingsOf w) f v)
 
 reset-fate : (w : World) → ofHeld (ran reset w .outcome .fate) ≡ false
 unfolding resetOf
@@ -177,7 +180,8 @@ data Begins (d : Deed) (s : Scene) : Type 0 where
   nothing : begun d s ≡ [] → Begins d s
   one : (f : List Frame) → begun d s ≡ noted (s .next) f ∷ [] → takes d ≡ 1 → Begins d s
 
-begins-if : (b : Bool) (f : List ℕ) (v : ℕ) (s : Scene) → isHeld (ran (arrive f v) (s .world) .outcome .fate) ≡ b → Begins (event (call (arrive f v))) s
+begins-if : (b : Bool) (f : List ℕ) (v : ℕ) (s : Scene) → isHeld (ran (arrive f v) (s .world) .outcome .fate) ≡ b
+    → Begins (event (call (arrive f v))) s
 begins-if true f v s h =
     let j = arrivals.judged (settingsOf (s .world)) f v in
     one (j ∷ []) (ap (λ (b : Bool). begunIf b (s .next) j) h) refl

@@ -6,18 +6,16 @@ use Prim.Native.Nat.{ℕ}
 use borrow.Author.Tests.{eqb-true}
 use lib.Dec.{eqb, leb, ltb}
 use lib.ListN.{length}
-use Rattle.memory.specs.Address.{place, offsetAt, isNone}
-use Rattle.memory.specs.Memory.{Write, wordTo, wordAt, apply}
+use Rattle.memory.specs.Memory.{Write, wordTo, apply}
 use Rattle.memory.specs.declared.Offset.{Offset}
 use Rattle.scb.specs.Control.{ruNext}
 use Rattle.scb.specs.Words.{commandAt, resets, ruc, cuNumber, ruNumber, eventBits}
 use Rattle.scb.specs.declared.RuState.{RuState}
 use Rattle.scb.specs.declared.RuState.the-variants as rus
 use Rattle.device.specs.Answers.{isHeld}
-use Rattle.device.specs.Limits.{header, mostBuffers}
-use Rattle.device.specs.State.{cuState, ruState, isActive, isReady, isHolding, isGood, fresh}
+use Rattle.device.specs.Limits.{header}
+use Rattle.device.specs.State.{cuState, ruState, isActive, isHolding, isGood, fresh}
 use Rattle.device.specs.declared.Device.{Device}
-use Rattle.device.specs.declared.Fate.{Fate}
 use Rattle.device.specs.declared.Fate.the-variants as fate
 use Rattle.device.specs.declared.Frame.{Frame}
 use Rattle.device.specs.declared.Ru.{Ru}
@@ -31,7 +29,7 @@ use Rattle.receive.specs.Arrival as arrivals
 use Rattle.receive.specs.Part as receive
 use Rattle.receive.specs.Begin as begins
 use Rattle.receive.specs.Buffer as buffers
-use Rattle.receive.specs.End.{close, lack}
+use Rattle.receive.specs.End.{lack}
 use Rattle.receive.specs.Service as services
 use Rattle.control.specs.Control.{ruGoes, ruSuspended, ruReady, lostBy, abortedRu}
 use Rattle.control.specs.Obey.{obeyCuc, ruObeys, ruFirst, obeyRuc}
@@ -41,7 +39,6 @@ use Rattle.chip.specs.Attention.{attentionOf}
 use Rattle.chip.specs.Call.{Call, reset, attention, arrive, turn, ran}
 use Rattle.chip.specs.Turn.{servedBy, turnBy, turnOf, commandTurn, receiveTurn, concluded}
 use Rattle.chip.specs.World.{World, Ran, writing, resetOf}
-use Rattle.command.specs.Service as command-service
 use Rattle.filter.specs.Match.{matches}
 use Rattle.frames.specs.Arrival.{inScb, unitOf, settingsOf}
 use Rattle.frames.specs.Held.{heldIn, ofHeld, commandOf, loses, endIsNext, servedRu, ends, StaysHeld, Lost, by-reset, by-resetting, by-abort, GoodFate, BadFate}
@@ -196,7 +193,8 @@ reset-memory : (w : World) → attended w (attentions.resetBy (w .device)) .memo
 unfolding attended attentions.resetBy
 reset-memory w = refl
 
-at-reset : (w : World) → isHolding (unitOf w) ≡ true → resets (commandOf w) ≡ true → attended w (attentions.resetBy (w .device)) ≡ attentionOf w → Lost w attention
+at-reset : (w : World) → isHolding (unitOf w) ≡ true → resets (commandOf w) ≡ true → attended w (attentions.resetBy (w .device)) ≡ attentionOf w
+    → Lost w attention
 at-reset w h r e =
     by-resetting r (ap (λ (x : Ran). x .outcome .fate) (sym e) ∙ reset-fate w h) (ap (λ (x : Ran). x .outcome .device) (sym e) ∙ reset-fresh w)
     (ap (λ (x : Ran). x .memory) (sym e) ∙ reset-memory w)
@@ -208,7 +206,8 @@ obeyed n w =
     let c = obeyCuc u (commandOf w) (w .memory) in
     attended w (attentions.obeyedBy (w .device) (commandOf w) c (ruObeys n u (ruFirst u (commandOf w) (apply (c .writes) (w .memory)))))
 
-pub obey-is : (w : World) → obeyed (ruNext (ruc (commandOf w)) (ruState (unitOf w))) w ≡ attended w (attentions.obey (w .device) (commandOf w) (w .memory))
+pub obey-is : (w : World)
+    → obeyed (ruNext (ruc (commandOf w)) (ruState (unitOf w))) w ≡ attended w (attentions.obey (w .device) (commandOf w) (w .memory))
 unfolding obeyed attentions.obey obeyRuc
 obey-is w = refl
 
@@ -217,7 +216,8 @@ record Aborted (w : World) (r : Ran) : Type 0 where
   unit : r .outcome .device .units .ru ≡ ru.Idle
   memory :
       r .memory
-      ≡ apply (obeyCuc (w .device .units) (commandOf w) (w .memory) .writes ++ abortedRu (w .device .units .base) (unitOf w) ++ attentions.settledWrites (r .outcome .device .units)) (w .memory)
+      ≡ apply (obeyCuc (w .device .units) (commandOf w) (w .memory) .writes ++ abortedRu (w .device .units .base) (unitOf w)
+      ++ attentions.settledWrites (r .outcome .device .units)) (w .memory)
 
 aborted-idle : (w : World) → isHolding (unitOf w) ≡ true → Aborted w (obeyed rus.Idle w)
 unfolding obeyed attended attentions.unitsAfter
@@ -267,7 +267,11 @@ obeyed-keeps n w f h i =
     let u = w .device .units in
     let first = ruFirst u (commandOf w) (apply (obeyCuc u (commandOf w) (w .memory) .writes) (w .memory)) in
     let k : heldIn (ruGoes n first (unitOf w)) ≡ f ∷ [] = goes-on n first (unitOf w) i ∙ h in
-    record { unit = k; holding = refl; fate = not-lost (isHolding (unitOf w)) (isHolding (ruGoes n first (unitOf w))) (holds (ruGoes n first (unitOf w)) f k) }
+    record {
+      unit = k;
+      holding = refl;
+      fate = not-lost (isHolding (unitOf w)) (isHolding (ruGoes n first (unitOf w))) (holds (ruGoes n first (unitOf w)) f k);
+    }
 
 -- the table, from Ready: ABORT alone leads to Idle
 next-by : (a b c : Bool) → isIdle (cond a rus.Ready (cond b rus.Ready (cond c rus.Suspended rus.Ready))) ≡ false
@@ -300,7 +304,8 @@ at-abort w r a x = by-abort r a (x .fate) (x .unit) (x .memory)
 at-attention : (reset aborts : Bool) (w : World) (f : Frame) → heldIn (unitOf w) ≡ f ∷ [] → w .device .units .initialised ≡ true
     → resets (commandOf w) ≡ reset → eqb (ruc (commandOf w)) 4 ≡ aborts → HeldFate f attention w
 at-attention true aborts w f h i r a =
-    lost (ap (λ (x : Bool). x || eqb (ruc (commandOf w)) 4) r) (at-reset w (holds (unitOf w) f h) r (ap (λ (b : Bool). attended w (attentions.attendBy b (w .device) (commandOf w) (w .memory))) (sym r) ∙ to-attend w i))
+    let to = ap (λ (b : Bool). attended w (attentions.attendBy b (w .device) (commandOf w) (w .memory))) (sym r) ∙ to-attend w i in
+    lost (ap (λ (x : Bool). x || eqb (ruc (commandOf w)) 4) r) (at-reset w (holds (unitOf w) f h) r to)
 at-attention false true w f h i r a =
     let to = ap (λ (b : Bool). attended w (attentions.attendBy b (w .device) (commandOf w) (w .memory))) (sym r) ∙ to-attend w i in
     let n = ap₂ ruNext (eqb-true (ruc (commandOf w)) 4 a) (held-state (unitOf w) f h) ∙ next-idle 4 refl in
@@ -349,21 +354,26 @@ fill-keeps : (w : World) (s : Storing) (k : Walk) → StaysHeld (s .frame) w (tu
 unfolding buffers.buffer
 fill-keeps w s k = quiet-keeps w _ _ (s .frame) (rw buffer-keeps)
 
-at-service : (u : Ru) (w : World) (f : Frame) (c : Call) → unitOf w ≡ u → heldIn u ≡ f ∷ [] → turned w (services.serviceBy u (part w) (w .memory)) ≡ ran c w
+at-service : (u : Ru) (w : World) (f : Frame) (c : Call) → unitOf w ≡ u → heldIn u ≡ f ∷ []
+    → turned w (services.serviceBy u (part w) (w .memory)) ≡ ran c w
     → loses c w ≡ false → ends c w ≡ endIsNext u → HeldFate f c w
 at-service ru.Idle w f c e h r l n = absurd (none≢one h)
 at-service ru.NoResources w f c e h r l n = absurd (none≢one h)
 at-service (ru.Suspended fd) w f c e h r l n = absurd (none≢one h)
 at-service (ru.Ready fd) w f c e h r l n = absurd (none≢one h)
 at-service (ru.Held fd g p) w f c e h r l n =
-    stays l n (subst (StaysHeld f w) r (subst (λ (x : Frame). StaysHeld x w (turned w (begins.begin (part w) fd g p (w .memory)))) (same-frame f g h) (begin-keeps w fd g p)))
+    let k = subst (λ (x : Frame). StaysHeld x w (turned w (begins.begin (part w) fd g p (w .memory)))) (same-frame f g h) (begin-keeps w fd g p) in
+    stays l n (subst (StaysHeld f w) r k)
 at-service (ru.Filling s k) w f c e h r l n =
-    stays l n (subst (StaysHeld f w) r (subst (λ (x : Frame). StaysHeld x w (turned w (buffers.buffer (part w) s k (w .memory)))) (same-frame f (s .frame) h) (fill-keeps w s k)))
+    let e′ = same-frame f (s .frame) h in
+    let j = subst (λ (x : Frame). StaysHeld x w (turned w (buffers.buffer (part w) s k (w .memory)))) e′ (fill-keeps w s k) in
+    stays l n (subst (StaysHeld f w) r j)
 at-service (ru.Closing s free full) w f c e h r l n =
     closing s free full n e (same-frame f (s .frame) h) (subst (Closed w s free full) r (closed w s free full))
 at-service (ru.Lacking s) w f c e h r l n = lacking s n e (same-frame f (s .frame) h) r
 
-pub served-as : (c h l : Bool) (w : World) (report : ℕ) → isActive (cuState (w .device .units .cu)) ≡ c → isHolding (unitOf w) ≡ h → w .device .units .rulast ≡ l
+pub served-as : (c h l : Bool) (w : World) (report : ℕ) → isActive (cuState (w .device .units .cu)) ≡ c → isHolding (unitOf w) ≡ h
+    → w .device .units .rulast ≡ l
     → turnBy (servedBy c h l) w report ≡ turnOf w report
 unfolding turnOf
 served-as c h l w report a b d =
@@ -371,24 +381,28 @@ served-as c h l w report a b d =
     ∙ ap (λ (x : Bool). turnBy (servedBy (isActive (cuState (w .device .units .cu))) x l) w report) (sym b)
     ∙ ap (λ (x : Bool). turnBy (servedBy (isActive (cuState (w .device .units .cu))) (isHolding (unitOf w)) x) w report) (sym d)
 
-ends-as : (c h l : Bool) (w : World) (report : ℕ) → isActive (cuState (w .device .units .cu)) ≡ c → isHolding (unitOf w) ≡ h → w .device .units .rulast ≡ l
+ends-as : (c h l : Bool) (w : World) (report : ℕ) → isActive (cuState (w .device .units .cu)) ≡ c → isHolding (unitOf w) ≡ h
+    → w .device .units .rulast ≡ l
     → ends (turn report) w ≡ (servedRu c h l && endIsNext (unitOf w))
 ends-as c h l w report a b d =
     ap (λ (x : Bool). servedRu (isActive (cuState (w .device .units .cu))) (isHolding (unitOf w)) x && endIsNext (unitOf w)) d
     ∙ ap (λ (x : Bool). servedRu (isActive (cuState (w .device .units .cu))) x l && endIsNext (unitOf w)) b
     ∙ ap (λ (x : Bool). servedRu x h l && endIsNext (unitOf w)) a
 
-at-turn : (c l : Bool) (w : World) (f : Frame) (report : ℕ) → heldIn (unitOf w) ≡ f ∷ [] → isActive (cuState (w .device .units .cu)) ≡ c → w .device .units .rulast ≡ l
+at-turn : (c l : Bool) (w : World) (f : Frame) (report : ℕ) → heldIn (unitOf w) ≡ f ∷ [] → isActive (cuState (w .device .units .cu)) ≡ c
+    → w .device .units .rulast ≡ l
     → HeldFate f (turn report) w
 at-turn true true w f report h a b =
     let k = holds (unitOf w) f h in
     stays refl (ends-as true true true w report a k b) (subst (StaysHeld f w) (served-as true true true w report a k b) (command-keeps w f report h))
 at-turn true false w f report h a b =
     let k = holds (unitOf w) f h in
-    at-service (unitOf w) w f (turn report) refl h (to-turned w (unitOf w) refl ∙ served-as true true false w report a k b) refl (ends-as true true false w report a k b)
+    at-service (unitOf w) w f (turn report) refl h (to-turned w (unitOf w) refl ∙ served-as true true false w report a k b) refl
+    (ends-as true true false w report a k b)
 at-turn false l w f report h a b =
     let k = holds (unitOf w) f h in
-    at-service (unitOf w) w f (turn report) refl h (to-turned w (unitOf w) refl ∙ served-as false true l w report a k b) refl (ends-as false true l w report a k b)
+    at-service (unitOf w) w f (turn report) refl h (to-turned w (unitOf w) refl ∙ served-as false true l w report a k b) refl
+    (ends-as false true l w report a k b)
 
 -- ---- every call
 
@@ -404,7 +418,8 @@ held-fate (turn report) w f i h = at-turn (isActive (cuState (w .device .units .
 
 -- ---- a good one
 
-good-lacking : (saved : Bool) (c : Call) (w : World) (f : Frame) (s : Storing) → ends c w ≡ true → unitOf w ≡ ru.Lacking s → s .frame ≡ f → isGood f ≡ true → f .savebad ≡ saved
+good-lacking : (saved : Bool) (c : Call) (w : World) (f : Frame) (s : Storing) → ends c w ≡ true → unitOf w ≡ ru.Lacking s → s .frame ≡ f
+    → isGood f ≡ true → f .savebad ≡ saved
     → turned w (lack (part w) s (w .memory)) ≡ ran c w → GoodFate f c w
 good-lacking true c w f s n e q g b r =
     let x = subst (Both w s) r (both w s (ap (λ (k : Frame). k .savebad) q ∙ b) (ap isGood q ∙ g)) in

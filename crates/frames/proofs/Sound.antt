@@ -1,13 +1,13 @@
 -- What holds of every state that calls can lead to, as far as held frames ask for it: a unit that is not Idle is an initialised chip's, and a bad
 -- frame is held only to be saved. Assumes nothing.
 use mathlib.Core.Path.{_≡_, refl, sym, ap, ap₂, _∙_, subst}
-use mathlib.Core.Bool.{Bool, true, false, not, cond, _&&_, _||_, true≢false, false≢true}
-use mathlib.Core.List.{List, [], _∷_, _++_}
+use mathlib.Core.Bool.{Bool, true, false, not, _&&_, _||_, false≢true}
+use mathlib.Core.List.{List, [], _∷_}
 use mathlib.Core.Logic.{_⊎_, inl, inr}
 use Prim.Native.Nat.{ℕ}
 use lib.Dec.{eqb, ltb}
 use lib.ListN.{length}
-use Rattle.memory.specs.Memory.{wordTo, apply}
+use Rattle.memory.specs.Memory.{apply}
 use Rattle.memory.specs.declared.Offset.{Offset}
 use Rattle.scb.specs.Control.{ruNext}
 use Rattle.scb.specs.Words.{resets, ruc, cuNumber, ruNumber, eventBits}
@@ -18,12 +18,10 @@ use Rattle.device.specs.Limits.{header}
 use Rattle.device.specs.State.{cuState, ruState, isActive, isHolding, isGood, fresh}
 use Rattle.device.specs.declared.Counter.{Counter}
 use Rattle.device.specs.declared.Device.{Device}
-use Rattle.device.specs.declared.Fate.{Fate}
 use Rattle.device.specs.declared.Fate.the-variants as fate
 use Rattle.device.specs.declared.Frame.{Frame}
 use Rattle.device.specs.declared.Ru.{Ru}
 use Rattle.device.specs.declared.Ru.the-variants as ru
-use Rattle.device.specs.declared.Storing.{Storing}
 use Rattle.device.specs.declared.Units.{Units}
 use Rattle.image.specs.Ranges.{inRange, initialisedOrFresh, unitsFresh, unitsIdle, settingsFresh, addressesFresh, unitsFit}
 use Rattle.phases.proofs.Units.{both as parts}
@@ -35,12 +33,12 @@ use Rattle.chip.specs.Arrival as chip
 use Rattle.chip.specs.Attention.{attentionOf}
 use Rattle.chip.specs.Call.{Call, reset, attention, arrive, turn, ran}
 use Rattle.chip.specs.Turn.{servedBy, turnBy, turnOf, commandTurn, receiveTurn, concluded}
-use Rattle.chip.specs.World.{World, Ran, writing, resetOf}
+use Rattle.chip.specs.World.{World, Ran, resetOf}
 use Rattle.filter.specs.Match.{matches}
 use Rattle.frames.specs.Arrival.{unitOf, settingsOf}
-use Rattle.frames.specs.Held.{heldIn, ofHeld, commandOf, loses, StaysHeld, Lost, by-reset, by-resetting, by-abort, GoodFate, BadFate}
+use Rattle.frames.specs.Held.{heldIn, ofHeld, commandOf, loses, Lost, by-resetting, by-abort, GoodFate, BadFate}
 use Rattle.frames.specs.Held as held
-use Rattle.frames.proofs.Held.{none≢one, same-frame, holds, or-left, or-right, held-saved, held-fate, good-of, bad-of, isIdle, goes-on, attended, obeyed, obey-is, to-attend, served-as}
+use Rattle.frames.proofs.Held.{none≢one, same-frame, or-left, or-right, held-saved, held-fate, good-of, bad-of, goes-on, attended, obeyed, obey-is, to-attend, served-as}
 
 -- the unit is Idle
 abbrev pub idle : Ru → Bool
@@ -145,20 +143,23 @@ pub data Went (w : World) (r : Ran) : Type 0 where
   keeps : heldIn (r .outcome .device .units .ru) ≡ heldIn (unitOf w) → ofHeld (r .outcome .fate) ≡ false → Went w r
   ends : (f : Frame) → heldIn (unitOf w) ≡ f ∷ [] → heldIn (r .outcome .device .units .ru) ≡ [] → ofHeld (r .outcome .fate) ≡ true → Went w r
 
-good-went : (c : Call) (w : World) (f : Frame) → heldIn (unitOf w) ≡ f ∷ [] → (loses c w ≡ true → Lost w c → Went w (ran c w)) → GoodFate f c w → Went w (ran c w)
+good-went : (c : Call) (w : World) (f : Frame) → heldIn (unitOf w) ≡ f ∷ [] → (loses c w ≡ true → Lost w c → Went w (ran c w)) → GoodFate f c w
+    → Went w (ran c w)
 good-went c w f h g (held.stays l n k) = keeps (k .unit ∙ sym h) (k .fate)
 good-went c w f h g (held.stored s free full n e q x k) = ends f h (k .gone) (ap ofHeld x)
 good-went c w f h g (held.counted s n e q b x k) = ends f h (k .gone) (ap ofHeld x)
 good-went c w f h g (held.both s n e q b x k j) = ends f h (k .gone) (ap ofHeld x)
 good-went c w f h g (held.lost l k) = g l k
 
-bad-went : (c : Call) (w : World) (f : Frame) → heldIn (unitOf w) ≡ f ∷ [] → (loses c w ≡ true → Lost w c → Went w (ran c w)) → BadFate f c w → Went w (ran c w)
+bad-went : (c : Call) (w : World) (f : Frame) → heldIn (unitOf w) ≡ f ∷ [] → (loses c w ≡ true → Lost w c → Went w (ran c w)) → BadFate f c w
+    → Went w (ran c w)
 bad-went c w f h g (held.stays l n k) = keeps (k .unit ∙ sym h) (k .fate)
 bad-went c w f h g (held.stored s free full n e q x k) = ends f h (k .gone) (ap ofHeld x)
 bad-went c w f h g (held.lacking s n e q x k) = ends f h (k .gone) (ap ofHeld x)
 bad-went c w f h g (held.lost l k) = g l k
 
-held-went : (good : Bool) (c : Call) (w : World) (f : Frame) → Sound (w .device) → heldIn (unitOf w) ≡ f ∷ [] → (loses c w ≡ true → Lost w c → Went w (ran c w))
+held-went : (good : Bool) (c : Call) (w : World) (f : Frame) → Sound (w .device) → heldIn (unitOf w) ≡ f ∷ []
+    → (loses c w ≡ true → Lost w c → Went w (ran c w))
     → isGood f ≡ good → Went w (ran c w)
 held-went true c w f s h g e = good-went c w f h g (good-sound c w f s h e)
 held-went false c w f s h g e = bad-went c w f h g (bad-sound c w f s h e)
@@ -179,7 +180,8 @@ to-initialise : (w : World) → w .device .units .initialised ≡ false → atte
 unfolding attended attentionOf attentions.attention
 to-initialise w i = ap (λ (b : Bool). attended w (attentions.attentionBy b (w .device) (w .memory))) (sym i)
 
-to-reset : (w : World) → w .device .units .initialised ≡ true → resets (commandOf w) ≡ true → attended w (attentions.resetBy (w .device)) ≡ attentionOf w
+to-reset : (w : World) → w .device .units .initialised ≡ true → resets (commandOf w) ≡ true
+    → attended w (attentions.resetBy (w .device)) ≡ attentionOf w
 to-reset w i r = ap (λ (b : Bool). attended w (attentions.attendBy b (w .device) (commandOf w) (w .memory))) (sym r) ∙ to-attend w i
 
 to-obeyed : (w : World) → w .device .units .initialised ≡ true → resets (commandOf w) ≡ false
@@ -202,7 +204,8 @@ obeyed-none n w h =
     keeps (goes-none n first (unitOf w) h ∙ sym h)
     (ap (λ (b : Bool). ofHeld (lostBy fate.Aborted b (isHolding (ruGoes n first (unitOf w))))) (none-holds (unitOf w) h))
 
-attention-none : (i r : Bool) (w : World) → heldIn (unitOf w) ≡ [] → w .device .units .initialised ≡ i → resets (commandOf w) ≡ r → Went w (attentionOf w)
+attention-none : (i r : Bool) (w : World) → heldIn (unitOf w) ≡ [] → w .device .units .initialised ≡ i → resets (commandOf w) ≡ r
+    → Went w (attentionOf w)
 attention-none false r w h i k = subst (Went w) (to-initialise w i) (initialise-none w h)
 attention-none true true w h i k = subst (Went w) (to-reset w i k) (reset-none w h)
 attention-none true false w h i k = subst (Went w) (to-obeyed w i k) (obeyed-none (ruNext (ruc (commandOf w)) (ruState (unitOf w))) w h)
@@ -225,14 +228,16 @@ command-unserved : (w : World) (report : ℕ) → Unserved w (commandTurn w repo
 unfolding commandTurn concluded
 command-unserved w report = record { initialised = refl; unit = refl; fate = refl }
 
-turn-unserved : (c : Bool) (w : World) (report : ℕ) → heldIn (unitOf w) ≡ [] → isActive (cuState (w .device .units .cu)) ≡ c → Unserved w (turnOf w report)
+turn-unserved : (c : Bool) (w : World) (report : ℕ) → heldIn (unitOf w) ≡ [] → isActive (cuState (w .device .units .cu)) ≡ c
+    → Unserved w (turnOf w report)
 turn-unserved false w report h a =
     subst (Unserved w) (served-as false false (w .device .units .rulast) w report a (none-holds (unitOf w) h) refl)
     (record { initialised = refl; unit = refl; fate = refl })
 turn-unserved true w report h a =
     subst (Unserved w) (served-as true false (w .device .units .rulast) w report a (none-holds (unitOf w) h) refl) (command-unserved w report)
 
-turn-by : (w : World) (report : ℕ) → Sound (w .device) → (heldIn (unitOf w) ≡ []) ⊎ ((f : Frame) × (heldIn (unitOf w) ≡ f ∷ [])) → Went w (turnOf w report)
+turn-by : (w : World) (report : ℕ) → Sound (w .device) → (heldIn (unitOf w) ≡ []) ⊎ ((f : Frame) × (heldIn (unitOf w) ≡ f ∷ []))
+    → Went w (turnOf w report)
 turn-by w report s (inl h) =
     let k = turn-unserved (isActive (cuState (w .device .units .cu))) w report h refl in keeps (ap heldIn (k .unit)) (k .fate)
 turn-by w report s (inr k) = held-went (isGood (k .0)) (turn report) w (k .0) s (k .1) (λ l x. absurd (false≢true l)) refl
@@ -260,11 +265,14 @@ arrived-idle true (ru.Lacking s) j = refl
 -- it is what was held, or one that is good or to be saved
 pub data Arrives (few matched : Bool) (u : Ru) (j : Frame) : Type 0 where
   kept : isHeld (arrivals.fateBy few matched u j) ≡ false → Arrives few matched u j
-  comes : isHeld (arrivals.fateBy few matched u j) ≡ true → heldIn u ≡ [] → heldIn (arrivals.unitBy true u j) ≡ j ∷ [] → (isGood j || j .savebad) ≡ true
+  comes : isHeld (arrivals.fateBy few matched u j) ≡ true → heldIn u ≡ [] → heldIn (arrivals.unitBy true u j) ≡ j ∷ []
+      → (isGood j || j .savebad) ≡ true
       → Arrives few matched u j
 
 ready-arrives : (good saved : Bool) (fd : Offset) (j : Frame) → isGood j ≡ good → j .savebad ≡ saved → Arrives false true (ru.Ready fd) j
-ready-arrives true saved fd j g b = comes (ap₂ (λ (x y : Bool). isHeld (arrivals.inReady x y (arrivals.counterFor j))) g b) refl refl (ap (λ (x : Bool). x || j .savebad) g)
+ready-arrives true saved fd j g b =
+    comes (ap₂ (λ (x y : Bool). isHeld (arrivals.inReady x y (arrivals.counterFor j))) g b) refl refl
+    (ap (λ (x : Bool). x || j .savebad) g)
 ready-arrives false true fd j g b =
     comes (ap₂ (λ (x y : Bool). isHeld (arrivals.inReady x y (arrivals.counterFor j))) g b) refl refl (ap₂ (λ (x y : Bool). x || y) g b)
 ready-arrives false false fd j g b = kept (ap₂ (λ (x y : Bool). isHeld (arrivals.inReady x y (arrivals.counterFor j))) g b)
@@ -322,13 +330,15 @@ arrival-sound w f v s =
     let j = arrivals.judged (settingsOf w) f v in
     record {
       started =
-          ap (λ (b : Bool). w .device .units .initialised || b) (arrived-idle (isHeld (arrivals.fateBy few m (unitOf w) j)) (unitOf w) j) ∙ s .started;
+          ap (λ (b : Bool). w .device .units .initialised || b) (arrived-idle (isHeld (arrivals.fateBy few m (unitOf w) j)) (unitOf w) j)
+          ∙ s .started;
       saved = λ g h. arrival-saved few m (unitOf w) j g (s .saved) (arrives few m (unitOf w) j) h;
     }
 
 -- ---- it stays so
 
-went-saved : (w : World) (r : Ran) (f : Frame) → Sound (w .device) → Went w r → heldIn (r .outcome .device .units .ru) ≡ f ∷ [] → (isGood f || f .savebad) ≡ true
+went-saved : (w : World) (r : Ran) (f : Frame) → Sound (w .device) → Went w r → heldIn (r .outcome .device .units .ru) ≡ f ∷ []
+    → (isGood f || f .savebad) ≡ true
 went-saved w r f s (keeps e x) h = s .saved f (sym e ∙ h)
 went-saved w r f s (ends g k e x) h = absurd (none≢one (sym e ∙ h))
 
@@ -390,7 +400,8 @@ turn-initialised false true l w report = receive-initialised w
 turn-initialised true true true w report = command-initialised w report
 turn-initialised true true false w report = receive-initialised w
 
-turn-started : (w : World) (report : ℕ) → Sound (w .device) → (heldIn (unitOf w) ≡ []) ⊎ ((f : Frame) × (heldIn (unitOf w) ≡ f ∷ [])) → Started (turnOf w report)
+turn-started : (w : World) (report : ℕ) → Sound (w .device) → (heldIn (unitOf w) ≡ []) ⊎ ((f : Frame) × (heldIn (unitOf w) ≡ f ∷ []))
+    → Started (turnOf w report)
 unfolding Started Keeps turnOf
 turn-started w report s (inl h) =
     let k = turn-unserved (isActive (cuState (w .device .units .cu))) w report h refl in

@@ -2,20 +2,18 @@
 use mathlib.Core.Path.{_≡_, refl, sym, ap, ap₂, _∙_, subst}
 use mathlib.Core.Bool.{Bool, true, false, _||_}
 use mathlib.Core.List.{List, [], _∷_, _++_, append-nil}
-use Prim.Native.Nat.{ℕ, _+_, _%_, _≤_, _<_}
+use Prim.Native.Nat.{ℕ, _+_, _%_, _≤_}
 use native.Mathlib.Omega.{arith}
 use lib.ListN.{length, take}
 use lib.Seq.{length-take-le}
-use Rattle.memory.specs.Memory.{Write, bytesTo, wordTo, countTo, wordAt, bytesAt, fieldAt, value, digits, putBytes, apply}
+use Rattle.memory.specs.Memory.{Write, wordTo, countTo, wordAt, bytesAt, fieldAt, value, digits, putBytes, apply}
 use Rattle.memory.proofs.Fields.{Apart, AllApart, apply-other, bytes-same, length-digits, value-digits}
 use Rattle.memory.proofs.Laws.{apply-append, length-apply, length-putBytes}
 use Rattle.memory.proofs.Power.{allowed}
-use Rattle.memory.specs.Address.{place, offsetAt}
 use Rattle.memory.specs.declared.Offset.{Offset}
-use Rattle.scb.specs.Words.{bit, field, statusAt, statusWord}
+use Rattle.scb.specs.Words.{bit, statusAt}
 use Rattle.device.specs.Limits.{header, areaSize}
 use Rattle.device.specs.State.{isGood}
-use Rattle.device.specs.declared.Fate.the-variants as fate
 use Rattle.device.specs.declared.Frame.{Frame}
 use Rattle.device.specs.declared.Ru.{Ru}
 use Rattle.device.specs.declared.Ru.the-variants as ru
@@ -53,7 +51,8 @@ unfolding fieldAt
 word-stands pre a v post m l p =
     let d = length-digits 2 v in
     ap value
-    (subst (λ (k : ℕ). bytesAt (apply (pre ++ wordTo a v ∷ post) m) a k ≡ digits 2 v) d (stands pre (wordTo a v) post m (rw length-digits l) (rw length-digits p)))
+    (subst (λ (k : ℕ). bytesAt (apply (pre ++ wordTo a v ∷ post) m) a k ≡ digits 2 v) d
+    (stands pre (wordTo a v) post m (rw length-digits l) (rw length-digits p)))
     ∙ value-digits 2 v
 
 -- ---- what is separate
@@ -61,18 +60,22 @@ word-stands pre a v post m l p =
 apart-sym : (n a j b k : ℕ) → Apart n a j b k → Apart n b k a j
 apart-sym n a j b k p x hx y hy e = p y hy x hx (sym e)
 
-one-apart : (n : ℕ) (pre : List Write) (x : Write) (post : List Write) (b k : ℕ) → AllApart n (pre ++ x ∷ post) b k → Apart n (x .to) (length (x .bytes)) b k
+one-apart : (n : ℕ) (pre : List Write) (x : Write) (post : List Write) (b k : ℕ) → AllApart n (pre ++ x ∷ post) b k
+    → Apart n (x .to) (length (x .bytes)) b k
 one-apart n [] x post b k a = a .0
 one-apart n (y ∷ pre) x post b k a = one-apart n pre x post b k (a .1)
 
-pub after-apart : (n : ℕ) (pre : List Write) (x : Write) (post : List Write) → Separate n (pre ++ x ∷ post) → AllApart n post (x .to) (length (x .bytes))
+pub after-apart : (n : ℕ) (pre : List Write) (x : Write) (post : List Write) → Separate n (pre ++ x ∷ post)
+    → AllApart n post (x .to) (length (x .bytes))
 after-apart n [] x post s = s .0
 after-apart n (y ∷ pre) x post s = after-apart n pre x post (s .1)
 
-pub before-apart : (n : ℕ) (pre : List Write) (x : Write) (post : List Write) → Separate n (pre ++ x ∷ post) → AllApart n pre (x .to) (length (x .bytes))
+pub before-apart : (n : ℕ) (pre : List Write) (x : Write) (post : List Write) → Separate n (pre ++ x ∷ post)
+    → AllApart n pre (x .to) (length (x .bytes))
 before-apart n [] x post s = tt
 before-apart n (y ∷ pre) x post s =
-    (apart-sym n (x .to) (length (x .bytes)) (y .to) (length (y .bytes)) (one-apart n pre x post (y .to) (length (y .bytes)) (s .0)), before-apart n pre x post (s .1))
+    let k = one-apart n pre x post (y .to) (length (y .bytes)) (s .0) in
+    (apart-sym n (x .to) (length (x .bytes)) (y .to) (length (y .bytes)) k, before-apart n pre x post (s .1))
 
 -- ---- the status is a word
 
@@ -134,12 +137,14 @@ counted-stands others w r x l p =
     ap value (apply-other others (w .memory) a 2 (subst (AllApart n others a) d (before-apart n others (wordTo a v) (statusAfter w r) p)))
     in
     ap (λ (m : List ℕ). wordAt m a) (x .memory)
-    ∙ word-stands others a v (statusAfter w r) (w .memory) l (subst (AllApart n (statusAfter w r) a) d (after-apart n others (wordTo a v) (statusAfter w r) p))
+    ∙ word-stands others a v (statusAfter w r) (w .memory) l
+    (subst (AllApart n (statusAfter w r) a) d (after-apart n others (wordTo a v) (statusAfter w r) p))
     ∙ omega (arith, same)
 
 -- ---- no counter moves where all that is written is elsewhere
 
-pub counters-stand : (writes : List Write) (w : World) (r : Ran) → r .memory ≡ apply writes (w .memory) → AllApart (length (w .memory)) writes (inScb w 8) 8
+pub counters-stand : (writes : List Write) (w : World) (r : Ran) → r .memory ≡ apply writes (w .memory)
+    → AllApart (length (w .memory)) writes (inScb w 8) 8
     → CountersStand w r
 counters-stand writes w r e p = ap (λ (m : List ℕ). bytesAt m (inScb w 8) 8) e ∙ apply-other writes (w .memory) (inScb w 8) 8 p
 
@@ -218,7 +223,8 @@ onward-separate : (x : Bool) (n : ℕ) (w : World) (r : Ran) (s : Storing) (free
 unfolding piecesOf
 onward-separate true n w r s free h p =
     ending-separate (isBare (s .frame)) n w s (frameStatus false (s .frame)) (statusAfter w r) (piece (inScb w statusAt) 2 ∷ []) h (status-piece w r)
-    (less n (piece (inFrame w s 8) header ∷ piece (inFrame w s 0) 2 ∷ piece (inFrame w s 6) 2 ∷ []) (piece (nextFirst w s) 2) (piece (inScb w statusAt) 2 ∷ []) p)
+    (less n (piece (inFrame w s 8) header ∷ piece (inFrame w s 0) 2 ∷ piece (inFrame w s 6) 2 ∷ []) (piece (nextFirst w s) 2)
+    (piece (inScb w statusAt) 2 ∷ []) p)
 onward-separate false n w r s free h p =
     ending-separate (isBare (s .frame)) n w s (frameStatus false (s .frame))
     (onwardBy false w s free (apply (described false w s) (w .memory)) ++ statusAfter w r)
@@ -287,7 +293,8 @@ to-last n (x ∷ xs) c h =
 but-last : (n : ℕ) (xs : List Write) (c : Piece) → NoOverlap n (piecesOf xs ++ c ∷ []) → Separate n xs
 but-last n xs c h = separate n xs (subst (NoOverlap n) (append-nil (piecesOf xs)) (less n (piecesOf xs) c [] h))
 
-ending-pieces : (b : Bool) (n : ℕ) (w : World) (s : Storing) (status : ℕ) (rest : List Write) (ps : List Piece) (c : Piece) → length (w .holding) ≡ areaSize
+ending-pieces : (b : Bool) (n : ℕ) (w : World) (s : Storing) (status : ℕ) (rest : List Write) (ps : List Piece) (c : Piece)
+    → length (w .holding) ≡ areaSize
     → piecesOf rest ≡ ps
     → NoOverlap n (piece (inFrame w s 8) header ∷ piece (inFrame w s 0) 2 ∷ piece (inFrame w s 6) 2 ∷ (ps ++ c ∷ []))
     → NoOverlap n (piecesOf (headerTo w s ∷ markTo w s status ∷ (bareMark b (inFrame w s 6) ++ rest)) ++ c ∷ [])
@@ -349,8 +356,8 @@ bad-exit-of c w f h l p (held.lacking s n e q x k) =
     let o = subst (λ (u : Ru). NoOverlap (length (w .memory)) (piecesAndCounters u w)) e p in
     exit.lacking s n e q x
     (saved-stands true s _ w (ran c w) h l
-    (ending-pieces (isBare (s .frame)) (length (w .memory)) w s (frameStatus true (s .frame)) (statusAfter w (ran c w)) (piece (inScb w statusAt) 2 ∷ [])
-    (piece (inScb w 8) 8) h (status-piece w (ran c w)) o)
+    (ending-pieces (isBare (s .frame)) (length (w .memory)) w s (frameStatus true (s .frame)) (statusAfter w (ran c w))
+    (piece (inScb w statusAt) 2 ∷ []) (piece (inScb w 8) 8) h (status-piece w (ran c w)) o)
     k)
 bad-exit-of c w f h l p (held.lost a k) = exit.lost a k
 

@@ -7,7 +7,6 @@ use Prim.Native.Nat.{ℕ}
 use lib.ListN.{replicate}
 use Rattle.memory.specs.Address.{place, beyond}
 use Rattle.memory.specs.Memory.{byteAt, putByte, bytesAt, putBytes, value, digits, fieldAt, wordTo, apply}
-use Rattle.memory.specs.declared.Offset.{Offset}
 use Rattle.scb.specs.Control.{cuNext, ruNext}
 use Rattle.scb.specs.Words.{noEvents, field, joined, acknowledged, anyOf, eventBits, statusWord}
 use Rattle.device.specs.Answers.{counts}
@@ -18,9 +17,8 @@ use Rattle.device.specs.declared.Device.{Device}
 use Rattle.device.specs.declared.Fate.the-variants as fate
 use Rattle.device.specs.declared.Ru.{Ru}
 use Rattle.device.specs.declared.Ru.the-variants as ru
-use Rattle.device.specs.declared.Settings.{Settings}
 use Rattle.filter.specs.Match.{agree, isListed, matches}
-use Rattle.image.specs.Ranges.{inRange, unitsFit, cuFits, ruFits, frameFits, initialisedOrFresh}
+use Rattle.image.specs.Ranges.{inRange, unitsFit, cuFits, ruFits, initialisedOrFresh}
 use Rattle.receive.specs.Arrival.{lengthOf, judged, fateOf, arrival}
 use Rattle.receive.specs.Begin as receive-begin
 use Rattle.receive.specs.Buffer as receive-buffer
@@ -34,7 +32,7 @@ use Rattle.chip.specs.Arrival as arrivals
 use Rattle.chip.specs.Call.{Call, reset, attention, arrive, turn}
 use Rattle.chip.specs.Turn.{concluded, commandTurn, receiveTurn, turnOf}
 use Rattle.chip.specs.World.{World, worldOf, resetOf}
-use Rattle.traces.specs.Event.{Event, call, host}
+use Rattle.traces.specs.Event.{call, host}
 use Rattle.frames.specs.Fates.{Deed, event, alter, opening, Noted, Way, by-call, by-altering, Ended, still, after, beginnings, endings}
 
 -- SCB at 64, a ring of one frame descriptor at 0; no minimum length

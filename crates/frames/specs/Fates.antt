@@ -10,7 +10,6 @@ use Rattle.device.specs.declared.Device.{Device}
 use Rattle.device.specs.declared.Fate.{Fate}
 use Rattle.device.specs.declared.Fate.the-variants as fate
 use Rattle.device.specs.declared.Frame.{Frame}
-use Rattle.device.specs.declared.Ru.{Ru}
 use Rattle.image.specs.Ranges.{inRange}
 use Rattle.receive.specs.Arrival.{judged}
 use Rattle.chip.specs.Call.{Call, reset, attention, arrive, turn, ran}
@@ -21,7 +20,8 @@ use Rattle.frames.specs.Held.{heldIn, ofHeld, GoodFate, BadFate}
 
 -- ---- what happens
 
--- a call or what the host does to the areas; or the host alters the record, to another that is in range: with any other all calls but reset are refused
+-- a call that is not refused, or what the host does to the areas; or the host alters the record, to another that is in range: with any other all
+-- calls but reset are refused, and change nothing
 pub data Deed : Type 0 where
   event : Event → Deed
   alter : (d : Device) → inRange d ≡ true → Deed
