@@ -21,10 +21,10 @@ use Rattle.chip.specs.Arrival as chip
 use Rattle.chip.specs.Call.{Call, reset, attention, arrive, turn, ran}
 use Rattle.chip.specs.World.{World, Ran, resetOf}
 use Rattle.filter.specs.Match.{matches}
-use Rattle.traces.specs.Event.{call, host}
+use Rattle.traces.specs.Event.{Event, call, host}
 use Rattle.frames.specs.Arrival.{unitOf, settingsOf}
 use Rattle.frames.specs.Held.{heldIn, ofHeld, FateOfHeld}
-use Rattle.frames.specs.Fates.{Deed, event, alter, worldAfter, Scene, opening, Noted, noted, Way, by-call, by-altering, Ended, heldAs, still, begunIf, begun, endedIf, endedBy, ended, takes, lastBy, advance, after, beginnings, endings, times, namesOf, AllFates}
+use Rattle.frames.specs.Fates.{Deed, event, alter, worldAfter, Scene, opening, Noted, noted, Way, by-call, by-altering, Ended, heldAs, still, begunIf, begun, endedIf, endedBy, ended, takes, lastBy, advance, after, beginnings, endings, times, namesOf, isUnaltered, Proper, AllProper, AllFates}
 use Rattle.frames.proofs.Sound.{Sound, in-range-sound, good-sound, bad-sound, Went, keeps, ends, attention-went, turn-went, Arrives, kept, comes, arrives, arrival-new, call-sound}
 
 -- ---- one deed
@@ -166,6 +166,43 @@ fate-of-held reset w r h = absurd (false≢true (sym (reset-fate w) ∙ h))
 fate-of-held attention w r h = went-held w (ran attention w) (attention-went w (in-range-sound (w .device) r)) h
 fate-of-held (arrive f v) w r h = absurd (false≢true (sym (arrival-fate w f v) ∙ h))
 fate-of-held (turn report) w r h = went-held w (ran (turn report) w) (turn-went w report (in-range-sound (w .device) r)) h
+
+-- ---- the ways to end
+
+proper-append : (A : Type 0) (xs ys : List Ended) → AllProper A xs → AllProper A ys → AllProper A (xs ++ ys)
+proper-append A [] ys h k = k
+proper-append A (x ∷ xs) ys h k = (h .0, proper-append A xs ys (h .1) k)
+
+proper-if : (A : Type 0) (o : Bool) (n : ℕ) (f : List Frame) (x : Fate) → ofHeld x ≡ o → AllProper A (endedIf o n f x)
+proper-if A true n f x h = (h, tt)
+proper-if A false n f x h = tt
+
+proper-by : (A : Type 0) (way : Way) (ns : List Noted) → Proper A way → AllProper A (endedBy way ns)
+proper-by A way [] h = tt
+proper-by A way (n ∷ ns) h = (h, tt)
+
+proper-event : (A : Type 0) (e : Event) (s : Scene) → AllProper A (ended (event e) s)
+proper-event A (call reset) s = proper-by A (by-call fate.Reset) (still s) refl
+proper-event A (call attention) s = proper-if A (ofHeld (ran attention (s .world) .outcome .fate)) (s .last) (heldIn (unitOf (s .world))) _ refl
+proper-event A (call (arrive f v)) s = proper-if A (ofHeld (ran (arrive f v) (s .world) .outcome .fate)) (s .last) (heldIn (unitOf (s .world))) _ refl
+proper-event A (call (turn report)) s = proper-if A (ofHeld (ran (turn report) (s .world) .outcome .fate)) (s .last) (heldIn (unitOf (s .world))) _ refl
+proper-event A (host m h out) s = tt
+
+-- an end is by a held frame's fate, or the host altered the record
+pub all-proper : (ds : List Deed) (s : Scene) → AllProper (Unit {0}) (endings ds s)
+all-proper [] s = tt
+all-proper (event e ∷ ds) s =
+    proper-append (Unit {0}) (ended (event e) s) (endings ds (advance (event e) s)) (proper-event (Unit {0}) e s) (all-proper ds (advance (event e) s))
+all-proper (alter d r ∷ ds) s =
+    proper-append (Unit {0}) (ended (alter d r) s) (endings ds (advance (alter d r) s)) (proper-by (Unit {0}) by-altering (still s) tt)
+    (all-proper ds (advance (alter d r) s))
+
+-- if the host alters no record, every end is by a fate
+pub all-fated : (ds : List Deed) (s : Scene) → isUnaltered ds ≡ true → AllProper ⊥ (endings ds s)
+all-fated [] s h = tt
+all-fated (event e ∷ ds) s h =
+    proper-append ⊥ (ended (event e) s) (endings ds (advance (event e) s)) (proper-event ⊥ e s) (all-fated ds (advance (event e) s) h)
+all-fated (alter d r ∷ ds) s h = absurd (false≢true h)
 
 -- ---- each number once
 

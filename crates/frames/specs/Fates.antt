@@ -143,6 +143,21 @@ times k (n ∷ ns) = cond (eqb (n .number) k) 1 0 + times k ns
 abbrev pub namesOf : List Ended → List Noted
 namesOf es = map (λ (e : Ended). e .noted) es
 
+-- the host alters no record
+abbrev pub isUnaltered : List Deed → Bool
+isUnaltered [] = true
+isUnaltered (event e ∷ ds) = isUnaltered ds
+isUnaltered (alter d r ∷ ds) = false
+
+-- each end is by a held frame's fate: stored, counted, both, or lost by abort or reset; unless, where that is allowed, the host altered the record
+abbrev pub Proper : (altering : Type 0) → Way → Type 0
+Proper altering (by-call x) = ofHeld x ≡ true
+Proper altering by-altering = altering
+
+abbrev pub AllProper : (altering : Type 0) → List Ended → Type 0
+AllProper altering [] = Unit {0}
+AllProper altering (e ∷ es) = Proper altering (e .way) × AllProper altering es
+
 -- at every call while a frame is held its fate is as said of one call
 abbrev pub AllFates : List Deed → World → Type 0
 AllFates [] w = Unit {0}
