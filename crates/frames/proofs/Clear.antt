@@ -1,7 +1,8 @@
 -- When no piece of an end turn lies over another: it is enough that the frame descriptor, the SCB and +6 of the next frame descriptor lie apart.
 -- Assumes nothing.
 use mathlib.Core.Path.{_≡_, sym, ap, _∙_}
-use mathlib.Core.Bool.{Bool}
+use mathlib.Core.Bool.{Bool, true, false, _||_}
+use mathlib.Core.List.{List, [], _∷_, _++_}
 use Prim.Native.Nat.{ℕ, _+_, _%_, _≤_}
 use native.Mathlib.Omega.{arith}
 use lib.Dec.{T, leb, lit≤}
@@ -11,12 +12,15 @@ use Rattle.memory.specs.declared.Offset.{Offset}
 use Rattle.memory.specs.declared.RealAddress.{RealAddress}
 use Rattle.memory.proofs.Fields.{Apart}
 use Rattle.memory.proofs.Places.{place-up, place-down}
+use Rattle.scb.specs.Words.{statusAt}
+use Rattle.device.specs.Limits.{header}
 use Rattle.device.specs.declared.Ru.the-variants as ru
 use Rattle.device.specs.declared.Storing.{Storing}
+use Rattle.receive.specs.Begin.{isBare}
 use Rattle.chip.specs.World.{World}
 use Rattle.frames.specs.Arrival.{inScb}
 use Rattle.frames.specs.Held.{inFrame}
-use Rattle.frames.specs.Stands.{NoOverlap, nextFirst, pieces, piecesAndCounters, Clear, NextClear}
+use Rattle.frames.specs.Stands.{Piece, piece, Away, NoOverlap, nextFirst, barePiece, onwardPiece, lackingPieces, pieces, badPieces, Clear, NextClear}
 
 -- ---- parts of what lies apart
 
@@ -83,75 +87,90 @@ next-frame w s f i c a = word-apart (size w) (nextFirst w s) (w .device .units .
 next-scb : (w : World) (s : Storing) (f i : ℕ) → NextClear w s → T (leb (f + i) 16) → Apart (size w) (inScb w f) i (nextFirst w s) 2
 next-scb w s f i c a = word-apart′ (size w) (nextFirst w s) (w .device .units .base) (w .device .units .scb) 16 f i (lit≤ a) (c .scb)
 
--- ---- the premises of the facts at exit
+-- a piece less
+away-less : (n : ℕ) (xs : List Piece) (y : Piece) (ys : List Piece) (p : Piece) → Away n (xs ++ y ∷ ys) p → Away n (xs ++ ys) p
+away-less n [] y ys p h = h .1
+away-less n (x ∷ xs) y ys p h = (h .0, away-less n xs y ys p (h .1))
 
-pub lacking-clear : (w : World) (s : Storing) → Clear w s → NoOverlap (size w) (pieces (ru.Lacking s) w)
-lacking-clear w s c = (
-  (
-    frame-up w s 0 2 8 14 c tt tt,
-    (frame-up w s 6 2 8 14 c tt tt, (across w s 8 14 12 2 c tt tt, (across w s 8 14 0 2 c tt tt, tt))),
-  ),
+less : (n : ℕ) (xs : List Piece) (y : Piece) (ys : List Piece) → NoOverlap n (xs ++ y ∷ ys) → NoOverlap n (xs ++ ys)
+less n [] y ys h = h .1
+less n (x ∷ xs) y ys h = (away-less n xs y ys x (h .0), less n xs y ys (h .1))
+
+-- ---- the premises of the facts at exit: all pieces at once, then those that are written
+
+abbrev front : World → Storing → List Piece → List Piece
+front w s rest = piece (inFrame w s 8) header ∷ piece (inFrame w s 0) 2 ∷ rest
+
+bare-less : (b : Bool) (w : World) (s : Storing) (rest : List Piece) → NoOverlap (size w) (front w s (piece (inFrame w s 6) 2 ∷ rest))
+    → NoOverlap (size w) (front w s (barePiece b w s ++ rest))
+bare-less true w s rest p = p
+bare-less false w s rest p = less (size w) (front w s []) (piece (inFrame w s 6) 2) rest p
+
+onward-less : (x : Bool) (w : World) (s : Storing) (rest : List Piece)
+    → NoOverlap (size w) (front w s (piece (inFrame w s 6) 2 ∷ piece (nextFirst w s) 2 ∷ rest))
+    → NoOverlap (size w) (front w s (piece (inFrame w s 6) 2 ∷ (onwardPiece x w s ++ rest)))
+onward-less false w s rest p = p
+onward-less true w s rest p = less (size w) (front w s (piece (inFrame w s 6) 2 ∷ [])) (piece (nextFirst w s) 2) rest p
+
+lacking-all : (w : World) (s : Storing) → Clear w s
+    → NoOverlap (size w) (front w s (piece (inFrame w s 6) 2 ∷ piece (inScb w 12) 2 ∷ piece (inScb w statusAt) 2 ∷ []))
+lacking-all w s c = (
+  (frame-up w s 0 2 8 14 c tt tt, (frame-up w s 6 2 8 14 c tt tt, (across w s 8 14 12 2 c tt tt, (across w s 8 14 0 2 c tt tt, tt)))),
   (
     (frame-down w s 6 2 0 2 c tt tt, (across w s 0 2 12 2 c tt tt, (across w s 0 2 0 2 c tt tt, tt))),
+    ((across w s 6 2 12 2 c tt tt, (across w s 6 2 0 2 c tt tt, tt)), ((scb-up w s 0 2 12 2 c tt tt, tt), (tt, tt))),
+  ),
+)
+
+closing-all : (w : World) (s : Storing) → Clear w s → NextClear w s
+    → NoOverlap (size w) (front w s (piece (inFrame w s 6) 2 ∷ piece (nextFirst w s) 2 ∷ piece (inScb w statusAt) 2 ∷ piece (inScb w 8) 8 ∷ []))
+closing-all w s c k = (
+  (
+    frame-up w s 0 2 8 14 c tt tt,
+    (frame-up w s 6 2 8 14 c tt tt, (next-frame w s 8 14 k tt, (across w s 8 14 0 2 c tt tt, (across w s 8 14 8 8 c tt tt, tt)))),
+  ),
+  (
+    (frame-down w s 6 2 0 2 c tt tt, (next-frame w s 0 2 k tt, (across w s 0 2 0 2 c tt tt, (across w s 0 2 8 8 c tt tt, tt)))),
     (
-      (across w s 6 2 12 2 c tt tt, (across w s 6 2 0 2 c tt tt, tt)),
-      ((scb-up w s 0 2 12 2 c tt tt, tt), (tt, tt)),
+      (next-frame w s 6 2 k tt, (across w s 6 2 0 2 c tt tt, (across w s 6 2 8 8 c tt tt, tt))),
+      ((next-scb w s 0 2 k tt, (next-scb w s 8 8 k tt, tt)), ((scb-down w s 8 8 0 2 c tt tt, tt), (tt, tt))),
     ),
   ),
 )
+
+lacking-counters : (w : World) (s : Storing) → Clear w s
+    → NoOverlap (size w) (front w s (piece (inFrame w s 6) 2 ∷ piece (inScb w statusAt) 2 ∷ piece (inScb w 8) 8 ∷ []))
+lacking-counters w s c = (
+  (frame-up w s 0 2 8 14 c tt tt, (frame-up w s 6 2 8 14 c tt tt, (across w s 8 14 0 2 c tt tt, (across w s 8 14 8 8 c tt tt, tt)))),
+  (
+    (frame-down w s 6 2 0 2 c tt tt, (across w s 0 2 0 2 c tt tt, (across w s 0 2 8 8 c tt tt, tt))),
+    ((across w s 6 2 0 2 c tt tt, (across w s 6 2 8 8 c tt tt, tt)), ((scb-down w s 8 8 0 2 c tt tt, tt), (tt, tt))),
+  ),
+)
+
+-- a good frame
+lacking-by : (saved : Bool) (w : World) (s : Storing) → Clear w s → NoOverlap (size w) (lackingPieces saved w s)
+lacking-by true w s c = bare-less (isBare (s .frame)) w s (piece (inScb w 12) 2 ∷ piece (inScb w statusAt) 2 ∷ []) (lacking-all w s c)
+lacking-by false w s c =
+    less (size w) (piece (inFrame w s 0) 2 ∷ []) (piece (inFrame w s 6) 2) (piece (inScb w 12) 2 ∷ piece (inScb w statusAt) 2 ∷ []) (lacking-all w s c .1)
+
+pub lacking-clear : (w : World) (s : Storing) → Clear w s → NoOverlap (size w) (pieces (ru.Lacking s) w)
+lacking-clear w s c = lacking-by (s .frame .savebad) w s c
 
 pub closing-clear : (w : World) (s : Storing) (free : Offset) (full : Bool) → Clear w s → NextClear w s
     → NoOverlap (size w) (pieces (ru.Closing s free full) w)
-closing-clear w s free full c k = (
-  (
-    frame-up w s 0 2 8 14 c tt tt,
-    (frame-up w s 6 2 8 14 c tt tt, (next-frame w s 8 14 k tt, (across w s 8 14 0 2 c tt tt, tt))),
-  ),
-  (
-    (frame-down w s 6 2 0 2 c tt tt, (next-frame w s 0 2 k tt, (across w s 0 2 0 2 c tt tt, tt))),
-    (
-      (next-frame w s 6 2 k tt, (across w s 6 2 0 2 c tt tt, tt)),
-      ((next-scb w s 0 2 k tt, tt), (tt, tt)),
-    ),
-  ),
-)
+closing-clear w s free full c k =
+    let all = less (size w) (front w s (piece (inFrame w s 6) 2 ∷ piece (nextFirst w s) 2 ∷ piece (inScb w statusAt) 2 ∷ [])) (piece (inScb w 8) 8) [] (closing-all w s c k) in
+    bare-less (isBare (s .frame)) w s (onwardPiece (s .el || full) w s ++ piece (inScb w statusAt) 2 ∷ [])
+    (onward-less (s .el || full) w s (piece (inScb w statusAt) 2 ∷ []) all)
 
-pub lacking-clear-all : (w : World) (s : Storing) → Clear w s → NoOverlap (size w) (piecesAndCounters (ru.Lacking s) w)
-lacking-clear-all w s c = (
-  (
-    frame-up w s 0 2 8 14 c tt tt,
-    (frame-up w s 6 2 8 14 c tt tt, (across w s 8 14 0 2 c tt tt, (across w s 8 14 8 8 c tt tt, tt))),
-  ),
-  (
-    (frame-down w s 6 2 0 2 c tt tt, (across w s 0 2 0 2 c tt tt, (across w s 0 2 8 8 c tt tt, tt))),
-    (
-      (across w s 6 2 0 2 c tt tt, (across w s 6 2 8 8 c tt tt, tt)),
-      ((scb-down w s 8 8 0 2 c tt tt, tt), (tt, tt)),
-    ),
-  ),
-)
+-- a bad one
+pub lacking-clear-bad : (w : World) (s : Storing) → Clear w s → NoOverlap (size w) (badPieces (ru.Lacking s) w)
+lacking-clear-bad w s c =
+    bare-less (isBare (s .frame)) w s (piece (inScb w statusAt) 2 ∷ piece (inScb w 8) 8 ∷ []) (lacking-counters w s c)
 
-pub closing-clear-all : (w : World) (s : Storing) (free : Offset) (full : Bool) → Clear w s → NextClear w s
-    → NoOverlap (size w) (piecesAndCounters (ru.Closing s free full) w)
-closing-clear-all w s free full c k = (
-  (
-    frame-up w s 0 2 8 14 c tt tt,
-    (
-      frame-up w s 6 2 8 14 c tt tt,
-      (next-frame w s 8 14 k tt, (across w s 8 14 0 2 c tt tt, (across w s 8 14 8 8 c tt tt, tt))),
-    ),
-  ),
-  (
-    (
-      frame-down w s 6 2 0 2 c tt tt,
-      (next-frame w s 0 2 k tt, (across w s 0 2 0 2 c tt tt, (across w s 0 2 8 8 c tt tt, tt))),
-    ),
-    (
-      (next-frame w s 6 2 k tt, (across w s 6 2 0 2 c tt tt, (across w s 6 2 8 8 c tt tt, tt))),
-      (
-        (next-scb w s 0 2 k tt, (next-scb w s 8 8 k tt, tt)),
-        ((scb-down w s 8 8 0 2 c tt tt, tt), (tt, tt)),
-      ),
-    ),
-  ),
-)
+pub closing-clear-bad : (w : World) (s : Storing) (free : Offset) (full : Bool) → Clear w s → NextClear w s
+    → NoOverlap (size w) (badPieces (ru.Closing s free full) w)
+closing-clear-bad w s free full c k =
+    bare-less (isBare (s .frame)) w s (onwardPiece (s .el || full) w s ++ piece (inScb w statusAt) 2 ∷ piece (inScb w 8) 8 ∷ [])
+    (onward-less (s .el || full) w s (piece (inScb w statusAt) 2 ∷ piece (inScb w 8) 8 ∷ []) (closing-all w s c k))

@@ -26,9 +26,9 @@ use Rattle.receive.specs.End.{frameStatus, bareMark}
 use Rattle.chip.specs.Call.{Call, ran}
 use Rattle.chip.specs.World.{World, Ran}
 use Rattle.frames.specs.Arrival.{Lent, inScb, unitOf}
-use Rattle.frames.specs.Held.{heldIn, inFrame, headerTo, markTo, bareTo, described, onwardBy, statusAfter, Stored, Counted, GoodFate, BadFate}
+use Rattle.frames.specs.Held.{heldIn, inFrame, headerTo, markTo, bareTo, described, onwardBy, onward, statusAfter, Stored, Counted, GoodFate, BadFate}
 use Rattle.frames.specs.Held as held
-use Rattle.frames.specs.Stands.{Separate, StoredStands, CountedStands, CountersStand, Piece, piece, Away, NoOverlap, nextFirst, pieces, GoodExit, piecesAndCounters, SavedStands, BadExit}
+use Rattle.frames.specs.Stands.{Separate, StoredStands, CountedStands, CountersStand, Piece, piece, Away, NoOverlap, nextFirst, barePiece, onwardPiece, lackingPieces, pieces, GoodExit, badPieces, SavedStands, BadExit}
 use Rattle.frames.specs.Stands as exit
 use Rattle.frames.proofs.Held.{good-held, bad-held}
 
@@ -167,20 +167,6 @@ unfolding piecesOf pieceOf
 separate n [] h = tt
 separate n (x ∷ xs) h = (away-apart n xs (pieceOf x) (h .0), separate n xs (h .1))
 
--- a piece less
-away-less : (n : ℕ) (xs : List Piece) (y : Piece) (ys : List Piece) (p : Piece) → Away n (xs ++ y ∷ ys) p → Away n (xs ++ ys) p
-away-less n [] y ys p h = h .1
-away-less n (x ∷ xs) y ys p h = (h .0, away-less n xs y ys p (h .1))
-
-less : (n : ℕ) (xs : List Piece) (y : Piece) (ys : List Piece) → NoOverlap n (xs ++ y ∷ ys) → NoOverlap n (xs ++ ys)
-less n [] y ys h = h .1
-less n (x ∷ xs) y ys h = (away-less n xs y ys x (h .0), less n xs y ys (h .1))
-
-pieces-append : (xs ys : List Write) → piecesOf (xs ++ ys) ≡ piecesOf xs ++ piecesOf ys
-unfolding piecesOf
-pieces-append [] ys = refl
-pieces-append (x ∷ xs) ys = ap (λ (l : List Piece). pieceOf x ∷ l) (pieces-append xs ys)
-
 word-piece : (a v : ℕ) → pieceOf (wordTo a v) ≡ piece a 2
 unfolding pieceOf
 word-piece a v = ap (piece a) (length-digits 2 v)
@@ -199,53 +185,61 @@ front2 x y z = ap₂ (λ (p : Piece) (l : List Piece). p ∷ l) x (ap₂ (λ (p 
 front3 : {a b c d e f : Piece} {ps qs : List Piece} → a ≡ d → b ≡ e → c ≡ f → ps ≡ qs → a ∷ b ∷ c ∷ ps ≡ d ∷ e ∷ f ∷ qs
 front3 x y z t = ap₂ (λ (p : Piece) (l : List Piece). p ∷ l) x (front2 y z t)
 
--- ---- where no piece lies over another, neither does a write
+-- ---- the writes of an end turn lie where the pieces are
 
-ending-separate : (b : Bool) (n : ℕ) (w : World) (s : Storing) (status : ℕ) (rest : List Write) (ps : List Piece) → length (w .holding) ≡ areaSize
+ending-pieces : (b : Bool) (w : World) (s : Storing) (status : ℕ) (rest : List Write) (ps : List Piece) → length (w .holding) ≡ areaSize
     → piecesOf rest ≡ ps
-    → NoOverlap n (piece (inFrame w s 8) header ∷ piece (inFrame w s 0) 2 ∷ piece (inFrame w s 6) 2 ∷ ps)
-    → Separate n (headerTo w s ∷ markTo w s status ∷ (bareMark b (inFrame w s 6) ++ rest))
+    → piecesOf (headerTo w s ∷ markTo w s status ∷ (bareMark b (inFrame w s 6) ++ rest))
+    ≡ piece (inFrame w s 8) header ∷ piece (inFrame w s 0) 2 ∷ (barePiece b w s ++ ps)
 unfolding piecesOf
-ending-separate true n w s status rest ps h e p =
-    separate n (headerTo w s ∷ markTo w s status ∷ wordTo (inFrame w s 6) 0xFFFF ∷ rest)
-    (subst (NoOverlap n) (sym (front3 (header-piece w s h) (word-piece (inFrame w s 0) status) (word-piece (inFrame w s 6) 0xFFFF) e)) p)
-ending-separate false n w s status rest ps h e p =
-    separate n (headerTo w s ∷ markTo w s status ∷ rest)
-    (subst (NoOverlap n) (sym (front2 (header-piece w s h) (word-piece (inFrame w s 0) status) e))
-    (less n (piece (inFrame w s 8) header ∷ piece (inFrame w s 0) 2 ∷ []) (piece (inFrame w s 6) 2) ps p))
+ending-pieces true w s status rest ps h e =
+    front3 (header-piece w s h) (word-piece (inFrame w s 0) status) (word-piece (inFrame w s 6) 0xFFFF) e
+ending-pieces false w s status rest ps h e = front2 (header-piece w s h) (word-piece (inFrame w s 0) status) e
 
-onward-separate : (x : Bool) (n : ℕ) (w : World) (r : Ran) (s : Storing) (free : Offset) → length (w .holding) ≡ areaSize
-    → NoOverlap n (pieces (ru.Closing s free x) w)
-    → Separate n
-    (headerTo w s
-    ∷ markTo w s (frameStatus false (s .frame))
-    ∷ (bareTo w s ++ (onwardBy x w s free (apply (described false w s) (w .memory)) ++ statusAfter w r)))
+onward-pieces : (x : Bool) (w : World) (r : Ran) (s : Storing) (free : Offset)
+    → piecesOf (onwardBy x w s free (apply (described false w s) (w .memory)) ++ statusAfter w r)
+    ≡ onwardPiece x w s ++ piece (inScb w statusAt) 2 ∷ []
 unfolding piecesOf
-onward-separate true n w r s free h p =
-    ending-separate (isBare (s .frame)) n w s (frameStatus false (s .frame)) (statusAfter w r) (piece (inScb w statusAt) 2 ∷ []) h (status-piece w r)
-    (less n (piece (inFrame w s 8) header ∷ piece (inFrame w s 0) 2 ∷ piece (inFrame w s 6) 2 ∷ []) (piece (nextFirst w s) 2)
-    (piece (inScb w statusAt) 2 ∷ []) p)
-onward-separate false n w r s free h p =
-    ending-separate (isBare (s .frame)) n w s (frameStatus false (s .frame))
-    (onwardBy false w s free (apply (described false w s) (w .memory)) ++ statusAfter w r)
-    (piece (nextFirst w s) 2 ∷ piece (inScb w statusAt) 2 ∷ []) h
-    (ap₂ (λ (a : Piece) (l : List Piece). a ∷ l) (word-piece (nextFirst w s) (free .0)) (status-piece w r)) p
+onward-pieces true w r s free = status-piece w r
+onward-pieces false w r s free = ap₂ (λ (a : Piece) (l : List Piece). a ∷ l) (word-piece (nextFirst w s) (free .0)) (status-piece w r)
 
-lacking-separate : (n : ℕ) (w : World) (r : Ran) (s : Storing) (v : ℕ) → length (w .holding) ≡ areaSize → NoOverlap n (pieces (ru.Lacking s) w)
+count-pieces : (w : World) (r : Ran) (v : ℕ)
+    → piecesOf (wordTo (inScb w 12) v ∷ statusAfter w r) ≡ piece (inScb w 12) 2 ∷ piece (inScb w statusAt) 2 ∷ []
+unfolding piecesOf
+count-pieces w r v = ap₂ (λ (a : Piece) (l : List Piece). a ∷ l) (word-piece (inScb w 12) v) (status-piece w r)
+
+counted-pieces : (w : World) (r : Ran) (s : Storing) (v : ℕ)
+    → piecesOf (markTo w s 0x0000 ∷ wordTo (inScb w 12) v ∷ statusAfter w r) ≡ lackingPieces false w s
+unfolding piecesOf
+counted-pieces w r s v = front2 (word-piece (inFrame w s 0) 0x0000) (word-piece (inScb w 12) v) (status-piece w r)
+
+-- ---- so where no piece lies over another, neither does a write
+
+closing-separate : (n : ℕ) (w : World) (r : Ran) (s : Storing) (free : Offset) (full : Bool) → length (w .holding) ≡ areaSize
+    → NoOverlap n (pieces (ru.Closing s free full) w)
+    → Separate n (headerTo w s ∷ markTo w s (frameStatus false (s .frame)) ∷ (bareTo w s ++ (onward w s free full ++ statusAfter w r)))
+closing-separate n w r s free full h p =
+    separate n (headerTo w s ∷ markTo w s (frameStatus false (s .frame)) ∷ (bareTo w s ++ (onward w s free full ++ statusAfter w r)))
+    (subst (NoOverlap n)
+    (sym
+    (ending-pieces (isBare (s .frame)) w s (frameStatus false (s .frame)) (onward w s free full ++ statusAfter w r)
+    (onwardPiece (s .el || full) w s ++ piece (inScb w statusAt) 2 ∷ []) h (onward-pieces (s .el || full) w r s free)))
+    p)
+
+both-separate : (n : ℕ) (w : World) (r : Ran) (s : Storing) (v : ℕ) → length (w .holding) ≡ areaSize → NoOverlap n (lackingPieces true w s)
     → Separate n (headerTo w s ∷ markTo w s (frameStatus true (s .frame)) ∷ (bareTo w s ++ (wordTo (inScb w 12) v ∷ statusAfter w r)))
-unfolding piecesOf
-lacking-separate n w r s v h p =
-    ending-separate (isBare (s .frame)) n w s (frameStatus true (s .frame)) (wordTo (inScb w 12) v ∷ statusAfter w r)
-    (piece (inScb w 12) 2 ∷ piece (inScb w statusAt) 2 ∷ []) h
-    (ap₂ (λ (a : Piece) (l : List Piece). a ∷ l) (word-piece (inScb w 12) v) (status-piece w r)) p
+both-separate n w r s v h p =
+    separate n (headerTo w s ∷ markTo w s (frameStatus true (s .frame)) ∷ (bareTo w s ++ (wordTo (inScb w 12) v ∷ statusAfter w r)))
+    (subst (NoOverlap n)
+    (sym
+    (ending-pieces (isBare (s .frame)) w s (frameStatus true (s .frame)) (wordTo (inScb w 12) v ∷ statusAfter w r)
+    (piece (inScb w 12) 2 ∷ piece (inScb w statusAt) 2 ∷ []) h (count-pieces w r v)))
+    p)
 
-counted-separate : (n : ℕ) (w : World) (r : Ran) (s : Storing) (v : ℕ) → NoOverlap n (pieces (ru.Lacking s) w)
+counted-separate : (n : ℕ) (w : World) (r : Ran) (s : Storing) (v : ℕ) → NoOverlap n (lackingPieces false w s)
     → Separate n (markTo w s 0x0000 ∷ wordTo (inScb w 12) v ∷ statusAfter w r)
-unfolding piecesOf
 counted-separate n w r s v p =
-    separate n (markTo w s 0x0000 ∷ wordTo (inScb w 12) v ∷ statusAfter w r)
-    (subst (NoOverlap n) (sym (front2 (word-piece (inFrame w s 0) 0x0000) (word-piece (inScb w 12) v) (status-piece w r)))
-    (less n (piece (inFrame w s 0) 2 ∷ []) (piece (inFrame w s 6) 2) (piece (inScb w 12) 2 ∷ piece (inScb w statusAt) 2 ∷ []) (p .1)))
+    separate n (markTo w s 0x0000 ∷ wordTo (inScb w 12) v ∷ statusAfter w r) (subst (NoOverlap n) (sym (counted-pieces w r s v)) p)
 
 -- ---- the demand, as facts about memory at exit
 
@@ -257,14 +251,22 @@ exit-of c w f h l p (held.stays a b k) = exit.stays a b k
 exit-of c w f h l p (held.stored s free full n e q x k) =
     let o = subst (λ (u : Ru). NoOverlap (length (w .memory)) (pieces u w)) e p in
     exit.stored s free full n e q x
-    (stored-stands false s _ w (ran c w) k h l (onward-separate (s .el || full) (length (w .memory)) w (ran c w) s free h o)) (k .fr)
+    (stored-stands false s _ w (ran c w) k h l (closing-separate (length (w .memory)) w (ran c w) s free full h o)) (k .fr)
 exit-of c w f h l p (held.counted s n e q b x k) =
     let o = subst (λ (u : Ru). NoOverlap (length (w .memory)) (pieces u w)) e p in
+    let unsaved = ap (λ (g : Frame). g .savebad) q ∙ b in
     exit.counted s n e q b x
-    (counted-stands (markTo w s 0x0000 ∷ []) w (ran c w) k (omega arith) (counted-separate (length (w .memory)) w (ran c w) s _ o))
+    (counted-stands (markTo w s 0x0000 ∷ []) w (ran c w) k (omega arith)
+    (counted-separate (length (w .memory)) w (ran c w) s _
+    (subst (λ (d : Bool). NoOverlap (length (w .memory)) (lackingPieces d w s)) unsaved o)))
 exit-of c w f h l p (held.both s n e q b x k j) =
     let o = subst (λ (u : Ru). NoOverlap (length (w .memory)) (pieces u w)) e p in
-    let d = lacking-separate (length (w .memory)) w (ran c w) s ((wordAt (apply (described true w s) (w .memory)) (inScb w 12) + 1) % 65536) h o in
+    let saved = ap (λ (g : Frame). g .savebad) q ∙ b in
+    let v = (wordAt (apply (described true w s) (w .memory)) (inScb w 12) + 1) % 65536 in
+    let d =
+    both-separate (length (w .memory)) w (ran c w) s v h
+    (subst (λ (d : Bool). NoOverlap (length (w .memory)) (lackingPieces d w s)) saved o)
+    in
     exit.both s n e q b x (stored-stands true s _ w (ran c w) k h l d) (k .fr)
     (counted-stands (described true w s) w (ran c w) j (omega arith) d)
 exit-of c w f h l p (held.lost a k) = exit.lost a k
@@ -290,43 +292,35 @@ to-last n [] c h = tt
 to-last n (x ∷ xs) c h =
     (apart-sym n (c .from) (c .size) (x .to) (length (x .bytes)) (away-last n (piecesOf xs) c (pieceOf x) (h .0)), to-last n xs c (h .1))
 
-but-last : (n : ℕ) (xs : List Write) (c : Piece) → NoOverlap n (piecesOf xs ++ c ∷ []) → Separate n xs
-but-last n xs c h = separate n xs (subst (NoOverlap n) (append-nil (piecesOf xs)) (less n (piecesOf xs) c [] h))
+away-but : (n : ℕ) (ps : List Piece) (c p : Piece) → Away n (ps ++ c ∷ []) p → Away n ps p
+away-but n [] c p h = tt
+away-but n (q ∷ qs) c p h = (h .0, away-but n qs c p (h .1))
 
-ending-pieces : (b : Bool) (n : ℕ) (w : World) (s : Storing) (status : ℕ) (rest : List Write) (ps : List Piece) (c : Piece)
-    → length (w .holding) ≡ areaSize
+but-last : (n : ℕ) (ps : List Piece) (c : Piece) → NoOverlap n (ps ++ c ∷ []) → NoOverlap n ps
+but-last n [] c h = tt
+but-last n (p ∷ ps) c h = (away-but n ps c p (h .0), but-last n ps c (h .1))
+
+closing-counters : (b x : Bool) (w : World) (s : Storing)
+    → barePiece b w s ++ (onwardPiece x w s ++ piece (inScb w statusAt) 2 ∷ piece (inScb w 8) 8 ∷ [])
+    ≡ barePiece b w s ++ (onwardPiece x w s ++ piece (inScb w statusAt) 2 ∷ []) ++ piece (inScb w 8) 8 ∷ []
+closing-counters true true w s = refl
+closing-counters true false w s = refl
+closing-counters false true w s = refl
+closing-counters false false w s = refl
+
+lacking-counters : (b : Bool) (w : World) (s : Storing)
+    → barePiece b w s ++ (piece (inScb w statusAt) 2 ∷ piece (inScb w 8) 8 ∷ [])
+    ≡ barePiece b w s ++ (piece (inScb w statusAt) 2 ∷ []) ++ piece (inScb w 8) 8 ∷ []
+lacking-counters true w s = refl
+lacking-counters false w s = refl
+
+-- the writes of an end turn, and the counters behind them
+with-counters : (n : ℕ) (w : World) (s : Storing) (status : ℕ) (rest : List Write) (ps : List Piece) → length (w .holding) ≡ areaSize
     → piecesOf rest ≡ ps
-    → NoOverlap n (piece (inFrame w s 8) header ∷ piece (inFrame w s 0) 2 ∷ piece (inFrame w s 6) 2 ∷ (ps ++ c ∷ []))
-    → NoOverlap n (piecesOf (headerTo w s ∷ markTo w s status ∷ (bareMark b (inFrame w s 6) ++ rest)) ++ c ∷ [])
-unfolding piecesOf
-ending-pieces true n w s status rest ps c h e p =
-    subst (NoOverlap n)
-    (sym
-    (front3 (header-piece w s h) (word-piece (inFrame w s 0) status) (word-piece (inFrame w s 6) 0xFFFF) (ap (λ (l : List Piece). l ++ c ∷ []) e)))
-    p
-ending-pieces false n w s status rest ps c h e p =
-    subst (NoOverlap n) (sym (front2 (header-piece w s h) (word-piece (inFrame w s 0) status) (ap (λ (l : List Piece). l ++ c ∷ []) e)))
-    (less n (piece (inFrame w s 8) header ∷ piece (inFrame w s 0) 2 ∷ []) (piece (inFrame w s 6) 2) (ps ++ c ∷ []) p)
-
-onward-pieces : (x : Bool) (n : ℕ) (w : World) (r : Ran) (s : Storing) (free : Offset) → length (w .holding) ≡ areaSize
-    → NoOverlap n (piecesAndCounters (ru.Closing s free x) w)
-    → NoOverlap n
-    (piecesOf
-    (headerTo w s
-    ∷ markTo w s (frameStatus false (s .frame))
-    ∷ (bareTo w s ++ (onwardBy x w s free (apply (described false w s) (w .memory)) ++ statusAfter w r)))
-    ++ piece (inScb w 8) 8 ∷ [])
-unfolding piecesOf
-onward-pieces true n w r s free h p =
-    ending-pieces (isBare (s .frame)) n w s (frameStatus false (s .frame)) (statusAfter w r) (piece (inScb w statusAt) 2 ∷ []) (piece (inScb w 8) 8) h
-    (status-piece w r)
-    (less n (piece (inFrame w s 8) header ∷ piece (inFrame w s 0) 2 ∷ piece (inFrame w s 6) 2 ∷ []) (piece (nextFirst w s) 2)
-    (piece (inScb w statusAt) 2 ∷ piece (inScb w 8) 8 ∷ []) p)
-onward-pieces false n w r s free h p =
-    ending-pieces (isBare (s .frame)) n w s (frameStatus false (s .frame))
-    (onwardBy false w s free (apply (described false w s) (w .memory)) ++ statusAfter w r)
-    (piece (nextFirst w s) 2 ∷ piece (inScb w statusAt) 2 ∷ []) (piece (inScb w 8) 8) h
-    (ap₂ (λ (a : Piece) (l : List Piece). a ∷ l) (word-piece (nextFirst w s) (free .0)) (status-piece w r)) p
+    → NoOverlap n (piece (inFrame w s 8) header ∷ piece (inFrame w s 0) 2 ∷ (barePiece (isBare (s .frame)) w s ++ ps ++ piece (inScb w 8) 8 ∷ []))
+    → NoOverlap n (piecesOf (headerTo w s ∷ markTo w s status ∷ (bareTo w s ++ rest)) ++ piece (inScb w 8) 8 ∷ [])
+with-counters n w s status rest ps h e p =
+    subst (λ (l : List Piece). NoOverlap n (l ++ piece (inScb w 8) 8 ∷ [])) (sym (ending-pieces (isBare (s .frame)) w s status rest ps h e)) p
 
 saved-stands : (lacking : Bool) (s : Storing) (rest : List Write) (w : World) (r : Ran) → length (w .holding) ≡ areaSize → header ≤ length (w .memory)
     → NoOverlap (length (w .memory))
@@ -335,7 +329,7 @@ saved-stands : (lacking : Bool) (s : Storing) (rest : List Write) (w : World) (r
     → SavedStands lacking s w r
 saved-stands lacking s rest w r h l p k =
     let writes = headerTo w s ∷ markTo w s (frameStatus lacking (s .frame)) ∷ rest in
-    let stored = stored-stands lacking s rest w r k h l (but-last (length (w .memory)) writes (piece (inScb w 8) 8) p) in
+    let stored = stored-stands lacking s rest w r k h l (separate (length (w .memory)) writes (but-last (length (w .memory)) (piecesOf writes) (piece (inScb w 8) 8) p)) in
     record {
       stored = stored;
       lacks = ap (λ (n : ℕ). bit n 9) (stored .status) ∙ k .lacks;
@@ -343,27 +337,35 @@ saved-stands lacking s rest w r h l p k =
       counters = counters-stand writes w r (k .memory) (to-last (length (w .memory)) writes (piece (inScb w 8) 8) p);
     }
 
+abbrev Behind : World → Storing → List Piece → Type 0
+Behind w s ps = NoOverlap (length (w .memory)) (piece (inFrame w s 8) header ∷ piece (inFrame w s 0) 2 ∷ ps)
+
 bad-exit-of : (c : Call) (w : World) (f : Frame) → length (w .holding) ≡ areaSize → header ≤ length (w .memory)
-    → NoOverlap (length (w .memory)) (piecesAndCounters (unitOf w) w)
+    → NoOverlap (length (w .memory)) (badPieces (unitOf w) w)
     → BadFate f c w
     → BadExit f c w
 bad-exit-of c w f h l p (held.stays a b k) = exit.stays a b k
 bad-exit-of c w f h l p (held.stored s free full n e q x k) =
-    let o = subst (λ (u : Ru). NoOverlap (length (w .memory)) (piecesAndCounters u w)) e p in
+    let o = subst (λ (u : Ru). NoOverlap (length (w .memory)) (badPieces u w)) e p in
+    let y = s .el || full in
     exit.stored s free full n e q x
-    (saved-stands false s _ w (ran c w) h l (onward-pieces (s .el || full) (length (w .memory)) w (ran c w) s free h o) k)
+    (saved-stands false s _ w (ran c w) h l
+    (with-counters (length (w .memory)) w s (frameStatus false (s .frame)) (onward w s free full ++ statusAfter w (ran c w))
+    (onwardPiece y w s ++ piece (inScb w statusAt) 2 ∷ []) h (onward-pieces y w (ran c w) s free)
+    (subst (Behind w s) (closing-counters (isBare (s .frame)) y w s) o))
+    k)
 bad-exit-of c w f h l p (held.lacking s n e q x k) =
-    let o = subst (λ (u : Ru). NoOverlap (length (w .memory)) (piecesAndCounters u w)) e p in
+    let o = subst (λ (u : Ru). NoOverlap (length (w .memory)) (badPieces u w)) e p in
     exit.lacking s n e q x
     (saved-stands true s _ w (ran c w) h l
-    (ending-pieces (isBare (s .frame)) (length (w .memory)) w s (frameStatus true (s .frame)) (statusAfter w (ran c w))
-    (piece (inScb w statusAt) 2 ∷ []) (piece (inScb w 8) 8) h (status-piece w (ran c w)) o)
+    (with-counters (length (w .memory)) w s (frameStatus true (s .frame)) (statusAfter w (ran c w)) (piece (inScb w statusAt) 2 ∷ []) h
+    (status-piece w (ran c w)) (subst (Behind w s) (lacking-counters (isBare (s .frame)) w s) o))
     k)
 bad-exit-of c w f h l p (held.lost a k) = exit.lost a k
 
 -- every call that is not refused, while a bad frame is held, where no piece that is written lies over another or over a counter
 pub bad-exit : (c : Call) (w : World) (f : Frame) → Lent w [] → inRange (w .device) ≡ true → heldIn (unitOf w) ≡ f ∷ [] → isGood f ≡ false
-    → NoOverlap (length (w .memory)) (piecesAndCounters (unitOf w) w)
+    → NoOverlap (length (w .memory)) (badPieces (unitOf w) w)
     → BadExit f c w
 bad-exit c w f l r h g p =
     let least = allowed (length (w .memory)) (l .size) .least in

@@ -1,7 +1,7 @@
 -- Stored and counted as facts about memory at exit, where no piece that the turn writes lies over another. Assumes nothing.
 use mathlib.Core.Path.{_≡_}
-use mathlib.Core.Bool.{Bool, true, false}
-use mathlib.Core.List.{List, [], _∷_}
+use mathlib.Core.Bool.{Bool, true, false, _||_}
+use mathlib.Core.List.{List, [], _∷_, _++_}
 use Prim.Native.Nat.{ℕ, _+_, _%_, _≤_}
 use lib.ListN.{length, take}
 use Rattle.memory.specs.Address.{place, offsetAt}
@@ -15,6 +15,7 @@ use Rattle.device.specs.declared.Frame.{Frame}
 use Rattle.device.specs.declared.Ru.{Ru}
 use Rattle.device.specs.declared.Ru.the-variants as ru
 use Rattle.device.specs.declared.Storing.{Storing}
+use Rattle.receive.specs.Begin.{isBare}
 use Rattle.receive.specs.End.{frameStatus}
 use Rattle.chip.specs.Call.{Call, ran}
 use Rattle.chip.specs.World.{World, Ran}
@@ -63,7 +64,25 @@ NoOverlap n (p ∷ ps) = Away n ps p × NoOverlap n ps
 abbrev pub nextFirst : World → Storing → ℕ
 nextFirst w s = place (w .device .units .base) (offsetAt (apply (described false w s) (w .memory)) (inFrame w s 4)) 6
 
--- the end turn's: header bytes, status word and +6 of the frame descriptor; then +6 of the next one, or RSCERRS; the SCB status
+-- FFFFh at +6 if no data; +6 of the next frame descriptor unless No Resources follows
+abbrev pub barePiece : (bare : Bool) → World → Storing → List Piece
+barePiece true w s = piece (inFrame w s 6) 2 ∷ []
+barePiece false w s = []
+
+abbrev pub onwardPiece : (exhausted : Bool) → World → Storing → List Piece
+onwardPiece true w s = []
+onwardPiece false w s = piece (nextFirst w s) 2 ∷ []
+
+-- what is written to a frame descriptor if the frame is stored, and the rest
+abbrev pub storedPieces : World → Storing → List Piece → List Piece
+storedPieces w s rest = piece (inFrame w s 8) header ∷ piece (inFrame w s 0) 2 ∷ (barePiece (isBare (s .frame)) w s ++ rest)
+
+-- out of buffers: kept, or status 0000h alone; either way RSCERRS, then the SCB status
+abbrev pub lackingPieces : (saved : Bool) → World → Storing → List Piece
+lackingPieces true w s = storedPieces w s (piece (inScb w 12) 2 ∷ piece (inScb w statusAt) 2 ∷ [])
+lackingPieces false w s = piece (inFrame w s 0) 2 ∷ piece (inScb w 12) 2 ∷ piece (inScb w statusAt) 2 ∷ []
+
+-- all that an end turn of a good frame writes
 abbrev pub pieces : Ru → World → List Piece
 pieces ru.Idle w = []
 pieces ru.NoResources w = []
@@ -71,20 +90,8 @@ pieces (ru.Suspended fd) w = []
 pieces (ru.Ready fd) w = []
 pieces (ru.Held fd f p) w = []
 pieces (ru.Filling s k) w = []
-pieces (ru.Closing s free full) w =
-    piece (inFrame w s 8) header
-    ∷ piece (inFrame w s 0) 2
-    ∷ piece (inFrame w s 6) 2
-    ∷ piece (nextFirst w s) 2
-    ∷ piece (inScb w statusAt) 2
-    ∷ []
-pieces (ru.Lacking s) w =
-    piece (inFrame w s 8) header
-    ∷ piece (inFrame w s 0) 2
-    ∷ piece (inFrame w s 6) 2
-    ∷ piece (inScb w 12) 2
-    ∷ piece (inScb w statusAt) 2
-    ∷ []
+pieces (ru.Closing s free full) w = storedPieces w s (onwardPiece (s .el || full) w s ++ piece (inScb w statusAt) 2 ∷ [])
+pieces (ru.Lacking s) w = lackingPieces (s .frame .savebad) w s
 
 -- what becomes of a good frame, as facts about memory at exit
 pub data GoodExit (f : Frame) (c : Call) (w : World) : Type 0 where
@@ -108,29 +115,17 @@ pub data GoodExit (f : Frame) (c : Call) (w : World) : Type 0 where
 
 -- ---- a bad frame: no counter moves
 
--- the end turn's pieces, and the four counters, which are none of them
-abbrev pub piecesAndCounters : Ru → World → List Piece
-piecesAndCounters ru.Idle w = []
-piecesAndCounters ru.NoResources w = []
-piecesAndCounters (ru.Suspended fd) w = []
-piecesAndCounters (ru.Ready fd) w = []
-piecesAndCounters (ru.Held fd f p) w = []
-piecesAndCounters (ru.Filling s k) w = []
-piecesAndCounters (ru.Closing s free full) w =
-    piece (inFrame w s 8) header
-    ∷ piece (inFrame w s 0) 2
-    ∷ piece (inFrame w s 6) 2
-    ∷ piece (nextFirst w s) 2
-    ∷ piece (inScb w statusAt) 2
-    ∷ piece (inScb w 8) 8
-    ∷ []
-piecesAndCounters (ru.Lacking s) w =
-    piece (inFrame w s 8) header
-    ∷ piece (inFrame w s 0) 2
-    ∷ piece (inFrame w s 6) 2
-    ∷ piece (inScb w statusAt) 2
-    ∷ piece (inScb w 8) 8
-    ∷ []
+-- all that an end turn of a bad frame writes, and the four counters, which it does not
+abbrev pub badPieces : Ru → World → List Piece
+badPieces ru.Idle w = []
+badPieces ru.NoResources w = []
+badPieces (ru.Suspended fd) w = []
+badPieces (ru.Ready fd) w = []
+badPieces (ru.Held fd f p) w = []
+badPieces (ru.Filling s k) w = []
+badPieces (ru.Closing s free full) w =
+    storedPieces w s (onwardPiece (s .el || full) w s ++ piece (inScb w statusAt) 2 ∷ piece (inScb w 8) 8 ∷ [])
+badPieces (ru.Lacking s) w = storedPieces w s (piece (inScb w statusAt) 2 ∷ piece (inScb w 8) 8 ∷ [])
 
 -- header bytes and status stand, bit 9 is set exactly if out of buffers, FR is set in the record, and the counters are as at entry
 pub record SavedStands (lacking : Bool) (s : Storing) (w : World) (r : Ran) : Type 0 where
