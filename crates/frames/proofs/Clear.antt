@@ -152,7 +152,8 @@ lacking-counters w s c = (
 lacking-by : (saved : Bool) (w : World) (s : Storing) → Clear w s → NoOverlap (size w) (lackingPieces saved w s)
 lacking-by true w s c = bare-less (isBare (s .frame)) w s (piece (inScb w 12) 2 ∷ piece (inScb w statusAt) 2 ∷ []) (lacking-all w s c)
 lacking-by false w s c =
-    less (size w) (piece (inFrame w s 0) 2 ∷ []) (piece (inFrame w s 6) 2) (piece (inScb w 12) 2 ∷ piece (inScb w statusAt) 2 ∷ []) (lacking-all w s c .1)
+    less (size w) (piece (inFrame w s 0) 2 ∷ []) (piece (inFrame w s 6) 2) (piece (inScb w 12) 2 ∷ piece (inScb w statusAt) 2 ∷ [])
+    (lacking-all w s c .1)
 
 pub lacking-clear : (w : World) (s : Storing) → Clear w s → NoOverlap (size w) (pieces (ru.Lacking s) w)
 lacking-clear w s c = lacking-by (s .frame .savebad) w s c
@@ -160,7 +161,8 @@ lacking-clear w s c = lacking-by (s .frame .savebad) w s c
 pub closing-clear : (w : World) (s : Storing) (free : Offset) (full : Bool) → Clear w s → NextClear w s
     → NoOverlap (size w) (pieces (ru.Closing s free full) w)
 closing-clear w s free full c k =
-    let all = less (size w) (front w s (piece (inFrame w s 6) 2 ∷ piece (nextFirst w s) 2 ∷ piece (inScb w statusAt) 2 ∷ [])) (piece (inScb w 8) 8) [] (closing-all w s c k) in
+    let ps = front w s (piece (inFrame w s 6) 2 ∷ piece (nextFirst w s) 2 ∷ piece (inScb w statusAt) 2 ∷ []) in
+    let all = less (size w) ps (piece (inScb w 8) 8) [] (closing-all w s c k) in
     bare-less (isBare (s .frame)) w s (onwardPiece (s .el || full) w s ++ piece (inScb w statusAt) 2 ∷ [])
     (onward-less (s .el || full) w s (piece (inScb w statusAt) 2 ∷ []) all)
 

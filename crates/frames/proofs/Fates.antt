@@ -24,7 +24,7 @@ use Rattle.filter.specs.Match.{matches}
 use Rattle.traces.specs.Event.{Event, call, host}
 use Rattle.frames.specs.Arrival.{unitOf, settingsOf}
 use Rattle.frames.specs.Held.{heldIn, ofHeld, FateOfHeld}
-use Rattle.frames.specs.Fates.{Deed, event, alter, worldAfter, Scene, opening, Noted, noted, Way, by-call, by-altering, Ended, heldAs, still, begunIf, begun, endedIf, endedBy, ended, takes, lastBy, advance, after, beginnings, endings, times, namesOf, isUnaltered, Proper, AllProper, AllFates}
+use Rattle.frames.specs.Fates.{Deed, event, alter, worldAfter, Scene, opening, Noted, noted, Way, by-call, by-altering, Ended, heldAs, still, begunIf, begun, endedIf, endedBy, fateIn, ended, takes, lastBy, advance, after, beginnings, endings, times, namesOf, isUnaltered, Proper, AllProper, AllFates}
 use Rattle.frames.proofs.Sound.{Sound, in-range-sound, good-sound, bad-sound, Went, keeps, ends, attention-went, turn-went, Arrives, kept, comes, arrives, arrival-new, call-sound}
 
 -- ---- one deed
@@ -181,18 +181,23 @@ proper-by : (A : Type 0) (way : Way) (ns : List Noted) → Proper A way → AllP
 proper-by A way [] h = tt
 proper-by A way (n ∷ ns) h = (h, tt)
 
+proper-fate : (A : Type 0) (c : Call) (s : Scene) → AllProper A (fateIn c s)
+proper-fate A c s =
+    let x = ran c (s .world) .outcome .fate in proper-if A (ofHeld x) (s .last) (heldIn (unitOf (s .world))) x refl
+
 proper-event : (A : Type 0) (e : Event) (s : Scene) → AllProper A (ended (event e) s)
 proper-event A (call reset) s = proper-by A (by-call fate.Reset) (still s) refl
-proper-event A (call attention) s = proper-if A (ofHeld (ran attention (s .world) .outcome .fate)) (s .last) (heldIn (unitOf (s .world))) _ refl
-proper-event A (call (arrive f v)) s = proper-if A (ofHeld (ran (arrive f v) (s .world) .outcome .fate)) (s .last) (heldIn (unitOf (s .world))) _ refl
-proper-event A (call (turn report)) s = proper-if A (ofHeld (ran (turn report) (s .world) .outcome .fate)) (s .last) (heldIn (unitOf (s .world))) _ refl
+proper-event A (call attention) s = proper-fate A attention s
+proper-event A (call (arrive f v)) s = proper-fate A (arrive f v) s
+proper-event A (call (turn report)) s = proper-fate A (turn report) s
 proper-event A (host m h out) s = tt
 
 -- an end is by a held frame's fate, or the host altered the record
 pub all-proper : (ds : List Deed) (s : Scene) → AllProper (Unit {0}) (endings ds s)
 all-proper [] s = tt
 all-proper (event e ∷ ds) s =
-    proper-append (Unit {0}) (ended (event e) s) (endings ds (advance (event e) s)) (proper-event (Unit {0}) e s) (all-proper ds (advance (event e) s))
+    proper-append (Unit {0}) (ended (event e) s) (endings ds (advance (event e) s)) (proper-event (Unit {0}) e s)
+    (all-proper ds (advance (event e) s))
 all-proper (alter d r ∷ ds) s =
     proper-append (Unit {0}) (ended (alter d r) s) (endings ds (advance (alter d r) s)) (proper-by (Unit {0}) by-altering (still s) tt)
     (all-proper ds (advance (alter d r) s))

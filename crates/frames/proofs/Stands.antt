@@ -1,7 +1,7 @@
 -- Demand 2 of frames, corollary: where no piece lies over another, stored and counted are facts about memory at exit. Assumes nothing.
 use mathlib.Core.Path.{_≡_, refl, sym, ap, ap₂, _∙_, subst}
 use mathlib.Core.Bool.{Bool, true, false, _||_}
-use mathlib.Core.List.{List, [], _∷_, _++_, append-nil}
+use mathlib.Core.List.{List, [], _∷_, _++_}
 use Prim.Native.Nat.{ℕ, _+_, _%_, _≤_}
 use native.Mathlib.Omega.{arith}
 use lib.ListN.{length, take}
@@ -329,7 +329,8 @@ saved-stands : (lacking : Bool) (s : Storing) (rest : List Write) (w : World) (r
     → SavedStands lacking s w r
 saved-stands lacking s rest w r h l p k =
     let writes = headerTo w s ∷ markTo w s (frameStatus lacking (s .frame)) ∷ rest in
-    let stored = stored-stands lacking s rest w r k h l (separate (length (w .memory)) writes (but-last (length (w .memory)) (piecesOf writes) (piece (inScb w 8) 8) p)) in
+    let apart = separate (length (w .memory)) writes (but-last (length (w .memory)) (piecesOf writes) (piece (inScb w 8) 8) p) in
+    let stored = stored-stands lacking s rest w r k h l apart in
     record {
       stored = stored;
       lacks = ap (λ (n : ℕ). bit n 9) (stored .status) ∙ k .lacks;

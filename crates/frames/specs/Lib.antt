@@ -1,4 +1,4 @@
--- What becomes of each frame, for the laws of this crate.
+-- What becomes of each frame: at an arrival; at every call while it is held; at exit, in memory; over whole traces; where a call is not refused.
 pub mod Arrival
 pub mod Held
 pub mod Stands
