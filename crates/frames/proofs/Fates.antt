@@ -24,7 +24,7 @@ use Rattle.filter.specs.Match.{matches}
 use Rattle.traces.specs.Event.{Event, call, host}
 use Rattle.frames.specs.Arrival.{unitOf, settingsOf}
 use Rattle.frames.specs.Held.{heldIn, ofHeld, FateOfHeld}
-use Rattle.frames.specs.Fates.{Deed, event, alter, worldAfter, Scene, opening, Noted, noted, Way, by-call, by-altering, Ended, heldAs, still, begunIf, begun, endedIf, endedBy, fateIn, ended, takes, lastBy, advance, after, beginnings, endings, times, namesOf, isUnaltered, Proper, AllProper, AllFates}
+use Rattle.frames.specs.Fates.{Deed, event, alter, worldAfter, Scene, opening, Noted, noted, Way, by-call, by-altering, Ended, heldAs, still, begunIf, begun, endedIf, endedBy, fateIn, ended, takes, lastBy, advance, after, beginnings, endings, times, namesOf, fateOne, alterOne, timesFated, timesAltered, isUnaltered, Proper, AllProper, AllFates}
 use Rattle.frames.proofs.Sound.{Sound, in-range-sound, good-sound, bad-sound, Went, keeps, ends, attention-went, turn-went, Arrives, kept, comes, arrives, arrival-new, call-sound}
 
 -- ---- one deed
@@ -122,27 +122,34 @@ names-append : (xs ys : List Ended) → namesOf (xs ++ ys) ≡ namesOf xs ++ nam
 names-append [] ys = refl
 names-append (x ∷ xs) ys = ap (λ (l : List Noted). x .noted ∷ l) (names-append xs ys)
 
--- conservation: an equality of lists. Every frame that was held ends, under its number and as it was judged at its arrival, or is still held; in the
--- order of the arrivals; and nothing else ends
-pub conserved : (ds : List Deed) (s : Scene) → Sound (s .world .device) → namesOf (endings ds s) ++ still (after ds s) ≡ still s ++ beginnings ds s
+conserves : (ds : List Deed) (s : Scene) → Sound (s .world .device) → namesOf (endings ds s) ++ still (after ds s) ≡ still s ++ beginnings ds s
 unfolding Balanced
-conserved [] s k = sym (append-nil (still s))
-conserved (d ∷ ds) s k =
+conserves [] s k = sym (append-nil (still s))
+conserves (d ∷ ds) s k =
     let t = advance d s in
     ap (λ (l : List Noted). l ++ still (after ds t)) (names-append (ended d s) (endings ds t))
     ∙ append-assoc (namesOf (ended d s)) (namesOf (endings ds t)) (still (after ds t))
-    ∙ ap (λ (l : List Noted). namesOf (ended d s) ++ l) (conserved ds t (deed-sound d (s .world) k))
+    ∙ ap (λ (l : List Noted). namesOf (ended d s) ++ l) (conserves ds t (deed-sound d (s .world) k))
     ∙ sym (append-assoc (namesOf (ended d s)) (still t) (beginnings ds t))
     ∙ ap (λ (l : List Noted). l ++ beginnings ds t) (balanced d s k)
     ∙ append-assoc (still s) (begun d s) (beginnings ds t)
 
+-- conservation: an equality of lists. Every frame that was held ends, under its number and as it was judged at its arrival, or is still held; in the
+-- order of the arrivals; and nothing else ends
+pub conserved : (ds : List Deed) (s : Scene) → inRange (s .world .device) ≡ true
+    → namesOf (endings ds s) ++ still (after ds s) ≡ still s ++ beginnings ds s
+conserved ds s r = conserves ds s (in-range-sound (s .world .device) r)
+
+fates-sound : (ds : List Deed) (w : World) → Sound (w .device) → AllFates ds w
+fates-sound [] w k = tt
+fates-sound (event (call c) ∷ ds) w k =
+    (λ f h g. good-sound c w f k h g, λ f h g. bad-sound c w f k h g, fates-sound ds (worldAfter (event (call c)) w) (deed-sound (event (call c)) w k))
+fates-sound (event (host m h out) ∷ ds) w k = fates-sound ds (worldAfter (event (host m h out)) w) k
+fates-sound (alter d r ∷ ds) w k = fates-sound ds (worldAfter (alter d r) w) (in-range-sound d r)
+
 -- at every call on the way the fate is as said of one call
-pub all-fates : (ds : List Deed) (w : World) → Sound (w .device) → AllFates ds w
-all-fates [] w k = tt
-all-fates (event (call c) ∷ ds) w k =
-    (λ f h g. good-sound c w f k h g, λ f h g. bad-sound c w f k h g, all-fates ds (worldAfter (event (call c)) w) (deed-sound (event (call c)) w k))
-all-fates (event (host m h out) ∷ ds) w k = all-fates ds (worldAfter (event (host m h out)) w) k
-all-fates (alter d r ∷ ds) w k = all-fates ds (worldAfter (alter d r) w) (in-range-sound d r)
+pub all-fates : (ds : List Deed) (w : World) → inRange (w .device) ≡ true → AllFates ds w
+all-fates ds w r = fates-sound ds w (in-range-sound (w .device) r)
 
 -- ---- no fate is noted beside what is done
 
@@ -277,22 +284,56 @@ all-once [] ds s k l = not-twice ds s k
 all-once (f ∷ fs) ds s k l =
     counts-once (eqb (s .last) k) (times k (beginnings ds s)) (not-twice ds s k) (λ b. behind ds s k (omega (arith, eqb-true (s .last) k b)))
 
+-- every end is by a fate or by altering
+one-way : (b : Bool) (way : Way) → cond b 1 0 ≡ cond b (fateOne way) 0 + cond b (alterOne way) 0
+one-way true (by-call x) = refl
+one-way true by-altering = refl
+one-way false way = refl
+
+ways : (k : ℕ) (es : List Ended) → times k (namesOf es) ≡ timesFated k es + timesAltered k es
+ways k [] = refl
+ways k (e ∷ es) =
+    let i : times k (namesOf es) ≡ timesFated k es + timesAltered k es = ways k es in
+    omega (arith, one-way (eqb (e .noted .number) k) (e .way))
+
 -- ---- the demand
 
--- from any world in range on: what was held, at first or from an arrival on, under its number k, has exactly one end, noted with its way, or is still
--- held at the end
-pub exactly-one : (w : World) (ds : List Deed) (k : ℕ) → inRange (w .device) ≡ true → 0 < times k (still (opening w) ++ beginnings ds (opening w))
-    → times k (namesOf (endings ds (opening w))) + times k (still (after ds (opening w))) ≡ 1
-exactly-one w ds k r h =
+conserved-times : (w : World) (ds : List Deed) (k : ℕ) → inRange (w .device) ≡ true
+    → timesFated k (endings ds (opening w)) + timesAltered k (endings ds (opening w)) + times k (still (after ds (opening w)))
+    ≡ times k (still (opening w) ++ beginnings ds (opening w))
+conserved-times w ds k r =
     let s = opening w in
-    let c : times k (namesOf (endings ds s) ++ still (after ds s)) ≡ times k (still s ++ beginnings ds s) =
-    ap (times k) (conserved ds s (in-range-sound (w .device) r))
-    in
-    omega (arith, times-append k (namesOf (endings ds s)) (still (after ds s)), all-once (heldIn (unitOf w)) ds s k (omega arith))
+    ap (λ (n : ℕ). n + times k (still (after ds s))) (sym (ways k (endings ds s)))
+    ∙ sym (times-append k (namesOf (endings ds s)) (still (after ds s)))
+    ∙ ap (times k) (conserved ds s r)
 
--- and no other number has one
+-- from any world in range on, whatever happens: a frame that was held, at first or from its arrival on, under the number k, has exactly one fate, or
+-- the host altered the record, or it is still held at the end
+pub exactly-one : (w : World) (ds : List Deed) (k : ℕ) → inRange (w .device) ≡ true
+    → 0 < times k (still (opening w) ++ beginnings ds (opening w))
+    → timesFated k (endings ds (opening w)) + timesAltered k (endings ds (opening w)) + times k (still (after ds (opening w))) ≡ 1
+exactly-one w ds k r h =
+    omega (arith, conserved-times w ds k r, all-once (heldIn (unitOf w)) ds (opening w) k (omega arith))
+
+-- and no fate is noted under a number of which no frame was held
 pub no-other : (w : World) (ds : List Deed) (k : ℕ) → inRange (w .device) ≡ true → times k (still (opening w) ++ beginnings ds (opening w)) ≡ 0
-    → times k (namesOf (endings ds (opening w))) + times k (still (after ds (opening w))) ≡ 0
-no-other w ds k r h =
-    let s = opening w in
-    sym (times-append k (namesOf (endings ds s)) (still (after ds s))) ∙ ap (times k) (conserved ds s (in-range-sound (w .device) r)) ∙ h
+    → timesFated k (endings ds (opening w)) + timesAltered k (endings ds (opening w)) + times k (still (after ds (opening w))) ≡ 0
+no-other w ds k r h = conserved-times w ds k r ∙ h
+
+-- where the host alters no record, it is a fate or it is still held
+not-altered : (b : Bool) (way : Way) → Proper ⊥ way → cond b (alterOne way) 0 ≡ 0
+not-altered true (by-call x) h = refl
+not-altered true by-altering h = absurd h
+not-altered false way h = refl
+
+none-altered : (k : ℕ) (es : List Ended) → AllProper ⊥ es → timesAltered k es ≡ 0
+none-altered k [] h = refl
+none-altered k (e ∷ es) h =
+    let i : timesAltered k es ≡ 0 = none-altered k es (h .1) in
+    omega (arith, not-altered (eqb (e .noted .number) k) (e .way) (h .0))
+
+pub exactly-one-fate : (w : World) (ds : List Deed) (k : ℕ) → inRange (w .device) ≡ true → isUnaltered ds ≡ true
+    → 0 < times k (still (opening w) ++ beginnings ds (opening w))
+    → timesFated k (endings ds (opening w)) + times k (still (after ds (opening w))) ≡ 1
+exactly-one-fate w ds k r u h =
+    omega (arith, exactly-one w ds k r h, none-altered k (endings ds (opening w)) (all-fated ds (opening w) u))

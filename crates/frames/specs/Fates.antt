@@ -143,6 +143,23 @@ times k (n ∷ ns) = cond (eqb (n .number) k) 1 0 + times k ns
 abbrev pub namesOf : List Ended → List Noted
 namesOf es = map (λ (e : Ended). e .noted) es
 
+-- how often an end by a fate is noted under a number, and one by altering
+abbrev pub fateOne : Way → ℕ
+fateOne (by-call x) = 1
+fateOne by-altering = 0
+
+abbrev pub alterOne : Way → ℕ
+alterOne (by-call x) = 0
+alterOne by-altering = 1
+
+abbrev pub timesFated : ℕ → List Ended → ℕ
+timesFated k [] = 0
+timesFated k (e ∷ es) = cond (eqb (e .noted .number) k) (fateOne (e .way)) 0 + timesFated k es
+
+abbrev pub timesAltered : ℕ → List Ended → ℕ
+timesAltered k [] = 0
+timesAltered k (e ∷ es) = cond (eqb (e .noted .number) k) (alterOne (e .way)) 0 + timesAltered k es
+
 -- the host alters no record
 abbrev pub isUnaltered : List Deed → Bool
 isUnaltered [] = true
