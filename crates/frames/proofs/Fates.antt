@@ -143,7 +143,8 @@ conserved ds s r = conserves ds s (in-range-sound (s .world .device) r)
 fates-sound : (ds : List Deed) (w : World) → Sound (w .device) → AllFates ds w
 fates-sound [] w k = tt
 fates-sound (event (call c) ∷ ds) w k =
-    (λ f h g. good-sound c w f k h g, λ f h g. bad-sound c w f k h g, fates-sound ds (worldAfter (event (call c)) w) (deed-sound (event (call c)) w k))
+    let rest = fates-sound ds (worldAfter (event (call c)) w) (deed-sound (event (call c)) w k) in
+    (λ f h g. good-sound c w f k h g, λ f h g. bad-sound c w f k h g, rest)
 fates-sound (event (host m h out) ∷ ds) w k = fates-sound ds (worldAfter (event (host m h out)) w) k
 fates-sound (alter d r ∷ ds) w k = fates-sound ds (worldAfter (alter d r) w) (in-range-sound d r)
 
