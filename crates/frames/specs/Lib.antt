@@ -1,1 +1,6 @@
--- No definitions yet.
+-- What becomes of each frame: at an arrival; at every call while it is held; at exit, in memory; over whole traces; where a call is not refused.
+pub mod Arrival
+pub mod Held
+pub mod Stands
+pub mod Fates
+pub mod Accepted

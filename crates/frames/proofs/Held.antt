@@ -1,0 +1,461 @@
+-- Demand 2 of frames at every call while a frame is held: what becomes of a good one, and of a bad one. Assumes nothing.
+use mathlib.Core.Path.{_≡_, refl, sym, ap, ap₂, _∙_, subst}
+use mathlib.Core.Bool.{Bool, true, false, not, cond, _&&_, _||_, true≢false, false≢true}
+use mathlib.Core.List.{List, [], _∷_, _++_, nil≢cons}
+use Prim.Native.Nat.{ℕ}
+use borrow.Author.Tests.{eqb-true}
+use lib.Dec.{eqb, leb, ltb}
+use lib.ListN.{length}
+use Rattle.memory.specs.Memory.{Write, wordTo, apply}
+use Rattle.memory.specs.declared.Offset.{Offset}
+use Rattle.scb.specs.Control.{ruNext}
+use Rattle.scb.specs.Words.{commandAt, resets, ruc, cuNumber, ruNumber, eventBits}
+use Rattle.scb.specs.declared.RuState.{RuState}
+use Rattle.scb.specs.declared.RuState.the-variants as rus
+use Rattle.device.specs.Answers.{isHeld}
+use Rattle.device.specs.Limits.{header}
+use Rattle.device.specs.State.{cuState, ruState, isActive, isHolding, isGood, fresh}
+use Rattle.device.specs.declared.Device.{Device}
+use Rattle.device.specs.declared.Fate.the-variants as fate
+use Rattle.device.specs.declared.Frame.{Frame}
+use Rattle.device.specs.declared.Ru.{Ru}
+use Rattle.device.specs.declared.Ru.the-variants as ru
+use Rattle.device.specs.declared.Storing.{Storing}
+use Rattle.device.specs.declared.Units.{Units}
+use Rattle.device.specs.declared.Walk.{Walk}
+use Rattle.image.specs.Ranges.{inRange, sized, goesOn, cuFits, initialisedOrFresh, unitsFresh, unitsIdle, settingsFresh, addressesFresh, unitsFit, ruFits, frameFits}
+use Rattle.phases.proofs.Units.{both as parts}
+use Rattle.receive.specs.Arrival as arrivals
+use Rattle.receive.specs.Part as receive
+use Rattle.receive.specs.Begin as begins
+use Rattle.receive.specs.Buffer as buffers
+use Rattle.receive.specs.End.{lack}
+use Rattle.receive.specs.Service as services
+use Rattle.control.specs.Control.{ruGoes, ruSuspended, ruReady, lostBy, abortedRu}
+use Rattle.control.specs.Obey.{obeyCuc, ruObeys, ruFirst, obeyRuc}
+use Rattle.attention.specs.Attention as attentions
+use Rattle.chip.specs.Arrival as chip
+use Rattle.chip.specs.Attention.{attentionOf}
+use Rattle.chip.specs.Call.{Call, reset, attention, arrive, turn, ran}
+use Rattle.chip.specs.Turn.{servedBy, turnBy, turnOf, commandTurn, receiveTurn, concluded}
+use Rattle.chip.specs.World.{World, Ran, writing, resetOf}
+use Rattle.filter.specs.Match.{matches}
+use Rattle.frames.specs.Arrival.{inScb, unitOf, settingsOf}
+use Rattle.frames.specs.Held.{heldIn, ofHeld, commandOf, loses, endIsNext, servedRu, ends, StaysHeld, Lost, by-reset, by-resetting, by-abort, GoodFate, BadFate}
+use Rattle.frames.specs.Held as held
+use Rattle.frames.proofs.End.{part, turned, Closed, closed, Both, both, OnlyCounted, only-counted, Kept, kept}
+
+-- ---- a unit that holds a frame
+
+pub none≢one : {f : Frame} → [] ≡ f ∷ [] → ⊥
+none≢one e = nil≢cons e
+
+pub holds : (u : Ru) (f : Frame) → heldIn u ≡ f ∷ [] → isHolding u ≡ true
+holds ru.Idle f h = absurd (none≢one h)
+holds ru.NoResources f h = absurd (none≢one h)
+holds (ru.Suspended fd) f h = absurd (none≢one h)
+holds (ru.Ready fd) f h = absurd (none≢one h)
+holds (ru.Held fd g p) f h = refl
+holds (ru.Filling s w) f h = refl
+holds (ru.Closing s free full) f h = refl
+holds (ru.Lacking s) f h = refl
+
+firstOf : Frame → List Frame → Frame
+firstOf d [] = d
+firstOf d (f ∷ fs) = f
+
+pub same-frame : (f g : Frame) → g ∷ [] ≡ f ∷ [] → g ≡ f
+unfolding firstOf
+same-frame f g e = ap (firstOf f) e
+
+-- ---- in range
+
+-- a device that is not initialised is the fresh one, which holds nothing
+not-idle : (c : Bool) (u : Ru) → isHolding u ≡ true → (c && eqb (ruNumber (ruState u)) 0) ≡ true → ⊥
+not-idle c ru.Idle h i = false≢true h
+not-idle c ru.NoResources h i = false≢true h
+not-idle c (ru.Suspended fd) h i = false≢true h
+not-idle c (ru.Ready fd) h i = false≢true h
+not-idle c (ru.Held fd g p) h i = false≢true (parts c _ i .1)
+not-idle c (ru.Filling s w) h i = false≢true (parts c _ i .1)
+not-idle c (ru.Closing s free full) h i = false≢true (parts c _ i .1)
+not-idle c (ru.Lacking s) h i = false≢true (parts c _ i .1)
+
+pub or-left : (a b : Bool) → (a || b) ≡ true → (b ≡ true → ⊥) → a ≡ true
+or-left true b h n = refl
+or-left false b h n = absurd (n h)
+
+fresh-idle : (u : Units) → isHolding (u .ru) ≡ true → unitsFresh u ≡ true → ⊥
+unfolding unitsFresh
+fresh-idle u h i =
+    not-idle (eqb (cuNumber (cuState (u .cu))) 0) (u .ru) h
+    (parts
+    (eqb (eventBits (u .events)) 0 && not (u .rulast) && eqb (u .base .0) 0 && eqb (u .scb .0) 0 && settingsFresh (u .settings))
+    (unitsIdle (u .cu) (u .ru)) i
+    .1)
+
+pub held-initialised : (d : Device) → inRange d ≡ true → isHolding (d .units .ru) ≡ true → d .units .initialised ≡ true
+unfolding inRange initialisedOrFresh
+held-initialised d r h =
+    or-left (d .units .initialised) (unitsFresh (d .units) && addressesFresh d) (parts (unitsFit (d .units)) (initialisedOrFresh d) r .1)
+    (λ i. fresh-idle (d .units) h (parts (unitsFresh (d .units)) (addressesFresh d) i .0))
+
+-- a bad frame is held only to be saved
+frame-saved : (f : Frame) → frameFits f ≡ true → (isGood f || f .savebad) ≡ true
+unfolding frameFits
+frame-saved f h = parts (sized (f .length)) (isGood f || f .savebad) h .1
+
+unit-saved : (u : Ru) (f : Frame) → heldIn u ≡ f ∷ [] → ruFits u ≡ true → (isGood f || f .savebad) ≡ true
+unfolding ruFits
+unit-saved ru.Idle f h r = absurd (none≢one h)
+unit-saved ru.NoResources f h r = absurd (none≢one h)
+unit-saved (ru.Suspended fd) f h r = absurd (none≢one h)
+unit-saved (ru.Ready fd) f h r = absurd (none≢one h)
+unit-saved (ru.Held fd g p) f h r = frame-saved f (ap frameFits (sym (same-frame f g h)) ∙ r)
+unit-saved (ru.Filling s w) f h r =
+    frame-saved f
+    (ap frameFits (sym (same-frame f (s .frame) h))
+    ∙ parts (frameFits (s .frame)) (goesOn w)
+    (parts (frameFits (s .frame) && goesOn w) (leb header (w .filled))
+    (parts (frameFits (s .frame) && goesOn w && leb header (w .filled)) (ltb (w .filled) (s .frame .length)) r .0)
+    .0)
+    .0)
+unit-saved (ru.Closing s free full) f h r =
+    frame-saved f
+    (ap frameFits (sym (same-frame f (s .frame) h)) ∙ parts (frameFits (s .frame)) (ltb header (s .frame .length) || not full) r .0)
+unit-saved (ru.Lacking s) f h r =
+    frame-saved f (ap frameFits (sym (same-frame f (s .frame) h)) ∙ parts (frameFits (s .frame)) (ltb header (s .frame .length)) r .0)
+
+units-fit : (u : Units) → unitsFit u ≡ true → ruFits (u .ru) ≡ true
+unfolding unitsFit
+units-fit u h = parts (ltb (u .base .0) 16777216 && cuFits (u .cu)) (ruFits (u .ru)) h .1
+
+pub held-saved : (d : Device) (f : Frame) → inRange d ≡ true → heldIn (d .units .ru) ≡ f ∷ [] → (isGood f || f .savebad) ≡ true
+unfolding inRange
+held-saved d f r h = unit-saved (d .units .ru) f h (units-fit (d .units) (parts (unitsFit (d .units)) (initialisedOrFresh d) r .0))
+
+-- ---- what every held frame can come to, good or bad
+
+pub data HeldFate (f : Frame) (c : Call) (w : World) : Type 0 where
+  stays : loses c w ≡ false → ends c w ≡ false → StaysHeld f w (ran c w) → HeldFate f c w
+  closing : (s : Storing) (free : Offset) (full : Bool) → ends c w ≡ true → unitOf w ≡ ru.Closing s free full → s .frame ≡ f
+      → Closed w s free full (ran c w)
+      → HeldFate f c w
+  lacking : (s : Storing) → ends c w ≡ true → unitOf w ≡ ru.Lacking s → s .frame ≡ f
+      → turned w (lack (part w) s (w .memory)) ≡ ran c w
+      → HeldFate f c w
+  lost : loses c w ≡ true → Lost w c → HeldFate f c w
+
+-- ---- an arrival
+
+arrival-fate : (few matched : Bool) (u : Ru) (j f : Frame) → heldIn u ≡ f ∷ []
+    → (isHeld (arrivals.fateBy few matched u j) ≡ false) × (ofHeld (arrivals.fateBy few matched u j) ≡ false)
+arrival-fate true matched u j f h = (refl, refl)
+arrival-fate false false u j f h = (refl, refl)
+arrival-fate false true ru.Idle j f h = absurd (none≢one h)
+arrival-fate false true ru.NoResources j f h = absurd (none≢one h)
+arrival-fate false true (ru.Suspended fd) j f h = absurd (none≢one h)
+arrival-fate false true (ru.Ready fd) j f h = absurd (none≢one h)
+arrival-fate false true (ru.Held fd g p) j f h = (refl, refl)
+arrival-fate false true (ru.Filling s w) j f h = (refl, refl)
+arrival-fate false true (ru.Closing s free full) j f h = (refl, refl)
+arrival-fate false true (ru.Lacking s) j f h = (refl, refl)
+
+at-arrival : (w : World) (f : Frame) (bs : List ℕ) (v : ℕ) → heldIn (unitOf w) ≡ f ∷ [] → StaysHeld f w (chip.arrivalOf w bs v)
+unfolding chip.arrivalOf chip.arrival arrivals.arrival arrivals.fateOf
+at-arrival w f bs v h =
+    let k =
+    arrival-fate (ltb (length bs) header) (matches (settingsOf w) (w .device .own) (w .device .listed) bs) (unitOf w)
+    (arrivals.judged (settingsOf w) bs v) f h
+    in
+    record { unit = rw (k .0) h; holding = rw (k .0); fate = k .1 }
+
+-- ---- an attention
+
+unfoldable pub attended : World → attentions.Attended → Ran
+attended w a = writing w (a .writes) (a .outcome)
+
+pub to-attend : (w : World) → w .device .units .initialised ≡ true
+    → attended w (attentions.attendBy (resets (commandOf w)) (w .device) (commandOf w) (w .memory)) ≡ attentionOf w
+unfolding attended attentionOf attentions.attention attentions.attend
+to-attend w i = ap (λ (b : Bool). attended w (attentions.attentionBy b (w .device) (w .memory))) (sym i)
+
+-- it resets
+reset-fate : (w : World) → isHolding (unitOf w) ≡ true → attended w (attentions.resetBy (w .device)) .outcome .fate ≡ fate.Reset
+unfolding attended attentions.resetBy
+reset-fate w h = ap (λ (b : Bool). lostBy fate.Reset b false) h
+
+reset-fresh : (w : World) → attended w (attentions.resetBy (w .device)) .outcome .device ≡ fresh
+unfolding attended attentions.resetBy
+reset-fresh w = refl
+
+reset-memory : (w : World) → attended w (attentions.resetBy (w .device)) .memory ≡ apply (wordTo (inScb w commandAt) 0x0000 ∷ []) (w .memory)
+unfolding attended attentions.resetBy
+reset-memory w = refl
+
+at-reset : (w : World) → isHolding (unitOf w) ≡ true → resets (commandOf w) ≡ true → attended w (attentions.resetBy (w .device)) ≡ attentionOf w
+    → Lost w attention
+at-reset w h r e =
+    by-resetting r (ap (λ (x : Ran). x .outcome .fate) (sym e) ∙ reset-fate w h) (ap (λ (x : Ran). x .outcome .device) (sym e) ∙ reset-fresh w)
+    (ap (λ (x : Ran). x .memory) (sym e) ∙ reset-memory w)
+
+-- it obeys, and the table leads the receive unit to n
+unfoldable pub obeyed : RuState → World → Ran
+obeyed n w =
+    let u = w .device .units in
+    let c = obeyCuc u (commandOf w) (w .memory) in
+    attended w (attentions.obeyedBy (w .device) (commandOf w) c (ruObeys n u (ruFirst u (commandOf w) (apply (c .writes) (w .memory)))))
+
+pub obey-is : (w : World)
+    → obeyed (ruNext (ruc (commandOf w)) (ruState (unitOf w))) w ≡ attended w (attentions.obey (w .device) (commandOf w) (w .memory))
+unfolding obeyed attentions.obey obeyRuc
+obey-is w = refl
+
+record Aborted (w : World) (r : Ran) : Type 0 where
+  fate : r .outcome .fate ≡ fate.Aborted
+  unit : r .outcome .device .units .ru ≡ ru.Idle
+  memory :
+      r .memory
+      ≡ apply (obeyCuc (w .device .units) (commandOf w) (w .memory) .writes ++ abortedRu (w .device .units .base) (unitOf w)
+      ++ attentions.settledWrites (r .outcome .device .units)) (w .memory)
+
+aborted-idle : (w : World) → isHolding (unitOf w) ≡ true → Aborted w (obeyed rus.Idle w)
+unfolding obeyed attended attentions.unitsAfter
+aborted-idle w h = record { fate = ap (λ (b : Bool). lostBy fate.Aborted b false) h; unit = refl; memory = refl }
+
+abbrev pub isIdle : RuState → Bool
+isIdle rus.Idle = true
+isIdle rus.Suspended = false
+isIdle rus.NoResources = false
+isIdle rus.Ready = false
+
+-- a unit that does not go to Idle keeps its frame
+suspended-keeps : (u : Ru) → heldIn (ruSuspended u) ≡ heldIn u
+suspended-keeps ru.Idle = refl
+suspended-keeps ru.NoResources = refl
+suspended-keeps (ru.Suspended fd) = refl
+suspended-keeps (ru.Ready fd) = refl
+suspended-keeps (ru.Held fd f p) = refl
+suspended-keeps (ru.Filling s w) = refl
+suspended-keeps (ru.Closing s free full) = refl
+suspended-keeps (ru.Lacking s) = refl
+
+ready-keeps : (first : Offset) (u : Ru) → heldIn (ruReady first u) ≡ heldIn u
+ready-keeps first ru.Idle = refl
+ready-keeps first ru.NoResources = refl
+ready-keeps first (ru.Suspended fd) = refl
+ready-keeps first (ru.Ready fd) = refl
+ready-keeps first (ru.Held fd f p) = refl
+ready-keeps first (ru.Filling s w) = refl
+ready-keeps first (ru.Closing s free full) = refl
+ready-keeps first (ru.Lacking s) = refl
+
+pub goes-on : (n : RuState) (first : Offset) (u : Ru) → isIdle n ≡ false → heldIn (ruGoes n first u) ≡ heldIn u
+goes-on rus.Idle first u i = absurd (true≢false i)
+goes-on rus.Suspended first u i = suspended-keeps u
+goes-on rus.NoResources first u i = refl
+goes-on rus.Ready first u i = ready-keeps first u
+
+pub not-lost : (a b : Bool) → b ≡ true → ofHeld (lostBy fate.Aborted a b) ≡ false
+not-lost true true h = refl
+not-lost true false h = absurd (false≢true h)
+not-lost false b h = refl
+
+obeyed-keeps : (n : RuState) (w : World) (f : Frame) → heldIn (unitOf w) ≡ f ∷ [] → isIdle n ≡ false → StaysHeld f w (obeyed n w)
+unfolding obeyed attended attentions.unitsAfter
+obeyed-keeps n w f h i =
+    let u = w .device .units in
+    let first = ruFirst u (commandOf w) (apply (obeyCuc u (commandOf w) (w .memory) .writes) (w .memory)) in
+    let k : heldIn (ruGoes n first (unitOf w)) ≡ f ∷ [] = goes-on n first (unitOf w) i ∙ h in
+    record {
+      unit = k;
+      holding = refl;
+      fate = not-lost (isHolding (unitOf w)) (isHolding (ruGoes n first (unitOf w))) (holds (ruGoes n first (unitOf w)) f k);
+    }
+
+-- the table, from Ready: ABORT alone leads to Idle
+next-by : (a b c : Bool) → isIdle (cond a rus.Ready (cond b rus.Ready (cond c rus.Suspended rus.Ready))) ≡ false
+next-by true b c = refl
+next-by false true c = refl
+next-by false false true = refl
+next-by false false false = refl
+
+next-kept : (code : ℕ) → eqb code 4 ≡ false → isIdle (ruNext code rus.Ready) ≡ false
+unfolding ruNext
+next-kept code h = rw h (next-by (eqb code 1) (eqb code 2) (eqb code 3))
+
+next-idle : (code : ℕ) → code ≡ 4 → ruNext code rus.Ready ≡ rus.Idle
+unfolding ruNext
+next-idle code h = rw h
+
+held-state : (u : Ru) (f : Frame) → heldIn u ≡ f ∷ [] → ruState u ≡ rus.Ready
+held-state ru.Idle f h = absurd (none≢one h)
+held-state ru.NoResources f h = absurd (none≢one h)
+held-state (ru.Suspended fd) f h = absurd (none≢one h)
+held-state (ru.Ready fd) f h = absurd (none≢one h)
+held-state (ru.Held fd g p) f h = refl
+held-state (ru.Filling s w) f h = refl
+held-state (ru.Closing s free full) f h = refl
+held-state (ru.Lacking s) f h = refl
+
+at-abort : (w : World) → resets (commandOf w) ≡ false → ruc (commandOf w) ≡ 4 → Aborted w (attentionOf w) → Lost w attention
+at-abort w r a x = by-abort r a (x .fate) (x .unit) (x .memory)
+
+at-attention : (reset aborts : Bool) (w : World) (f : Frame) → heldIn (unitOf w) ≡ f ∷ [] → w .device .units .initialised ≡ true
+    → resets (commandOf w) ≡ reset → eqb (ruc (commandOf w)) 4 ≡ aborts → HeldFate f attention w
+at-attention true aborts w f h i r a =
+    let to = ap (λ (b : Bool). attended w (attentions.attendBy b (w .device) (commandOf w) (w .memory))) (sym r) ∙ to-attend w i in
+    lost (ap (λ (x : Bool). x || eqb (ruc (commandOf w)) 4) r) (at-reset w (holds (unitOf w) f h) r to)
+at-attention false true w f h i r a =
+    let to = ap (λ (b : Bool). attended w (attentions.attendBy b (w .device) (commandOf w) (w .memory))) (sym r) ∙ to-attend w i in
+    let n = ap₂ ruNext (eqb-true (ruc (commandOf w)) 4 a) (held-state (unitOf w) f h) ∙ next-idle 4 refl in
+    lost (ap₂ (λ (x y : Bool). x || y) r a)
+    (at-abort w r (eqb-true (ruc (commandOf w)) 4 a)
+    (subst (Aborted w) (ap (λ (x : RuState). obeyed x w) (sym n) ∙ obey-is w ∙ to) (aborted-idle w (holds (unitOf w) f h))))
+at-attention false false w f h i r a =
+    let to = ap (λ (b : Bool). attended w (attentions.attendBy b (w .device) (commandOf w) (w .memory))) (sym r) ∙ to-attend w i in
+    let n = ap isIdle (ap (ruNext (ruc (commandOf w))) (held-state (unitOf w) f h)) ∙ next-kept (ruc (commandOf w)) a in
+    stays (ap₂ (λ (x y : Bool). x || y) r a) refl
+    (subst (StaysHeld f w) (obey-is w ∙ to) (obeyed-keeps (ruNext (ruc (commandOf w)) (ruState (unitOf w))) w f h n))
+
+-- ---- a turn
+
+-- the command unit is served
+command-keeps : (w : World) (f : Frame) (report : ℕ) → heldIn (unitOf w) ≡ f ∷ [] → StaysHeld f w (commandTurn w report)
+unfolding commandTurn concluded
+command-keeps w f report h = record { unit = h; holding = refl; fate = refl }
+
+-- the receive unit is
+pub to-turned : (w : World) (u : Ru) → unitOf w ≡ u → turned w (services.serviceBy u (part w) (w .memory)) ≡ receiveTurn w
+unfolding turned receiveTurn services.service
+to-turned w u e = ap (λ (x : Ru). turned w (services.serviceBy x (part w) (w .memory))) (sym e)
+
+first-keeps : (bare none : Bool) (s : Storing) (o : Offset) → heldIn (begins.toFirst bare none s o) ≡ s .frame ∷ []
+first-keeps true none s o = refl
+first-keeps false true s o = refl
+first-keeps false false s o = refl
+
+buffer-keeps : (done el none last : Bool) (s : Storing) (w : Walk) → heldIn (buffers.afterBuffer done el none last s w) ≡ s .frame ∷ []
+buffer-keeps true el none last s w = refl
+buffer-keeps false true none last s w = refl
+buffer-keeps false false true last s w = refl
+buffer-keeps false false false true s w = refl
+buffer-keeps false false false false s w = refl
+
+quiet-keeps : (w : World) (u : Ru) (ws : List Write) (f : Frame) → heldIn u ≡ f ∷ [] → StaysHeld f w (turned w (receive.quietly u ws))
+unfolding turned concluded
+quiet-keeps w u ws f h = record { unit = h; holding = refl; fate = refl }
+
+begin-keeps : (w : World) (fd : Offset) (f : Frame) (p : Bool) → StaysHeld f w (turned w (begins.begin (part w) fd f p (w .memory)))
+unfolding begins.begin begins.begunBy
+begin-keeps w fd f p = quiet-keeps w _ _ f (rw first-keeps)
+
+fill-keeps : (w : World) (s : Storing) (k : Walk) → StaysHeld (s .frame) w (turned w (buffers.buffer (part w) s k (w .memory)))
+unfolding buffers.buffer
+fill-keeps w s k = quiet-keeps w _ _ (s .frame) (rw buffer-keeps)
+
+at-service : (u : Ru) (w : World) (f : Frame) (c : Call) → unitOf w ≡ u → heldIn u ≡ f ∷ []
+    → turned w (services.serviceBy u (part w) (w .memory)) ≡ ran c w
+    → loses c w ≡ false → ends c w ≡ endIsNext u → HeldFate f c w
+at-service ru.Idle w f c e h r l n = absurd (none≢one h)
+at-service ru.NoResources w f c e h r l n = absurd (none≢one h)
+at-service (ru.Suspended fd) w f c e h r l n = absurd (none≢one h)
+at-service (ru.Ready fd) w f c e h r l n = absurd (none≢one h)
+at-service (ru.Held fd g p) w f c e h r l n =
+    let k = subst (λ (x : Frame). StaysHeld x w (turned w (begins.begin (part w) fd g p (w .memory)))) (same-frame f g h) (begin-keeps w fd g p) in
+    stays l n (subst (StaysHeld f w) r k)
+at-service (ru.Filling s k) w f c e h r l n =
+    let e′ = same-frame f (s .frame) h in
+    let j = subst (λ (x : Frame). StaysHeld x w (turned w (buffers.buffer (part w) s k (w .memory)))) e′ (fill-keeps w s k) in
+    stays l n (subst (StaysHeld f w) r j)
+at-service (ru.Closing s free full) w f c e h r l n =
+    closing s free full n e (same-frame f (s .frame) h) (subst (Closed w s free full) r (closed w s free full))
+at-service (ru.Lacking s) w f c e h r l n = lacking s n e (same-frame f (s .frame) h) r
+
+pub served-as : (c h l : Bool) (w : World) (report : ℕ) → isActive (cuState (w .device .units .cu)) ≡ c → isHolding (unitOf w) ≡ h
+    → w .device .units .rulast ≡ l
+    → turnBy (servedBy c h l) w report ≡ turnOf w report
+unfolding turnOf
+served-as c h l w report a b d =
+    ap (λ (x : Bool). turnBy (servedBy x h l) w report) (sym a)
+    ∙ ap (λ (x : Bool). turnBy (servedBy (isActive (cuState (w .device .units .cu))) x l) w report) (sym b)
+    ∙ ap (λ (x : Bool). turnBy (servedBy (isActive (cuState (w .device .units .cu))) (isHolding (unitOf w)) x) w report) (sym d)
+
+ends-as : (c h l : Bool) (w : World) (report : ℕ) → isActive (cuState (w .device .units .cu)) ≡ c → isHolding (unitOf w) ≡ h
+    → w .device .units .rulast ≡ l
+    → ends (turn report) w ≡ (servedRu c h l && endIsNext (unitOf w))
+ends-as c h l w report a b d =
+    ap (λ (x : Bool). servedRu (isActive (cuState (w .device .units .cu))) (isHolding (unitOf w)) x && endIsNext (unitOf w)) d
+    ∙ ap (λ (x : Bool). servedRu (isActive (cuState (w .device .units .cu))) x l && endIsNext (unitOf w)) b
+    ∙ ap (λ (x : Bool). servedRu x h l && endIsNext (unitOf w)) a
+
+at-turn : (c l : Bool) (w : World) (f : Frame) (report : ℕ) → heldIn (unitOf w) ≡ f ∷ [] → isActive (cuState (w .device .units .cu)) ≡ c
+    → w .device .units .rulast ≡ l
+    → HeldFate f (turn report) w
+at-turn true true w f report h a b =
+    let k = holds (unitOf w) f h in
+    stays refl (ends-as true true true w report a k b) (subst (StaysHeld f w) (served-as true true true w report a k b) (command-keeps w f report h))
+at-turn true false w f report h a b =
+    let k = holds (unitOf w) f h in
+    at-service (unitOf w) w f (turn report) refl h (to-turned w (unitOf w) refl ∙ served-as true true false w report a k b) refl
+    (ends-as true true false w report a k b)
+at-turn false l w f report h a b =
+    let k = holds (unitOf w) f h in
+    at-service (unitOf w) w f (turn report) refl h (to-turned w (unitOf w) refl ∙ served-as false true l w report a k b) refl
+    (ends-as false true l w report a k b)
+
+-- ---- every call
+
+reset-lost : (w : World) → Lost w reset
+unfolding resetOf
+reset-lost w = by-reset refl refl
+
+pub held-fate : (c : Call) (w : World) (f : Frame) → w .device .units .initialised ≡ true → heldIn (unitOf w) ≡ f ∷ [] → HeldFate f c w
+held-fate reset w f i h = lost refl (reset-lost w)
+held-fate attention w f i h = at-attention (resets (commandOf w)) (eqb (ruc (commandOf w)) 4) w f h i refl refl
+held-fate (arrive bs v) w f i h = stays refl refl (at-arrival w f bs v h)
+held-fate (turn report) w f i h = at-turn (isActive (cuState (w .device .units .cu))) (w .device .units .rulast) w f report h refl refl
+
+-- ---- a good one
+
+good-lacking : (saved : Bool) (c : Call) (w : World) (f : Frame) (s : Storing) → ends c w ≡ true → unitOf w ≡ ru.Lacking s → s .frame ≡ f
+    → isGood f ≡ true → f .savebad ≡ saved
+    → turned w (lack (part w) s (w .memory)) ≡ ran c w → GoodFate f c w
+good-lacking true c w f s n e q g b r =
+    let x = subst (Both w s) r (both w s (ap (λ (k : Frame). k .savebad) q ∙ b) (ap isGood q ∙ g)) in
+    held.both s n e q b (x .fate) (x .stored) (x .counted)
+good-lacking false c w f s n e q g b r =
+    let x = subst (OnlyCounted w s) r (only-counted w s (ap (λ (k : Frame). k .savebad) q ∙ b) (ap isGood q ∙ g)) in
+    held.counted s n e q b (x .fate) (x .counted)
+
+pub good-of : (c : Call) (w : World) (f : Frame) → isGood f ≡ true → HeldFate f c w → GoodFate f c w
+good-of c w f g (stays l n k) = held.stays l n k
+good-of c w f g (closing s free full n e q k) = held.stored s free full n e q (k .fate) (k .stored)
+good-of c w f g (lacking s n e q r) = good-lacking (f .savebad) c w f s n e q g refl r
+good-of c w f g (lost l k) = held.lost l k
+
+-- every call, while a good frame is held: it stays held; or it is stored; or counted; or both, exactly if kept with too few buffers; or lost, and
+-- only by an RU abort, the reset call or a resetting attention
+pub good-held : (c : Call) (w : World) (f : Frame) → inRange (w .device) ≡ true → heldIn (unitOf w) ≡ f ∷ [] → isGood f ≡ true → GoodFate f c w
+good-held c w f r h g = good-of c w f g (held-fate c w f (held-initialised (w .device) r (holds (unitOf w) f h)) h)
+
+-- ---- a bad one
+
+pub or-right : (a b : Bool) → (a || b) ≡ true → a ≡ false → b ≡ true
+or-right true b h n = absurd (true≢false n)
+or-right false b h n = h
+
+pub bad-of : (c : Call) (w : World) (f : Frame) → isGood f ≡ false → f .savebad ≡ true → HeldFate f c w → BadFate f c w
+bad-of c w f g b (stays l n k) = held.stays l n k
+bad-of c w f g b (closing s free full n e q k) = held.stored s free full n e q (k .fate) (k .stored)
+bad-of c w f g b (lacking s n e q r) =
+    let x = subst (Kept w s) r (kept w s (ap (λ (k : Frame). k .savebad) q ∙ b) (ap isGood q ∙ g)) in
+    held.lacking s n e q (x .fate) (x .stored)
+bad-of c w f g b (lost l k) = held.lost l k
+
+-- every call, while a bad frame is held: it stays held; or is stored, with bit 9 if out of buffers, and no counter moves in that turn; or is lost in
+-- the same three ways
+pub bad-held : (c : Call) (w : World) (f : Frame) → inRange (w .device) ≡ true → heldIn (unitOf w) ≡ f ∷ [] → isGood f ≡ false → BadFate f c w
+bad-held c w f r h g =
+    bad-of c w f g (or-right (isGood f) (f .savebad) (held-saved (w .device) f r h) g)
+    (held-fate c w f (held-initialised (w .device) r (holds (unitOf w) f h)) h)

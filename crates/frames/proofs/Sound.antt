@@ -1,0 +1,428 @@
+-- What holds of every state that calls can lead to, as far as held frames ask for it: a unit that is not Idle is an initialised chip's, and a bad
+-- frame is held only to be saved. Assumes nothing.
+use mathlib.Core.Path.{_≡_, refl, sym, ap, ap₂, _∙_, subst}
+use mathlib.Core.Bool.{Bool, true, false, not, _&&_, _||_, false≢true}
+use mathlib.Core.List.{List, [], _∷_}
+use mathlib.Core.Logic.{_⊎_, inl, inr}
+use Prim.Native.Nat.{ℕ}
+use lib.Dec.{eqb, ltb}
+use lib.ListN.{length}
+use Rattle.memory.specs.Memory.{apply}
+use Rattle.memory.specs.declared.Offset.{Offset}
+use Rattle.scb.specs.Control.{ruNext}
+use Rattle.scb.specs.Words.{resets, ruc, cuNumber, ruNumber, eventBits}
+use Rattle.scb.specs.declared.RuState.{RuState}
+use Rattle.scb.specs.declared.RuState.the-variants as rus
+use Rattle.device.specs.Answers.{isHeld}
+use Rattle.device.specs.Limits.{header}
+use Rattle.device.specs.State.{cuState, ruState, isActive, isHolding, isGood, fresh}
+use Rattle.device.specs.declared.Counter.{Counter}
+use Rattle.device.specs.declared.Device.{Device}
+use Rattle.device.specs.declared.Fate.the-variants as fate
+use Rattle.device.specs.declared.Frame.{Frame}
+use Rattle.device.specs.declared.Ru.{Ru}
+use Rattle.device.specs.declared.Ru.the-variants as ru
+use Rattle.device.specs.declared.Units.{Units}
+use Rattle.image.specs.Ranges.{inRange, initialisedOrFresh, unitsFresh, unitsIdle, settingsFresh, addressesFresh, unitsFit}
+use Rattle.phases.proofs.Units.{both as parts}
+use Rattle.receive.specs.Arrival as arrivals
+use Rattle.control.specs.Control.{ruGoes, lostBy}
+use Rattle.control.specs.Obey.{obeyCuc, ruFirst}
+use Rattle.attention.specs.Attention as attentions
+use Rattle.chip.specs.Arrival as chip
+use Rattle.chip.specs.Attention.{attentionOf}
+use Rattle.chip.specs.Call.{Call, reset, attention, arrive, turn, ran}
+use Rattle.chip.specs.Turn.{servedBy, turnBy, turnOf, commandTurn, receiveTurn, concluded}
+use Rattle.chip.specs.World.{World, Ran, resetOf}
+use Rattle.filter.specs.Match.{matches}
+use Rattle.frames.specs.Arrival.{unitOf, settingsOf}
+use Rattle.frames.specs.Held.{heldIn, ofHeld, commandOf, loses, Lost, by-resetting, by-abort, GoodFate, BadFate}
+use Rattle.frames.specs.Held as held
+use Rattle.frames.proofs.Held.{none≢one, same-frame, or-left, or-right, held-saved, held-fate, good-of, bad-of, goes-on, attended, obeyed, obey-is, to-attend, served-as}
+
+-- the unit is Idle
+abbrev pub idle : Ru → Bool
+idle ru.Idle = true
+idle ru.NoResources = false
+idle (ru.Suspended fd) = false
+idle (ru.Ready fd) = false
+idle (ru.Held fd f p) = false
+idle (ru.Filling s w) = false
+idle (ru.Closing s free full) = false
+idle (ru.Lacking s) = false
+
+pub record Sound (d : Device) : Type 0 where
+  pub started : (d .units .initialised || idle (d .units .ru)) ≡ true
+  pub saved : (f : Frame) → heldIn (d .units .ru) ≡ f ∷ [] → (isGood f || f .savebad) ≡ true
+
+-- ---- every state in range is such
+
+number-idle : (u : Ru) → eqb (ruNumber (ruState u)) 0 ≡ true → idle u ≡ true
+number-idle ru.Idle h = refl
+number-idle ru.NoResources h = absurd (false≢true h)
+number-idle (ru.Suspended fd) h = absurd (false≢true h)
+number-idle (ru.Ready fd) h = absurd (false≢true h)
+number-idle (ru.Held fd f p) h = absurd (false≢true h)
+number-idle (ru.Filling s w) h = absurd (false≢true h)
+number-idle (ru.Closing s free full) h = absurd (false≢true h)
+number-idle (ru.Lacking s) h = absurd (false≢true h)
+
+fresh-idle : (u : Units) → unitsFresh u ≡ true → idle (u .ru) ≡ true
+unfolding unitsFresh
+fresh-idle u i =
+    number-idle (u .ru)
+    (parts (eqb (cuNumber (cuState (u .cu))) 0) (eqb (ruNumber (ruState (u .ru))) 0)
+    (parts
+    (eqb (eventBits (u .events)) 0 && not (u .rulast) && eqb (u .base .0) 0 && eqb (u .scb .0) 0 && settingsFresh (u .settings))
+    (unitsIdle (u .cu) (u .ru)) i
+    .1)
+    .1)
+
+or-by : (a b c : Bool) → (a || b) ≡ true → (b ≡ true → c ≡ true) → (a || c) ≡ true
+or-by true b c h k = refl
+or-by false b c h k = k h
+
+pub in-range-sound : (d : Device) → inRange d ≡ true → Sound d
+unfolding inRange initialisedOrFresh
+in-range-sound d r =
+    record {
+      started =
+          or-by (d .units .initialised) (unitsFresh (d .units) && addressesFresh d) (idle (d .units .ru))
+          (parts (unitsFit (d .units)) (initialisedOrFresh d) r .1)
+          (λ k. fresh-idle (d .units) (parts (unitsFresh (d .units)) (addressesFresh d) k .0));
+      saved = λ f h. held-saved d f r h;
+    }
+
+held-busy : (u : Ru) (f : Frame) → heldIn u ≡ f ∷ [] → idle u ≡ true → ⊥
+held-busy ru.Idle f h i = none≢one h
+held-busy ru.NoResources f h i = false≢true i
+held-busy (ru.Suspended fd) f h i = false≢true i
+held-busy (ru.Ready fd) f h i = false≢true i
+held-busy (ru.Held fd g p) f h i = false≢true i
+held-busy (ru.Filling s w) f h i = false≢true i
+held-busy (ru.Closing s free full) f h i = false≢true i
+held-busy (ru.Lacking s) f h i = false≢true i
+
+pub sound-initialised : (d : Device) (f : Frame) → Sound d → heldIn (d .units .ru) ≡ f ∷ [] → d .units .initialised ≡ true
+sound-initialised d f s h = or-left (d .units .initialised) (idle (d .units .ru)) (s .started) (held-busy (d .units .ru) f h)
+
+-- so the fates are as said of one call
+pub good-sound : (c : Call) (w : World) (f : Frame) → Sound (w .device) → heldIn (unitOf w) ≡ f ∷ [] → isGood f ≡ true → GoodFate f c w
+good-sound c w f s h g = good-of c w f g (held-fate c w f (sound-initialised (w .device) f s h) h)
+
+pub bad-sound : (c : Call) (w : World) (f : Frame) → Sound (w .device) → heldIn (unitOf w) ≡ f ∷ [] → isGood f ≡ false → BadFate f c w
+bad-sound c w f s h g =
+    bad-of c w f g (or-right (isGood f) (f .savebad) (s .saved f h) g) (held-fate c w f (sound-initialised (w .device) f s h) h)
+
+-- ---- a frame is held or none is
+
+pub held-or-none : (u : Ru) → (heldIn u ≡ []) ⊎ ((f : Frame) × (heldIn u ≡ f ∷ []))
+held-or-none ru.Idle = inl refl
+held-or-none ru.NoResources = inl refl
+held-or-none (ru.Suspended fd) = inl refl
+held-or-none (ru.Ready fd) = inl refl
+held-or-none (ru.Held fd f p) = inr (f, refl)
+held-or-none (ru.Filling s w) = inr (s .frame, refl)
+held-or-none (ru.Closing s free full) = inr (s .frame, refl)
+held-or-none (ru.Lacking s) = inr (s .frame, refl)
+
+none-holds : (u : Ru) → heldIn u ≡ [] → isHolding u ≡ false
+none-holds ru.Idle h = refl
+none-holds ru.NoResources h = refl
+none-holds (ru.Suspended fd) h = refl
+none-holds (ru.Ready fd) h = refl
+none-holds (ru.Held fd f p) h = absurd (none≢one (sym h))
+none-holds (ru.Filling s w) h = absurd (none≢one (sym h))
+none-holds (ru.Closing s free full) h = absurd (none≢one (sym h))
+none-holds (ru.Lacking s) h = absurd (none≢one (sym h))
+
+-- ---- what a call does with the frame, in short
+
+-- the unit holds what it held, and no held frame's fate is given; or it holds nothing any more, and one is
+pub data Went (w : World) (r : Ran) : Type 0 where
+  keeps : heldIn (r .outcome .device .units .ru) ≡ heldIn (unitOf w) → ofHeld (r .outcome .fate) ≡ false → Went w r
+  ends : (f : Frame) → heldIn (unitOf w) ≡ f ∷ [] → heldIn (r .outcome .device .units .ru) ≡ [] → ofHeld (r .outcome .fate) ≡ true → Went w r
+
+good-went : (c : Call) (w : World) (f : Frame) → heldIn (unitOf w) ≡ f ∷ [] → (loses c w ≡ true → Lost w c → Went w (ran c w)) → GoodFate f c w
+    → Went w (ran c w)
+good-went c w f h g (held.stays l n k) = keeps (k .unit ∙ sym h) (k .fate)
+good-went c w f h g (held.stored s free full n e q x k) = ends f h (k .gone) (ap ofHeld x)
+good-went c w f h g (held.counted s n e q b x k) = ends f h (k .gone) (ap ofHeld x)
+good-went c w f h g (held.both s n e q b x k j) = ends f h (k .gone) (ap ofHeld x)
+good-went c w f h g (held.lost l k) = g l k
+
+bad-went : (c : Call) (w : World) (f : Frame) → heldIn (unitOf w) ≡ f ∷ [] → (loses c w ≡ true → Lost w c → Went w (ran c w)) → BadFate f c w
+    → Went w (ran c w)
+bad-went c w f h g (held.stays l n k) = keeps (k .unit ∙ sym h) (k .fate)
+bad-went c w f h g (held.stored s free full n e q x k) = ends f h (k .gone) (ap ofHeld x)
+bad-went c w f h g (held.lacking s n e q x k) = ends f h (k .gone) (ap ofHeld x)
+bad-went c w f h g (held.lost l k) = g l k
+
+held-went : (good : Bool) (c : Call) (w : World) (f : Frame) → Sound (w .device) → heldIn (unitOf w) ≡ f ∷ []
+    → (loses c w ≡ true → Lost w c → Went w (ran c w))
+    → isGood f ≡ good → Went w (ran c w)
+held-went true c w f s h g e = good-went c w f h g (good-sound c w f s h e)
+held-went false c w f s h g e = bad-went c w f h g (bad-sound c w f s h e)
+
+-- ---- an attention
+
+lost-went : (w : World) (f : Frame) → heldIn (unitOf w) ≡ f ∷ [] → Lost w attention → Went w (attentionOf w)
+lost-went w f h (by-resetting r x d m) = ends f h (ap (λ (k : Device). heldIn (k .units .ru)) d) (ap ofHeld x)
+lost-went w f h (by-abort r a x u m) = ends f h (ap heldIn u) (ap ofHeld x)
+
+goes-none : (n : RuState) (first : Offset) (u : Ru) → heldIn u ≡ [] → heldIn (ruGoes n first u) ≡ []
+goes-none rus.Idle first u h = refl
+goes-none rus.Suspended first u h = goes-on rus.Suspended first u refl ∙ h
+goes-none rus.NoResources first u h = h
+goes-none rus.Ready first u h = goes-on rus.Ready first u refl ∙ h
+
+to-initialise : (w : World) → w .device .units .initialised ≡ false → attended w (attentions.initialise (w .device) (w .memory)) ≡ attentionOf w
+unfolding attended attentionOf attentions.attention
+to-initialise w i = ap (λ (b : Bool). attended w (attentions.attentionBy b (w .device) (w .memory))) (sym i)
+
+to-reset : (w : World) → w .device .units .initialised ≡ true → resets (commandOf w) ≡ true
+    → attended w (attentions.resetBy (w .device)) ≡ attentionOf w
+to-reset w i r = ap (λ (b : Bool). attended w (attentions.attendBy b (w .device) (commandOf w) (w .memory))) (sym r) ∙ to-attend w i
+
+to-obeyed : (w : World) → w .device .units .initialised ≡ true → resets (commandOf w) ≡ false
+    → obeyed (ruNext (ruc (commandOf w)) (ruState (unitOf w))) w ≡ attentionOf w
+to-obeyed w i r = obey-is w ∙ ap (λ (b : Bool). attended w (attentions.attendBy b (w .device) (commandOf w) (w .memory))) (sym r) ∙ to-attend w i
+
+initialise-none : (w : World) → heldIn (unitOf w) ≡ [] → Went w (attended w (attentions.initialise (w .device) (w .memory)))
+unfolding attended attentions.initialise
+initialise-none w h = keeps (sym h) refl
+
+reset-none : (w : World) → heldIn (unitOf w) ≡ [] → Went w (attended w (attentions.resetBy (w .device)))
+unfolding attended attentions.resetBy
+reset-none w h = keeps (sym h) (ap (λ (b : Bool). ofHeld (lostBy fate.Reset b false)) (none-holds (unitOf w) h))
+
+obeyed-none : (n : RuState) (w : World) → heldIn (unitOf w) ≡ [] → Went w (obeyed n w)
+unfolding obeyed attended attentions.unitsAfter
+obeyed-none n w h =
+    let u = w .device .units in
+    let first = ruFirst u (commandOf w) (apply (obeyCuc u (commandOf w) (w .memory) .writes) (w .memory)) in
+    keeps (goes-none n first (unitOf w) h ∙ sym h)
+    (ap (λ (b : Bool). ofHeld (lostBy fate.Aborted b (isHolding (ruGoes n first (unitOf w))))) (none-holds (unitOf w) h))
+
+attention-none : (i r : Bool) (w : World) → heldIn (unitOf w) ≡ [] → w .device .units .initialised ≡ i → resets (commandOf w) ≡ r
+    → Went w (attentionOf w)
+attention-none false r w h i k = subst (Went w) (to-initialise w i) (initialise-none w h)
+attention-none true true w h i k = subst (Went w) (to-reset w i k) (reset-none w h)
+attention-none true false w h i k = subst (Went w) (to-obeyed w i k) (obeyed-none (ruNext (ruc (commandOf w)) (ruState (unitOf w))) w h)
+
+attention-by : (w : World) → Sound (w .device) → (heldIn (unitOf w) ≡ []) ⊎ ((f : Frame) × (heldIn (unitOf w) ≡ f ∷ [])) → Went w (attentionOf w)
+attention-by w s (inl h) = attention-none (w .device .units .initialised) (resets (commandOf w)) w h refl refl
+attention-by w s (inr k) = held-went (isGood (k .0)) attention w (k .0) s (k .1) (λ l x. lost-went w (k .0) (k .1) x) refl
+
+pub attention-went : (w : World) → Sound (w .device) → Went w (attentionOf w)
+attention-went w s = attention-by w s (held-or-none (unitOf w))
+
+-- ---- a turn
+
+record Unserved (w : World) (r : Ran) : Type 0 where
+  initialised : r .outcome .device .units .initialised ≡ w .device .units .initialised
+  unit : r .outcome .device .units .ru ≡ unitOf w
+  fate : ofHeld (r .outcome .fate) ≡ false
+
+command-unserved : (w : World) (report : ℕ) → Unserved w (commandTurn w report)
+unfolding commandTurn concluded
+command-unserved w report = record { initialised = refl; unit = refl; fate = refl }
+
+turn-unserved : (c : Bool) (w : World) (report : ℕ) → heldIn (unitOf w) ≡ [] → isActive (cuState (w .device .units .cu)) ≡ c
+    → Unserved w (turnOf w report)
+turn-unserved false w report h a =
+    subst (Unserved w) (served-as false false (w .device .units .rulast) w report a (none-holds (unitOf w) h) refl)
+    (record { initialised = refl; unit = refl; fate = refl })
+turn-unserved true w report h a =
+    subst (Unserved w) (served-as true false (w .device .units .rulast) w report a (none-holds (unitOf w) h) refl) (command-unserved w report)
+
+turn-by : (w : World) (report : ℕ) → Sound (w .device) → (heldIn (unitOf w) ≡ []) ⊎ ((f : Frame) × (heldIn (unitOf w) ≡ f ∷ []))
+    → Went w (turnOf w report)
+turn-by w report s (inl h) =
+    let k = turn-unserved (isActive (cuState (w .device .units .cu))) w report h refl in keeps (ap heldIn (k .unit)) (k .fate)
+turn-by w report s (inr k) = held-went (isGood (k .0)) (turn report) w (k .0) s (k .1) (λ l x. absurd (false≢true l)) refl
+
+pub turn-went : (w : World) (report : ℕ) → Sound (w .device) → Went w (turnOf w report)
+turn-went w report s = turn-by w report s (held-or-none (unitOf w))
+
+-- ---- an arrival
+
+-- the unit after an arrival, and what is held from then on
+arrived : (few matched : Bool) → Ru → Frame → Ru
+arrived few matched u j = arrivals.unitBy (isHeld (arrivals.fateBy few matched u j)) u j
+
+arrived-idle : (b : Bool) (u : Ru) (j : Frame) → idle (arrivals.unitBy b u j) ≡ idle u
+arrived-idle false u j = refl
+arrived-idle true ru.Idle j = refl
+arrived-idle true ru.NoResources j = refl
+arrived-idle true (ru.Suspended fd) j = refl
+arrived-idle true (ru.Ready fd) j = refl
+arrived-idle true (ru.Held fd f p) j = refl
+arrived-idle true (ru.Filling s w) j = refl
+arrived-idle true (ru.Closing s free full) j = refl
+arrived-idle true (ru.Lacking s) j = refl
+
+-- it is what was held, or one that is good or to be saved
+pub data Arrives (few matched : Bool) (u : Ru) (j : Frame) : Type 0 where
+  kept : isHeld (arrivals.fateBy few matched u j) ≡ false → Arrives few matched u j
+  comes : isHeld (arrivals.fateBy few matched u j) ≡ true → heldIn u ≡ [] → heldIn (arrivals.unitBy true u j) ≡ j ∷ []
+      → (isGood j || j .savebad) ≡ true
+      → Arrives few matched u j
+
+ready-arrives : (good saved : Bool) (fd : Offset) (j : Frame) → isGood j ≡ good → j .savebad ≡ saved → Arrives false true (ru.Ready fd) j
+ready-arrives true saved fd j g b =
+    comes (ap₂ (λ (x y : Bool). isHeld (arrivals.inReady x y (arrivals.counterFor j))) g b) refl refl
+    (ap (λ (x : Bool). x || j .savebad) g)
+ready-arrives false true fd j g b =
+    comes (ap₂ (λ (x y : Bool). isHeld (arrivals.inReady x y (arrivals.counterFor j))) g b) refl refl (ap₂ (λ (x y : Bool). x || y) g b)
+ready-arrives false false fd j g b = kept (ap₂ (λ (x y : Bool). isHeld (arrivals.inReady x y (arrivals.counterFor j))) g b)
+
+resources-arrives : (good : Bool) (c : Counter) → isHeld (arrivals.inNoResources good c) ≡ false
+resources-arrives true c = refl
+resources-arrives false c = refl
+
+pub arrives : (few matched : Bool) (u : Ru) (j : Frame) → Arrives few matched u j
+arrives true matched u j = kept refl
+arrives false false u j = kept refl
+arrives false true ru.Idle j = kept refl
+arrives false true ru.NoResources j = kept (resources-arrives (isGood j) (arrivals.counterFor j))
+arrives false true (ru.Suspended fd) j = kept refl
+arrives false true (ru.Ready fd) j = ready-arrives (isGood j) (j .savebad) fd j refl refl
+arrives false true (ru.Held fd f p) j = kept refl
+arrives false true (ru.Filling s w) j = kept refl
+arrives false true (ru.Closing s free full) j = kept refl
+arrives false true (ru.Lacking s) j = kept refl
+
+in-ready-new : (good saved : Bool) (c : Counter) → ofHeld (arrivals.inReady good saved c) ≡ false
+in-ready-new true saved c = refl
+in-ready-new false true c = refl
+in-ready-new false false c = refl
+
+in-none-new : (good : Bool) (c : Counter) → ofHeld (arrivals.inNoResources good c) ≡ false
+in-none-new true c = refl
+in-none-new false c = refl
+
+-- no arrival has a held frame's fate
+pub arrival-new : (few matched : Bool) (u : Ru) (j : Frame) → ofHeld (arrivals.fateBy few matched u j) ≡ false
+arrival-new true matched u j = refl
+arrival-new false false u j = refl
+arrival-new false true ru.Idle j = refl
+arrival-new false true ru.NoResources j = in-none-new (isGood j) (arrivals.counterFor j)
+arrival-new false true (ru.Suspended fd) j = refl
+arrival-new false true (ru.Ready fd) j = in-ready-new (isGood j) (j .savebad) (arrivals.counterFor j)
+arrival-new false true (ru.Held fd f p) j = refl
+arrival-new false true (ru.Filling s w) j = refl
+arrival-new false true (ru.Closing s free full) j = refl
+arrival-new false true (ru.Lacking s) j = refl
+
+arrival-saved : (few matched : Bool) (u : Ru) (j f : Frame) → ((g : Frame) → heldIn u ≡ g ∷ [] → (isGood g || g .savebad) ≡ true)
+    → Arrives few matched u j → heldIn (arrived few matched u j) ≡ f ∷ [] → (isGood f || f .savebad) ≡ true
+unfolding arrived
+arrival-saved few matched u j f s (kept k) h = s f (ap (λ (b : Bool). heldIn (arrivals.unitBy b u j)) (sym k) ∙ h)
+arrival-saved few matched u j f s (comes k n e g) h =
+    ap (λ (x : Frame). isGood x || x .savebad) (sym (same-frame f j (sym e ∙ ap (λ (b : Bool). heldIn (arrivals.unitBy b u j)) (sym k) ∙ h))) ∙ g
+
+arrival-sound : (w : World) (f : List ℕ) (v : ℕ) → Sound (w .device) → Sound (chip.arrivalOf w f v .outcome .device)
+unfolding chip.arrivalOf chip.arrival arrivals.arrival arrivals.fateOf arrived
+arrival-sound w f v s =
+    let few = ltb (length f) header in
+    let m = matches (settingsOf w) (w .device .own) (w .device .listed) f in
+    let j = arrivals.judged (settingsOf w) f v in
+    record {
+      started =
+          ap (λ (b : Bool). w .device .units .initialised || b) (arrived-idle (isHeld (arrivals.fateBy few m (unitOf w) j)) (unitOf w) j)
+          ∙ s .started;
+      saved = λ g h. arrival-saved few m (unitOf w) j g (s .saved) (arrives few m (unitOf w) j) h;
+    }
+
+-- ---- it stays so
+
+went-saved : (w : World) (r : Ran) (f : Frame) → Sound (w .device) → Went w r → heldIn (r .outcome .device .units .ru) ≡ f ∷ []
+    → (isGood f || f .savebad) ≡ true
+went-saved w r f s (keeps e x) h = s .saved f (sym e ∙ h)
+went-saved w r f s (ends g k e x) h = absurd (none≢one (sym e ∙ h))
+
+fresh-sound : Sound fresh
+fresh-sound = record { started = refl; saved = λ f h. absurd (none≢one h) }
+
+-- an attention leaves the chip initialised, or fresh
+Started : Ran → Type 0
+Started r = (r .outcome .device .units .initialised || idle (r .outcome .device .units .ru)) ≡ true
+
+initialise-started : (w : World) → Started (attended w (attentions.initialise (w .device) (w .memory)))
+unfolding Started attended attentions.initialise
+initialise-started w = refl
+
+reset-started : (w : World) → Started (attended w (attentions.resetBy (w .device)))
+unfolding Started attended attentions.resetBy
+reset-started w = refl
+
+obeyed-started : (n : RuState) (w : World) → w .device .units .initialised ≡ true → Started (obeyed n w)
+unfolding Started obeyed attended attentions.unitsAfter
+obeyed-started n w i =
+    let u = w .device .units in
+    let first = ruFirst u (commandOf w) (apply (obeyCuc u (commandOf w) (w .memory) .writes) (w .memory)) in
+    ap (λ (b : Bool). b || idle (ruGoes n first (unitOf w))) i
+
+attention-started : (i r : Bool) (w : World) → w .device .units .initialised ≡ i → resets (commandOf w) ≡ r → Started (attentionOf w)
+attention-started false r w i k = subst Started (to-initialise w i) (initialise-started w)
+attention-started true true w i k = subst Started (to-reset w i k) (reset-started w)
+attention-started true false w i k = subst Started (to-obeyed w i k) (obeyed-started (ruNext (ruc (commandOf w)) (ruState (unitOf w))) w i)
+
+attention-sound : (w : World) → Sound (w .device) → Sound (attentionOf w .outcome .device)
+unfolding Started
+attention-sound w s =
+    record {
+      started = attention-started (w .device .units .initialised) (resets (commandOf w)) w refl refl;
+      saved = λ f h. went-saved w (attentionOf w) f s (attention-went w s) h;
+    }
+
+-- no turn takes the initialisation back
+Keeps : World → Ran → Type 0
+Keeps w r = r .outcome .device .units .initialised ≡ w .device .units .initialised
+
+command-initialised : (w : World) (report : ℕ) → Keeps w (commandTurn w report)
+unfolding Keeps commandTurn concluded
+command-initialised w report = refl
+
+receive-initialised : (w : World) → Keeps w (receiveTurn w)
+unfolding Keeps receiveTurn concluded
+receive-initialised w = refl
+
+neither-initialised : (w : World) (report : ℕ) → Keeps w (turnBy (servedBy false false false) w report)
+unfolding Keeps
+neither-initialised w report = refl
+
+turn-initialised : (c h l : Bool) (w : World) (report : ℕ) → Keeps w (turnBy (servedBy c h l) w report)
+turn-initialised false false l w report = neither-initialised w report
+turn-initialised true false l w report = command-initialised w report
+turn-initialised false true l w report = receive-initialised w
+turn-initialised true true true w report = command-initialised w report
+turn-initialised true true false w report = receive-initialised w
+
+turn-started : (w : World) (report : ℕ) → Sound (w .device) → (heldIn (unitOf w) ≡ []) ⊎ ((f : Frame) × (heldIn (unitOf w) ≡ f ∷ []))
+    → Started (turnOf w report)
+unfolding Started Keeps turnOf
+turn-started w report s (inl h) =
+    let k = turn-unserved (isActive (cuState (w .device .units .cu))) w report h refl in
+    ap₂ (λ (b : Bool) (u : Ru). b || idle u) (k .initialised) (k .unit) ∙ s .started
+turn-started w report s (inr k) =
+    ap (λ (b : Bool). b || idle (turnOf w report .outcome .device .units .ru))
+    (turn-initialised (isActive (cuState (w .device .units .cu))) (isHolding (unitOf w)) (w .device .units .rulast) w report
+    ∙ sound-initialised (w .device) (k .0) s (k .1))
+
+turn-sound : (w : World) (report : ℕ) → Sound (w .device) → Sound (turnOf w report .outcome .device)
+unfolding Started
+turn-sound w report s =
+    record {
+      started = turn-started w report s (held-or-none (unitOf w));
+      saved = λ f h. went-saved w (turnOf w report) f s (turn-went w report s) h;
+    }
+
+-- every call keeps it
+pub call-sound : (c : Call) (w : World) → Sound (w .device) → Sound (ran c w .outcome .device)
+unfolding resetOf
+call-sound reset w s = fresh-sound
+call-sound attention w s = attention-sound w s
+call-sound (arrive f v) w s = arrival-sound w f v s
+call-sound (turn report) w s = turn-sound w report s

@@ -1,0 +1,373 @@
+-- Demand 2 of frames, corollary: where no piece lies over another, stored and counted are facts about memory at exit. Assumes nothing.
+use mathlib.Core.Path.{_≡_, refl, sym, ap, ap₂, _∙_, subst}
+use mathlib.Core.Bool.{Bool, true, false, _||_}
+use mathlib.Core.List.{List, [], _∷_, _++_}
+use Prim.Native.Nat.{ℕ, _+_, _%_, _≤_}
+use native.Mathlib.Omega.{arith}
+use lib.ListN.{length, take}
+use lib.Seq.{length-take-le}
+use Rattle.memory.specs.Memory.{Write, wordTo, countTo, wordAt, bytesAt, fieldAt, value, digits, putBytes, apply}
+use Rattle.memory.proofs.Fields.{Apart, AllApart, apply-other, bytes-same, length-digits, value-digits}
+use Rattle.memory.proofs.Laws.{apply-append, length-apply, length-putBytes}
+use Rattle.memory.proofs.Power.{allowed}
+use Rattle.memory.specs.declared.Offset.{Offset}
+use Rattle.scb.specs.Words.{bit, statusAt}
+use Rattle.device.specs.Limits.{header, areaSize}
+use Rattle.device.specs.State.{isGood}
+use Rattle.device.specs.declared.Frame.{Frame}
+use Rattle.device.specs.declared.Ru.{Ru}
+use Rattle.device.specs.declared.Ru.the-variants as ru
+use Rattle.device.specs.declared.Storing.{Storing}
+use Rattle.device.specs.declared.Verdict.{Verdict}
+use Rattle.device.specs.declared.Verdict.the-variants as verdict
+use Rattle.image.specs.Ranges.{inRange}
+use Rattle.receive.specs.Begin.{isBare}
+use Rattle.receive.specs.End.{frameStatus, bareMark}
+use Rattle.chip.specs.Call.{Call, ran}
+use Rattle.chip.specs.World.{World, Ran}
+use Rattle.frames.specs.Arrival.{Lent, inScb, unitOf}
+use Rattle.frames.specs.Held.{heldIn, inFrame, headerTo, markTo, bareTo, described, onwardBy, onward, statusAfter, Stored, Counted, GoodFate, BadFate}
+use Rattle.frames.specs.Held as held
+use Rattle.frames.specs.Stands.{Separate, StoredStands, CountedStands, CountersStand, Piece, piece, Away, NoOverlap, nextFirst, barePiece, onwardPiece, lackingPieces, pieces, GoodExit, badPieces, SavedStands, BadExit}
+use Rattle.frames.specs.Stands as exit
+use Rattle.frames.proofs.Held.{good-held, bad-held}
+
+-- ---- what is written stands at the end, if no later write meets it
+
+last-stands : (x : Write) (post : List Write) (m : List ℕ) → length (x .bytes) ≤ length m → AllApart (length m) post (x .to) (length (x .bytes))
+    → bytesAt (apply (x ∷ post) m) (x .to) (length (x .bytes)) ≡ x .bytes
+last-stands x post m l a =
+    apply-other post (putBytes m (x .to) (x .bytes)) (x .to) (length (x .bytes)) (rw length-putBytes a) ∙ bytes-same m (x .to) (x .bytes) l
+
+pub stands : (pre : List Write) (x : Write) (post : List Write) (m : List ℕ) → length (x .bytes) ≤ length m
+    → AllApart (length m) post (x .to) (length (x .bytes))
+    → bytesAt (apply (pre ++ x ∷ post) m) (x .to) (length (x .bytes)) ≡ x .bytes
+stands pre x post m l a = rw apply-append (last-stands x post (apply pre m) (rw length-apply l) (rw length-apply a))
+
+-- a word that is written stands as a number
+pub word-stands : (pre : List Write) (a v : ℕ) (post : List Write) (m : List ℕ) → 2 ≤ length m → AllApart (length m) post a 2
+    → wordAt (apply (pre ++ wordTo a v ∷ post) m) a ≡ v % 65536
+unfolding fieldAt
+word-stands pre a v post m l p =
+    let d = length-digits 2 v in
+    ap value
+    (subst (λ (k : ℕ). bytesAt (apply (pre ++ wordTo a v ∷ post) m) a k ≡ digits 2 v) d
+    (stands pre (wordTo a v) post m (rw length-digits l) (rw length-digits p)))
+    ∙ value-digits 2 v
+
+-- ---- what is separate
+
+apart-sym : (n a j b k : ℕ) → Apart n a j b k → Apart n b k a j
+apart-sym n a j b k p x hx y hy e = p y hy x hx (sym e)
+
+one-apart : (n : ℕ) (pre : List Write) (x : Write) (post : List Write) (b k : ℕ) → AllApart n (pre ++ x ∷ post) b k
+    → Apart n (x .to) (length (x .bytes)) b k
+one-apart n [] x post b k a = a .0
+one-apart n (y ∷ pre) x post b k a = one-apart n pre x post b k (a .1)
+
+pub after-apart : (n : ℕ) (pre : List Write) (x : Write) (post : List Write) → Separate n (pre ++ x ∷ post)
+    → AllApart n post (x .to) (length (x .bytes))
+after-apart n [] x post s = s .0
+after-apart n (y ∷ pre) x post s = after-apart n pre x post (s .1)
+
+pub before-apart : (n : ℕ) (pre : List Write) (x : Write) (post : List Write) → Separate n (pre ++ x ∷ post)
+    → AllApart n pre (x .to) (length (x .bytes))
+before-apart n [] x post s = tt
+before-apart n (y ∷ pre) x post s =
+    let k = one-apart n pre x post (y .to) (length (y .bytes)) (s .0) in
+    (apart-sym n (x .to) (length (x .bytes)) (y .to) (length (y .bytes)) k, before-apart n pre x post (s .1))
+
+-- ---- the status is a word
+
+word-by : (lacking short : Bool) (v : Verdict) (f : Frame) → f .verdict ≡ v → f .short ≡ short → frameStatus lacking f % 65536 ≡ frameStatus lacking f
+unfolding frameStatus
+word-by true true verdict.Good f a b = rw (a, b)
+word-by true true verdict.Crc f a b = rw (a, b)
+word-by true true verdict.Misaligned f a b = rw (a, b)
+word-by true false verdict.Good f a b = rw (a, b)
+word-by true false verdict.Crc f a b = rw (a, b)
+word-by true false verdict.Misaligned f a b = rw (a, b)
+word-by false true verdict.Good f a b = rw (a, b)
+word-by false true verdict.Crc f a b = rw (a, b)
+word-by false true verdict.Misaligned f a b = rw (a, b)
+word-by false false verdict.Good f a b = rw (a, b)
+word-by false false verdict.Crc f a b = rw (a, b)
+word-by false false verdict.Misaligned f a b = rw (a, b)
+
+-- ---- stored
+
+pub stored-stands : (lacking : Bool) (s : Storing) (rest : List Write) (w : World) (r : Ran) → Stored lacking s rest w r
+    → length (w .holding) ≡ areaSize
+    → header ≤ length (w .memory)
+    → Separate (length (w .memory)) (headerTo w s ∷ markTo w s (frameStatus lacking (s .frame)) ∷ rest)
+    → StoredStands lacking s w r
+stored-stands lacking s rest w r x h l p =
+    let n = length-take-le header (w .holding) (omega arith) in
+    let status = frameStatus lacking (s .frame) in
+    let d = length-digits 2 status in
+    let e : wordAt (r .memory) (inFrame w s 0) ≡ status =
+    ap (λ (m : List ℕ). wordAt m (inFrame w s 0)) (x .memory)
+    ∙ word-stands (headerTo w s ∷ []) (inFrame w s 0) status rest (w .memory) (omega arith)
+    (subst (AllApart (length (w .memory)) rest (inFrame w s 0)) d (p .1 .0))
+    ∙ word-by lacking (s .frame .short) (s .frame .verdict) (s .frame) refl refl
+    in
+    record {
+      bytes =
+          ap (λ (m : List ℕ). bytesAt m (inFrame w s 8) header) (x .memory)
+          ∙ subst
+          (λ (k : ℕ). bytesAt (apply (headerTo w s ∷ markTo w s status ∷ rest) (w .memory)) (inFrame w s 8) k ≡ take header (w .holding))
+          n
+          (stands [] (headerTo w s) (markTo w s status ∷ rest) (w .memory) (omega arith) (p .0));
+      status = e;
+      complete = ap (λ (k : ℕ). bit k 15) e ∙ x .complete;
+    }
+
+-- ---- counted
+
+pub counted-stands : (others : List Write) (w : World) (r : Ran) → Counted others w r → 2 ≤ length (w .memory)
+    → Separate (length (w .memory)) (others ++ (countTo (apply others (w .memory)) (inScb w 12) ∷ statusAfter w r))
+    → CountedStands w r
+unfolding fieldAt
+counted-stands others w r x l p =
+    let a = inScb w 12 in
+    let v = (wordAt (apply others (w .memory)) a + 1) % 65536 in
+    let d = length-digits 2 v in
+    let n = length (w .memory) in
+    let same : wordAt (apply others (w .memory)) a ≡ wordAt (w .memory) a =
+    ap value (apply-other others (w .memory) a 2 (subst (AllApart n others a) d (before-apart n others (wordTo a v) (statusAfter w r) p)))
+    in
+    ap (λ (m : List ℕ). wordAt m a) (x .memory)
+    ∙ word-stands others a v (statusAfter w r) (w .memory) l
+    (subst (AllApart n (statusAfter w r) a) d (after-apart n others (wordTo a v) (statusAfter w r) p))
+    ∙ omega (arith, same)
+
+-- ---- no counter moves where all that is written is elsewhere
+
+pub counters-stand : (writes : List Write) (w : World) (r : Ran) → r .memory ≡ apply writes (w .memory)
+    → AllApart (length (w .memory)) writes (inScb w 8) 8
+    → CountersStand w r
+counters-stand writes w r e p = ap (λ (m : List ℕ). bytesAt m (inScb w 8) 8) e ∙ apply-other writes (w .memory) (inScb w 8) 8 p
+
+-- ---- the pieces by their places
+
+pieceOf : Write → Piece
+pieceOf x = piece (x .to) (length (x .bytes))
+
+piecesOf : List Write → List Piece
+piecesOf [] = []
+piecesOf (x ∷ xs) = pieceOf x ∷ piecesOf xs
+
+away-apart : (n : ℕ) (xs : List Write) (p : Piece) → Away n (piecesOf xs) p → AllApart n xs (p .from) (p .size)
+unfolding piecesOf pieceOf
+away-apart n [] p h = tt
+away-apart n (x ∷ xs) p h = (h .0, away-apart n xs p (h .1))
+
+separate : (n : ℕ) (xs : List Write) → NoOverlap n (piecesOf xs) → Separate n xs
+unfolding piecesOf pieceOf
+separate n [] h = tt
+separate n (x ∷ xs) h = (away-apart n xs (pieceOf x) (h .0), separate n xs (h .1))
+
+word-piece : (a v : ℕ) → pieceOf (wordTo a v) ≡ piece a 2
+unfolding pieceOf
+word-piece a v = ap (piece a) (length-digits 2 v)
+
+header-piece : (w : World) (s : Storing) → length (w .holding) ≡ areaSize → pieceOf (headerTo w s) ≡ piece (inFrame w s 8) header
+unfolding pieceOf
+header-piece w s h = ap (piece (inFrame w s 8)) (length-take-le header (w .holding) (omega arith))
+
+status-piece : (w : World) (r : Ran) → piecesOf (statusAfter w r) ≡ piece (inScb w statusAt) 2 ∷ []
+unfolding piecesOf
+status-piece w r = ap (λ (p : Piece). p ∷ []) (word-piece (inScb w statusAt) _)
+
+front2 : {a b c d : Piece} {ps qs : List Piece} → a ≡ c → b ≡ d → ps ≡ qs → a ∷ b ∷ ps ≡ c ∷ d ∷ qs
+front2 x y z = ap₂ (λ (p : Piece) (l : List Piece). p ∷ l) x (ap₂ (λ (p : Piece) (l : List Piece). p ∷ l) y z)
+
+front3 : {a b c d e f : Piece} {ps qs : List Piece} → a ≡ d → b ≡ e → c ≡ f → ps ≡ qs → a ∷ b ∷ c ∷ ps ≡ d ∷ e ∷ f ∷ qs
+front3 x y z t = ap₂ (λ (p : Piece) (l : List Piece). p ∷ l) x (front2 y z t)
+
+-- ---- the writes of an end turn lie where the pieces are
+
+ending-pieces : (b : Bool) (w : World) (s : Storing) (status : ℕ) (rest : List Write) (ps : List Piece) → length (w .holding) ≡ areaSize
+    → piecesOf rest ≡ ps
+    → piecesOf (headerTo w s ∷ markTo w s status ∷ (bareMark b (inFrame w s 6) ++ rest))
+    ≡ piece (inFrame w s 8) header ∷ piece (inFrame w s 0) 2 ∷ (barePiece b w s ++ ps)
+unfolding piecesOf
+ending-pieces true w s status rest ps h e =
+    front3 (header-piece w s h) (word-piece (inFrame w s 0) status) (word-piece (inFrame w s 6) 0xFFFF) e
+ending-pieces false w s status rest ps h e = front2 (header-piece w s h) (word-piece (inFrame w s 0) status) e
+
+onward-pieces : (x : Bool) (w : World) (r : Ran) (s : Storing) (free : Offset)
+    → piecesOf (onwardBy x w s free (apply (described false w s) (w .memory)) ++ statusAfter w r)
+    ≡ onwardPiece x w s ++ piece (inScb w statusAt) 2 ∷ []
+unfolding piecesOf
+onward-pieces true w r s free = status-piece w r
+onward-pieces false w r s free = ap₂ (λ (a : Piece) (l : List Piece). a ∷ l) (word-piece (nextFirst w s) (free .0)) (status-piece w r)
+
+count-pieces : (w : World) (r : Ran) (v : ℕ)
+    → piecesOf (wordTo (inScb w 12) v ∷ statusAfter w r) ≡ piece (inScb w 12) 2 ∷ piece (inScb w statusAt) 2 ∷ []
+unfolding piecesOf
+count-pieces w r v = ap₂ (λ (a : Piece) (l : List Piece). a ∷ l) (word-piece (inScb w 12) v) (status-piece w r)
+
+counted-pieces : (w : World) (r : Ran) (s : Storing) (v : ℕ)
+    → piecesOf (markTo w s 0x0000 ∷ wordTo (inScb w 12) v ∷ statusAfter w r) ≡ lackingPieces false w s
+unfolding piecesOf
+counted-pieces w r s v = front2 (word-piece (inFrame w s 0) 0x0000) (word-piece (inScb w 12) v) (status-piece w r)
+
+-- ---- so where no piece lies over another, neither does a write
+
+closing-separate : (n : ℕ) (w : World) (r : Ran) (s : Storing) (free : Offset) (full : Bool) → length (w .holding) ≡ areaSize
+    → NoOverlap n (pieces (ru.Closing s free full) w)
+    → Separate n (headerTo w s ∷ markTo w s (frameStatus false (s .frame)) ∷ (bareTo w s ++ (onward w s free full ++ statusAfter w r)))
+closing-separate n w r s free full h p =
+    separate n (headerTo w s ∷ markTo w s (frameStatus false (s .frame)) ∷ (bareTo w s ++ (onward w s free full ++ statusAfter w r)))
+    (subst (NoOverlap n)
+    (sym
+    (ending-pieces (isBare (s .frame)) w s (frameStatus false (s .frame)) (onward w s free full ++ statusAfter w r)
+    (onwardPiece (s .el || full) w s ++ piece (inScb w statusAt) 2 ∷ []) h (onward-pieces (s .el || full) w r s free)))
+    p)
+
+both-separate : (n : ℕ) (w : World) (r : Ran) (s : Storing) (v : ℕ) → length (w .holding) ≡ areaSize → NoOverlap n (lackingPieces true w s)
+    → Separate n (headerTo w s ∷ markTo w s (frameStatus true (s .frame)) ∷ (bareTo w s ++ (wordTo (inScb w 12) v ∷ statusAfter w r)))
+both-separate n w r s v h p =
+    separate n (headerTo w s ∷ markTo w s (frameStatus true (s .frame)) ∷ (bareTo w s ++ (wordTo (inScb w 12) v ∷ statusAfter w r)))
+    (subst (NoOverlap n)
+    (sym
+    (ending-pieces (isBare (s .frame)) w s (frameStatus true (s .frame)) (wordTo (inScb w 12) v ∷ statusAfter w r)
+    (piece (inScb w 12) 2 ∷ piece (inScb w statusAt) 2 ∷ []) h (count-pieces w r v)))
+    p)
+
+counted-separate : (n : ℕ) (w : World) (r : Ran) (s : Storing) (v : ℕ) → NoOverlap n (lackingPieces false w s)
+    → Separate n (markTo w s 0x0000 ∷ wordTo (inScb w 12) v ∷ statusAfter w r)
+counted-separate n w r s v p =
+    separate n (markTo w s 0x0000 ∷ wordTo (inScb w 12) v ∷ statusAfter w r) (subst (NoOverlap n) (sym (counted-pieces w r s v)) p)
+
+-- ---- the demand, as facts about memory at exit
+
+exit-of : (c : Call) (w : World) (f : Frame) → length (w .holding) ≡ areaSize → header ≤ length (w .memory)
+    → NoOverlap (length (w .memory)) (pieces (unitOf w) w)
+    → GoodFate f c w
+    → GoodExit f c w
+exit-of c w f h l p (held.stays a b k) = exit.stays a b k
+exit-of c w f h l p (held.stored s free full n e q x k) =
+    let o = subst (λ (u : Ru). NoOverlap (length (w .memory)) (pieces u w)) e p in
+    exit.stored s free full n e q x
+    (stored-stands false s _ w (ran c w) k h l (closing-separate (length (w .memory)) w (ran c w) s free full h o)) (k .fr)
+exit-of c w f h l p (held.counted s n e q b x k) =
+    let o = subst (λ (u : Ru). NoOverlap (length (w .memory)) (pieces u w)) e p in
+    let unsaved = ap (λ (g : Frame). g .savebad) q ∙ b in
+    exit.counted s n e q b x
+    (counted-stands (markTo w s 0x0000 ∷ []) w (ran c w) k (omega arith)
+    (counted-separate (length (w .memory)) w (ran c w) s _
+    (subst (λ (d : Bool). NoOverlap (length (w .memory)) (lackingPieces d w s)) unsaved o)))
+exit-of c w f h l p (held.both s n e q b x k j) =
+    let o = subst (λ (u : Ru). NoOverlap (length (w .memory)) (pieces u w)) e p in
+    let saved = ap (λ (g : Frame). g .savebad) q ∙ b in
+    let v = (wordAt (apply (described true w s) (w .memory)) (inScb w 12) + 1) % 65536 in
+    let d =
+    both-separate (length (w .memory)) w (ran c w) s v h
+    (subst (λ (d : Bool). NoOverlap (length (w .memory)) (lackingPieces d w s)) saved o)
+    in
+    exit.both s n e q b x (stored-stands true s _ w (ran c w) k h l d) (k .fr)
+    (counted-stands (described true w s) w (ran c w) j (omega arith) d)
+exit-of c w f h l p (held.lost a k) = exit.lost a k
+
+-- every call that is not refused, while a good frame is held, where no piece that is written lies over another
+pub good-exit : (c : Call) (w : World) (f : Frame) → Lent w [] → inRange (w .device) ≡ true → heldIn (unitOf w) ≡ f ∷ [] → isGood f ≡ true
+    → NoOverlap (length (w .memory)) (pieces (unitOf w) w)
+    → GoodExit f c w
+good-exit c w f l r h g p =
+    let least = allowed (length (w .memory)) (l .size) .least in
+    exit-of c w f (l .area) (omega arith) p (good-held c w f r h g)
+
+-- ---- a bad frame
+
+-- what lies apart from every piece
+away-last : (n : ℕ) (ps : List Piece) (c p : Piece) → Away n (ps ++ c ∷ []) p → Apart n (c .from) (c .size) (p .from) (p .size)
+away-last n [] c p h = h .0
+away-last n (q ∷ qs) c p h = away-last n qs c p (h .1)
+
+to-last : (n : ℕ) (xs : List Write) (c : Piece) → NoOverlap n (piecesOf xs ++ c ∷ []) → AllApart n xs (c .from) (c .size)
+unfolding piecesOf pieceOf
+to-last n [] c h = tt
+to-last n (x ∷ xs) c h =
+    (apart-sym n (c .from) (c .size) (x .to) (length (x .bytes)) (away-last n (piecesOf xs) c (pieceOf x) (h .0)), to-last n xs c (h .1))
+
+away-but : (n : ℕ) (ps : List Piece) (c p : Piece) → Away n (ps ++ c ∷ []) p → Away n ps p
+away-but n [] c p h = tt
+away-but n (q ∷ qs) c p h = (h .0, away-but n qs c p (h .1))
+
+but-last : (n : ℕ) (ps : List Piece) (c : Piece) → NoOverlap n (ps ++ c ∷ []) → NoOverlap n ps
+but-last n [] c h = tt
+but-last n (p ∷ ps) c h = (away-but n ps c p (h .0), but-last n ps c (h .1))
+
+closing-counters : (b x : Bool) (w : World) (s : Storing)
+    → barePiece b w s ++ (onwardPiece x w s ++ piece (inScb w statusAt) 2 ∷ piece (inScb w 8) 8 ∷ [])
+    ≡ barePiece b w s ++ (onwardPiece x w s ++ piece (inScb w statusAt) 2 ∷ []) ++ piece (inScb w 8) 8 ∷ []
+closing-counters true true w s = refl
+closing-counters true false w s = refl
+closing-counters false true w s = refl
+closing-counters false false w s = refl
+
+lacking-counters : (b : Bool) (w : World) (s : Storing)
+    → barePiece b w s ++ (piece (inScb w statusAt) 2 ∷ piece (inScb w 8) 8 ∷ [])
+    ≡ barePiece b w s ++ (piece (inScb w statusAt) 2 ∷ []) ++ piece (inScb w 8) 8 ∷ []
+lacking-counters true w s = refl
+lacking-counters false w s = refl
+
+-- the writes of an end turn, and the counters behind them
+with-counters : (n : ℕ) (w : World) (s : Storing) (status : ℕ) (rest : List Write) (ps : List Piece) → length (w .holding) ≡ areaSize
+    → piecesOf rest ≡ ps
+    → NoOverlap n (piece (inFrame w s 8) header ∷ piece (inFrame w s 0) 2 ∷ (barePiece (isBare (s .frame)) w s ++ ps ++ piece (inScb w 8) 8 ∷ []))
+    → NoOverlap n (piecesOf (headerTo w s ∷ markTo w s status ∷ (bareTo w s ++ rest)) ++ piece (inScb w 8) 8 ∷ [])
+with-counters n w s status rest ps h e p =
+    subst (λ (l : List Piece). NoOverlap n (l ++ piece (inScb w 8) 8 ∷ [])) (sym (ending-pieces (isBare (s .frame)) w s status rest ps h e)) p
+
+saved-stands : (lacking : Bool) (s : Storing) (rest : List Write) (w : World) (r : Ran) → length (w .holding) ≡ areaSize → header ≤ length (w .memory)
+    → NoOverlap (length (w .memory))
+    (piecesOf (headerTo w s ∷ markTo w s (frameStatus lacking (s .frame)) ∷ rest) ++ piece (inScb w 8) 8 ∷ [])
+    → Stored lacking s rest w r
+    → SavedStands lacking s w r
+saved-stands lacking s rest w r h l p k =
+    let writes = headerTo w s ∷ markTo w s (frameStatus lacking (s .frame)) ∷ rest in
+    let apart = separate (length (w .memory)) writes (but-last (length (w .memory)) (piecesOf writes) (piece (inScb w 8) 8) p) in
+    let stored = stored-stands lacking s rest w r k h l apart in
+    record {
+      stored = stored;
+      lacks = ap (λ (n : ℕ). bit n 9) (stored .status) ∙ k .lacks;
+      fr = k .fr;
+      counters = counters-stand writes w r (k .memory) (to-last (length (w .memory)) writes (piece (inScb w 8) 8) p);
+    }
+
+abbrev Behind : World → Storing → List Piece → Type 0
+Behind w s ps = NoOverlap (length (w .memory)) (piece (inFrame w s 8) header ∷ piece (inFrame w s 0) 2 ∷ ps)
+
+bad-exit-of : (c : Call) (w : World) (f : Frame) → length (w .holding) ≡ areaSize → header ≤ length (w .memory)
+    → NoOverlap (length (w .memory)) (badPieces (unitOf w) w)
+    → BadFate f c w
+    → BadExit f c w
+bad-exit-of c w f h l p (held.stays a b k) = exit.stays a b k
+bad-exit-of c w f h l p (held.stored s free full n e q x k) =
+    let o = subst (λ (u : Ru). NoOverlap (length (w .memory)) (badPieces u w)) e p in
+    let y = s .el || full in
+    exit.stored s free full n e q x
+    (saved-stands false s _ w (ran c w) h l
+    (with-counters (length (w .memory)) w s (frameStatus false (s .frame)) (onward w s free full ++ statusAfter w (ran c w))
+    (onwardPiece y w s ++ piece (inScb w statusAt) 2 ∷ []) h (onward-pieces y w (ran c w) s free)
+    (subst (Behind w s) (closing-counters (isBare (s .frame)) y w s) o))
+    k)
+bad-exit-of c w f h l p (held.lacking s n e q x k) =
+    let o = subst (λ (u : Ru). NoOverlap (length (w .memory)) (badPieces u w)) e p in
+    exit.lacking s n e q x
+    (saved-stands true s _ w (ran c w) h l
+    (with-counters (length (w .memory)) w s (frameStatus true (s .frame)) (statusAfter w (ran c w)) (piece (inScb w statusAt) 2 ∷ []) h
+    (status-piece w (ran c w)) (subst (Behind w s) (lacking-counters (isBare (s .frame)) w s) o))
+    k)
+bad-exit-of c w f h l p (held.lost a k) = exit.lost a k
+
+-- every call that is not refused, while a bad frame is held, where no piece that is written lies over another or over a counter
+pub bad-exit : (c : Call) (w : World) (f : Frame) → Lent w [] → inRange (w .device) ≡ true → heldIn (unitOf w) ≡ f ∷ [] → isGood f ≡ false
+    → NoOverlap (length (w .memory)) (badPieces (unitOf w) w)
+    → BadExit f c w
+bad-exit c w f l r h g p =
+    let least = allowed (length (w .memory)) (l .size) .least in
+    bad-exit-of c w f (l .area) (omega arith) p (bad-held c w f r h g)

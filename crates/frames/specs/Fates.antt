@@ -1,0 +1,186 @@
+-- Frames over time: which are held, under the number of their arrival, and how each holding ends. Assumes nothing.
+use mathlib.Core.Path.{_≡_}
+use mathlib.Core.Bool.{Bool, true, false, cond}
+use mathlib.Core.List.{List, [], _∷_, _++_, map}
+use Prim.Native.Nat.{ℕ, _+_}
+use lib.Dec.{eqb}
+use Rattle.device.specs.Answers.{isHeld}
+use Rattle.device.specs.State.{isGood}
+use Rattle.device.specs.declared.Device.{Device}
+use Rattle.device.specs.declared.Fate.{Fate}
+use Rattle.device.specs.declared.Fate.the-variants as fate
+use Rattle.device.specs.declared.Frame.{Frame}
+use Rattle.image.specs.Ranges.{inRange}
+use Rattle.receive.specs.Arrival.{judged}
+use Rattle.chip.specs.Call.{Call, reset, attention, arrive, turn, ran}
+use Rattle.chip.specs.World.{World, worldOf}
+use Rattle.traces.specs.Event.{Event, call, host, step}
+use Rattle.frames.specs.Arrival.{unitOf, settingsOf}
+use Rattle.frames.specs.Held.{heldIn, ofHeld, GoodFate, BadFate}
+
+-- ---- what happens
+
+-- a call that is not refused, or what the host does to the areas; or the host alters the record, to another that is in range: with any other all
+-- calls but reset are refused, and change nothing
+pub data Deed : Type 0 where
+  event : Event → Deed
+  alter : (d : Device) → inRange d ≡ true → Deed
+
+abbrev pub worldAfter : Deed → World → World
+worldAfter (event e) w = step e w
+worldAfter (alter d r) w = worldOf d (w .memory) (w .holding) (w .outgoing)
+
+-- the world, the number that the next arrival gets, and the number of the last one that was held
+pub record Scene : Type 0 where
+  pub world : World
+  pub next : ℕ
+  pub last : ℕ
+
+-- at first: arrivals are numbered from 1 on, and a frame that is held already has the number 0
+abbrev pub opening : World → Scene
+opening w = record { world = w; next = 1; last = 0 }
+
+-- ---- what is noted
+
+-- a frame under its number, as it was judged: at its arrival, or as the unit holds it
+pub record Noted : Type 0 where
+  pub number : ℕ
+  pub frame : List Frame
+
+abbrev pub noted : ℕ → List Frame → Noted
+noted n f = record { number = n; frame = f }
+
+-- how a holding ends: by the fate that a call's outcome gives, or by the host, who alters the record
+pub data Way : Type 0 where
+  by-call : Fate → Way
+  by-altering : Way
+
+pub record Ended : Type 0 where
+  pub noted : Noted
+  pub way : Way
+
+-- a frame that a unit holds under a number; none, if it holds none
+abbrev pub heldAs : ℕ → List Frame → List Noted
+heldAs n [] = []
+heldAs n (f ∷ fs) = noted n (f ∷ []) ∷ []
+
+abbrev pub still : Scene → List Noted
+still s = heldAs (s .last) (heldIn (unitOf (s .world)))
+
+-- which frame is held from now on: an arriving one whose fate says so; what the host puts into the record counts as one that arrives then
+abbrev pub begunIf : (held : Bool) → ℕ → Frame → List Noted
+begunIf true n f = noted n (f ∷ []) ∷ []
+begunIf false n f = []
+
+abbrev pub begun : Deed → Scene → List Noted
+begun (event (call reset)) s = []
+begun (event (call attention)) s = []
+begun (event (call (arrive f v))) s =
+    begunIf (isHeld (ran (arrive f v) (s .world) .outcome .fate)) (s .next) (judged (settingsOf (s .world)) f v)
+begun (event (call (turn report))) s = []
+begun (event (host m h out)) s = []
+begun (alter d r) s = heldAs (s .next) (heldIn (d .units .ru))
+
+-- what a call notes as its frame's end: a fate of a held frame, whatever the unit holds. Reset ignores the record's content, so its outcome has no
+-- fate: what it held is lost
+abbrev pub endedIf : (settled : Bool) → ℕ → List Frame → Fate → List Ended
+endedIf true n f x = record { noted = noted n f; way = by-call x } ∷ []
+endedIf false n f x = []
+
+abbrev pub endedBy : Way → List Noted → List Ended
+endedBy way [] = []
+endedBy way (n ∷ ns) = record { noted = n; way = way } ∷ []
+
+abbrev pub fateIn : Call → Scene → List Ended
+fateIn c s =
+    let x = ran c (s .world) .outcome .fate in endedIf (ofHeld x) (s .last) (heldIn (unitOf (s .world))) x
+
+abbrev pub ended : Deed → Scene → List Ended
+ended (event (call reset)) s = endedBy (by-call fate.Reset) (still s)
+ended (event (call attention)) s = fateIn attention s
+ended (event (call (arrive f v))) s = fateIn (arrive f v) s
+ended (event (call (turn report))) s = fateIn (turn report) s
+ended (event (host m h out)) s = []
+ended (alter d r) s = endedBy by-altering (still s)
+
+-- ---- over time
+
+-- arrivals and alterings take a number each
+abbrev pub takes : Deed → ℕ
+takes (event (call reset)) = 0
+takes (event (call attention)) = 0
+takes (event (call (arrive f v))) = 1
+takes (event (call (turn report))) = 0
+takes (event (host m h out)) = 0
+takes (alter d r) = 1
+
+abbrev pub lastBy : List Noted → ℕ → ℕ
+lastBy [] last = last
+lastBy (n ∷ ns) last = n .number
+
+abbrev pub advance : Deed → Scene → Scene
+advance d s =
+    record { world = worldAfter d (s .world); next = s .next + takes d; last = lastBy (begun d s) (s .last) }
+
+abbrev pub after : List Deed → Scene → Scene
+after [] s = s
+after (d ∷ ds) s = after ds (advance d s)
+
+-- all that were held, in the order of their numbers; all that ended, in their order
+abbrev pub beginnings : List Deed → Scene → List Noted
+beginnings [] s = []
+beginnings (d ∷ ds) s = begun d s ++ beginnings ds (advance d s)
+
+abbrev pub endings : List Deed → Scene → List Ended
+endings [] s = []
+endings (d ∷ ds) s = ended d s ++ endings ds (advance d s)
+
+-- how often a number is noted
+abbrev pub times : ℕ → List Noted → ℕ
+times k [] = 0
+times k (n ∷ ns) = cond (eqb (n .number) k) 1 0 + times k ns
+
+abbrev pub namesOf : List Ended → List Noted
+namesOf es = map (λ (e : Ended). e .noted) es
+
+-- how often an end by a fate is noted under a number, and one by altering
+abbrev pub fateOne : Way → ℕ
+fateOne (by-call x) = 1
+fateOne by-altering = 0
+
+abbrev pub alterOne : Way → ℕ
+alterOne (by-call x) = 0
+alterOne by-altering = 1
+
+abbrev pub timesFated : ℕ → List Ended → ℕ
+timesFated k [] = 0
+timesFated k (e ∷ es) = cond (eqb (e .noted .number) k) (fateOne (e .way)) 0 + timesFated k es
+
+abbrev pub timesAltered : ℕ → List Ended → ℕ
+timesAltered k [] = 0
+timesAltered k (e ∷ es) = cond (eqb (e .noted .number) k) (alterOne (e .way)) 0 + timesAltered k es
+
+-- the host alters no record
+abbrev pub isUnaltered : List Deed → Bool
+isUnaltered [] = true
+isUnaltered (event e ∷ ds) = isUnaltered ds
+isUnaltered (alter d r ∷ ds) = false
+
+-- each end is by a held frame's fate: stored, counted, both, or lost by abort or reset; unless, where that is allowed, the host altered the record
+abbrev pub Proper : (altering : Type 0) → Way → Type 0
+Proper altering (by-call x) = ofHeld x ≡ true
+Proper altering by-altering = altering
+
+abbrev pub AllProper : (altering : Type 0) → List Ended → Type 0
+AllProper altering [] = Unit {0}
+AllProper altering (e ∷ es) = Proper altering (e .way) × AllProper altering es
+
+-- at every call while a frame is held its fate is as said of one call
+abbrev pub AllFates : List Deed → World → Type 0
+AllFates [] w = Unit {0}
+AllFates (event (call c) ∷ ds) w =
+    ((f : Frame) → heldIn (unitOf w) ≡ f ∷ [] → isGood f ≡ true → GoodFate f c w)
+    × ((f : Frame) → heldIn (unitOf w) ≡ f ∷ [] → isGood f ≡ false → BadFate f c w)
+    × AllFates ds (worldAfter (event (call c)) w)
+AllFates (event (host m h out) ∷ ds) w = AllFates ds (worldAfter (event (host m h out)) w)
+AllFates (alter d r ∷ ds) w = AllFates ds (worldAfter (alter d r) w)

@@ -1,0 +1,210 @@
+-- What a call can make of a held frame: 01, "Arrival and storing" and "The SCB". A fate is read from the outcome that also gives the call's writes:
+-- each statement ties the outcome's fate to memory and record as the call leaves them. Assumes nothing.
+use mathlib.Core.Path.{_≡_}
+use mathlib.Core.Bool.{Bool, true, false, not, _&&_, _||_}
+use mathlib.Core.List.{List, [], _∷_, _++_}
+use Prim.Native.Nat.{ℕ}
+use lib.Dec.{eqb}
+use lib.ListN.{take}
+use Rattle.memory.specs.Address.{place, offsetAt}
+use Rattle.memory.specs.Memory.{Write, bytesTo, wordTo, wordAt, countTo, apply}
+use Rattle.memory.specs.declared.Offset.{Offset}
+use Rattle.scb.specs.Words.{bit, statusAt, commandAt, statusWord, resets, ruc}
+use Rattle.device.specs.Limits.{header}
+use Rattle.device.specs.State.{cuState, ruState, isActive, isHolding, fresh}
+use Rattle.device.specs.declared.Fate.{Fate}
+use Rattle.device.specs.declared.Fate.the-variants as fate
+use Rattle.device.specs.declared.Frame.{Frame}
+use Rattle.device.specs.declared.Ru.{Ru}
+use Rattle.device.specs.declared.Ru.the-variants as ru
+use Rattle.device.specs.declared.Storing.{Storing}
+use Rattle.receive.specs.Begin.{isBare}
+use Rattle.receive.specs.End.{frameStatus, bareMark}
+use Rattle.control.specs.Control.{abortedRu}
+use Rattle.control.specs.Obey.{obeyCuc}
+use Rattle.attention.specs.Attention.{settledWrites}
+use Rattle.chip.specs.Call.{Call, reset, attention, arrive, turn, ran}
+use Rattle.chip.specs.World.{World, Ran}
+use Rattle.frames.specs.Arrival.{inScb, unitOf}
+
+-- the frame that a unit holds, none or one
+abbrev pub heldIn : Ru → List Frame
+heldIn ru.Idle = []
+heldIn ru.NoResources = []
+heldIn (ru.Suspended fd) = []
+heldIn (ru.Ready fd) = []
+heldIn (ru.Held fd f p) = f ∷ []
+heldIn (ru.Filling s w) = s .frame ∷ []
+heldIn (ru.Closing s free full) = s .frame ∷ []
+heldIn (ru.Lacking s) = s .frame ∷ []
+
+-- a fate of a held frame, not of an arriving one
+abbrev pub ofHeld : Fate → Bool
+ofHeld fate.Nothing = false
+ofHeld fate.TooFew = false
+ofHeld fate.NoMatch = false
+ofHeld fate.UnitIdle = false
+ofHeld fate.UnitSuspended = false
+ofHeld fate.Overrun = false
+ofHeld (fate.Bad c) = false
+ofHeld (fate.Held c) = false
+ofHeld fate.NoResources = false
+ofHeld fate.Stored = true
+ofHeld fate.StoredCounted = true
+ofHeld fate.Counted = true
+ofHeld fate.Aborted = true
+ofHeld fate.Reset = true
+
+-- ---- which calls end the holding
+
+-- the SCB's command word, as an attention reads it
+abbrev pub commandOf : World → ℕ
+commandOf w = wordAt (w .memory) (inScb w commandAt)
+
+-- 01, "The SCB": the reset call, a resetting attention, or an RU abort
+abbrev pub loses : Call → World → Bool
+loses reset w = true
+loses attention w = resets (commandOf w) || eqb (ruc (commandOf w)) 4
+loses (arrive f v) w = false
+loses (turn report) w = false
+
+-- 01, "Turns": an end turn is next once all is stored or buffers lack; it comes when the receive unit is served
+abbrev pub endIsNext : Ru → Bool
+endIsNext ru.Idle = false
+endIsNext ru.NoResources = false
+endIsNext (ru.Suspended fd) = false
+endIsNext (ru.Ready fd) = false
+endIsNext (ru.Held fd f p) = false
+endIsNext (ru.Filling s w) = false
+endIsNext (ru.Closing s free full) = true
+endIsNext (ru.Lacking s) = true
+
+-- RU has work while a frame is held, CU while Active. If both have, the unit not served at the last working turn is served
+abbrev pub servedRu : (cuWorks ruWorks rulast : Bool) → Bool
+servedRu cuWorks false rulast = false
+servedRu false true rulast = true
+servedRu true true rulast = not rulast
+
+abbrev pub ends : Call → World → Bool
+ends reset w = false
+ends attention w = false
+ends (arrive f v) w = false
+ends (turn report) w = servedRu (isActive (cuState (w .device .units .cu))) (isHolding (unitOf w)) (w .device .units .rulast) && endIsNext (unitOf w)
+
+-- ---- it stays held
+
+-- the same frame, judged as it was, in the holding area as it was; no fate of a held frame is given
+pub record StaysHeld (f : Frame) (w : World) (r : Ran) : Type 0 where
+  pub unit : heldIn (r .outcome .device .units .ru) ≡ f ∷ []
+  pub holding : r .holding ≡ w .holding
+  pub fate : ofHeld (r .outcome .fate) ≡ false
+
+-- ---- it is held no more: so much is there wherever a held frame's fate is given
+
+pub record FateOfHeld (w : World) (r : Ran) : Type 0 where
+  pub frame : Frame
+  pub held : heldIn (unitOf w) ≡ frame ∷ []
+  pub gone : heldIn (r .outcome .device .units .ru) ≡ []
+
+-- ---- the writes of an end turn
+
+-- a field of its frame descriptor
+abbrev pub inFrame : World → Storing → ℕ → ℕ
+inFrame w s field = place (w .device .units .base) (s .fd) field
+
+-- fourteen header bytes, from the holding area; the status
+abbrev pub headerTo : World → Storing → Write
+headerTo w s = bytesTo (inFrame w s 8) (take header (w .holding))
+
+abbrev pub markTo : World → Storing → ℕ → Write
+markTo w s status = wordTo (inFrame w s 0) status
+
+-- FFFFh at +6 if no data
+abbrev pub bareTo : World → Storing → List Write
+bareTo w s = bareMark (isBare (s .frame)) (inFrame w s 6)
+
+-- all of these
+abbrev pub described : (lacking : Bool) → World → Storing → List Write
+described lacking w s = headerTo w s ∷ markTo w s (frameStatus lacking (s .frame)) ∷ bareTo w s
+
+-- unless No Resources follows, +6 of the next frame descriptor (link read now) gets the next free offset
+abbrev pub onwardBy : (exhausted : Bool) → World → Storing → Offset → List ℕ → List Write
+onwardBy true w s free now = []
+onwardBy false w s free now = wordTo (place (w .device .units .base) (offsetAt now (inFrame w s 4)) 6) (free .0) ∷ []
+
+abbrev pub onward : World → Storing → Offset → Bool → List Write
+onward w s free full = onwardBy (s .el || full) w s free (apply (described false w s) (w .memory))
+
+-- the SCB status, as the record has it after the call
+abbrev pub statusAfter : World → Ran → List Write
+statusAfter w r =
+    let u = r .outcome .device .units in wordTo (inScb w statusAt) (statusWord (u .events) (cuState (u .cu)) (ruState (u .ru))) ∷ []
+
+-- ---- stored, counted
+
+-- stored: the turn's writes contain the 14 header bytes from the holding area and the status word with C (and bit 9 exactly if out of buffers), and
+-- FR is set in the record
+pub record Stored (lacking : Bool) (s : Storing) (rest : List Write) (w : World) (r : Ran) : Type 0 where
+  pub memory : r .memory ≡ apply (headerTo w s ∷ markTo w s (frameStatus lacking (s .frame)) ∷ rest) (w .memory)
+  pub complete : bit (frameStatus lacking (s .frame)) 15 ≡ true
+  pub lacks : bit (frameStatus lacking (s .frame)) 9 ≡ lacking
+  pub fr : r .outcome .device .units .events .fr ≡ true
+  pub gone : heldIn (r .outcome .device .units .ru) ≡ []
+  pub holding : r .holding ≡ w .holding
+
+-- counted: after the frame's other writes RSCERRS becomes one more (modulo 65,536) than the word that stands there then, and only the SCB status
+-- follows
+pub record Counted (others : List Write) (w : World) (r : Ran) : Type 0 where
+  pub memory : r .memory ≡ apply (others ++ (countTo (apply others (w .memory)) (inScb w 12) ∷ statusAfter w r)) (w .memory)
+  pub gone : heldIn (r .outcome .device .units .ru) ≡ []
+  pub holding : r .holding ≡ w .holding
+
+-- ---- lost: only by the reset call, a resetting attention, or an RU abort
+
+pub data Lost (w : World) : Call → Type 0 where
+  -- the record alone, whose content is ignored: so the outcome has no fate, and memory stays
+  by-reset : ran reset w .outcome .device ≡ fresh → ran reset w .memory ≡ w .memory → Lost w reset
+  -- write command 0 and become as after reset, nothing else
+  by-resetting : resets (commandOf w) ≡ true → ran attention w .outcome .fate ≡ fate.Reset → ran attention w .outcome .device ≡ fresh
+      → ran attention w .memory ≡ apply (wordTo (inScb w commandAt) 0x0000 ∷ []) (w .memory)
+      → Lost w attention
+  -- dropped uncounted: what CUC writes, 0000h to its frame descriptor if begun, then status and command
+  by-abort : resets (commandOf w) ≡ false → ruc (commandOf w) ≡ 4 → ran attention w .outcome .fate ≡ fate.Aborted
+      → ran attention w .outcome .device .units .ru ≡ ru.Idle
+      → ran attention w .memory
+      ≡ apply (obeyCuc (w .device .units) (commandOf w) (w .memory) .writes ++ abortedRu (w .device .units .base) (unitOf w)
+      ++ settledWrites (ran attention w .outcome .device .units)) (w .memory)
+      → Lost w attention
+
+-- ---- what becomes of a good one: stored exactly at the end of what has buffers enough, both exactly if kept with too few buffers
+
+pub data GoodFate (f : Frame) (c : Call) (w : World) : Type 0 where
+  stays : loses c w ≡ false → ends c w ≡ false → StaysHeld f w (ran c w) → GoodFate f c w
+  stored : (s : Storing) (free : Offset) (full : Bool) → ends c w ≡ true → unitOf w ≡ ru.Closing s free full → s .frame ≡ f
+      → ran c w .outcome .fate ≡ fate.Stored
+      → Stored false s (bareTo w s ++ (onward w s free full ++ statusAfter w (ran c w))) w (ran c w)
+      → GoodFate f c w
+  counted : (s : Storing) → ends c w ≡ true → unitOf w ≡ ru.Lacking s → s .frame ≡ f → f .savebad ≡ false
+      → ran c w .outcome .fate ≡ fate.Counted
+      → Counted (markTo w s 0x0000 ∷ []) w (ran c w)
+      → GoodFate f c w
+  both : (s : Storing) → ends c w ≡ true → unitOf w ≡ ru.Lacking s → s .frame ≡ f → f .savebad ≡ true
+      → ran c w .outcome .fate ≡ fate.StoredCounted
+      → Stored true s (bareTo w s ++ (countTo (apply (described true w s) (w .memory)) (inScb w 12) ∷ statusAfter w (ran c w))) w (ran c w)
+      → Counted (described true w s) w (ran c w)
+      → GoodFate f c w
+  lost : loses c w ≡ true → Lost w c → GoodFate f c w
+
+-- ---- what becomes of a bad one, which is held only to be saved: no write of its end turn is a counter's
+
+pub data BadFate (f : Frame) (c : Call) (w : World) : Type 0 where
+  stays : loses c w ≡ false → ends c w ≡ false → StaysHeld f w (ran c w) → BadFate f c w
+  stored : (s : Storing) (free : Offset) (full : Bool) → ends c w ≡ true → unitOf w ≡ ru.Closing s free full → s .frame ≡ f
+      → ran c w .outcome .fate ≡ fate.Stored
+      → Stored false s (bareTo w s ++ (onward w s free full ++ statusAfter w (ran c w))) w (ran c w)
+      → BadFate f c w
+  lacking : (s : Storing) → ends c w ≡ true → unitOf w ≡ ru.Lacking s → s .frame ≡ f
+      → ran c w .outcome .fate ≡ fate.Stored
+      → Stored true s (bareTo w s ++ statusAfter w (ran c w)) w (ran c w)
+      → BadFate f c w
+  lost : loses c w ≡ true → Lost w c → BadFate f c w

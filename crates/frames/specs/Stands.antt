@@ -1,0 +1,160 @@
+-- Stored and counted as facts about memory at exit, where no piece that the turn writes lies over another. Assumes nothing.
+use mathlib.Core.Path.{_≡_}
+use mathlib.Core.Bool.{Bool, true, false, _||_}
+use mathlib.Core.List.{List, [], _∷_, _++_}
+use Prim.Native.Nat.{ℕ, _+_, _%_, _≤_}
+use lib.ListN.{length, take}
+use Rattle.memory.specs.Address.{place, offsetAt}
+use Rattle.memory.specs.Memory.{Write, wordAt, bytesAt, apply}
+use Rattle.memory.specs.declared.Offset.{Offset}
+use Rattle.memory.proofs.Fields.{Apart, AllApart}
+use Rattle.scb.specs.Words.{bit, statusAt}
+use Rattle.device.specs.Limits.{header}
+use Rattle.device.specs.declared.Fate.the-variants as fate
+use Rattle.device.specs.declared.Frame.{Frame}
+use Rattle.device.specs.declared.Ru.{Ru}
+use Rattle.device.specs.declared.Ru.the-variants as ru
+use Rattle.device.specs.declared.Storing.{Storing}
+use Rattle.receive.specs.Begin.{isBare}
+use Rattle.receive.specs.End.{frameStatus}
+use Rattle.chip.specs.Call.{Call, ran}
+use Rattle.chip.specs.World.{World, Ran}
+use Rattle.frames.specs.Arrival.{inScb, unitOf}
+use Rattle.frames.specs.Held.{inFrame, described, loses, ends, StaysHeld, Lost}
+
+-- in a memory of n bytes no write lies over another
+abbrev pub Separate : ℕ → List Write → Type 0
+Separate n [] = Unit {0}
+Separate n (x ∷ xs) = AllApart n xs (x .to) (length (x .bytes)) × Separate n xs
+
+-- the header bytes and the status word, with C, stand in the frame descriptor
+pub record StoredStands (lacking : Bool) (s : Storing) (w : World) (r : Ran) : Type 0 where
+  pub bytes : bytesAt (r .memory) (inFrame w s 8) header ≡ take header (w .holding)
+  pub status : wordAt (r .memory) (inFrame w s 0) ≡ frameStatus lacking (s .frame)
+  pub complete : bit (wordAt (r .memory) (inFrame w s 0)) 15 ≡ true
+
+-- RSCERRS is one more (modulo 65,536) than at entry
+abbrev pub CountedStands : World → Ran → Type 0
+CountedStands w r = wordAt (r .memory) (inScb w 12) ≡ (wordAt (w .memory) (inScb w 12) + 1) % 65536
+
+-- the four counters are as at entry: CRCERRS, ALNERRS, RSCERRS, OVRNERRS, in this order from +8 on
+abbrev pub CountersStand : World → Ran → Type 0
+CountersStand w r = bytesAt (r .memory) (inScb w 8) 8 ≡ bytesAt (w .memory) (inScb w 8) 8
+
+-- ---- the pieces by their places
+
+-- so many bytes from an address on
+pub record Piece : Type 0 where
+  pub from : ℕ
+  pub size : ℕ
+
+abbrev pub piece : ℕ → ℕ → Piece
+piece a n = record { from = a; size = n }
+
+-- in a memory of n bytes no piece lies over another
+abbrev pub Away : ℕ → List Piece → Piece → Type 0
+Away n [] p = Unit {0}
+Away n (q ∷ qs) p = Apart n (q .from) (q .size) (p .from) (p .size) × Away n qs p
+
+abbrev pub NoOverlap : ℕ → List Piece → Type 0
+NoOverlap n [] = Unit {0}
+NoOverlap n (p ∷ ps) = Away n ps p × NoOverlap n ps
+
+-- +6 of the next frame descriptor, link read now
+abbrev pub nextFirst : World → Storing → ℕ
+nextFirst w s = place (w .device .units .base) (offsetAt (apply (described false w s) (w .memory)) (inFrame w s 4)) 6
+
+-- FFFFh at +6 if no data; +6 of the next frame descriptor unless No Resources follows
+abbrev pub barePiece : (bare : Bool) → World → Storing → List Piece
+barePiece true w s = piece (inFrame w s 6) 2 ∷ []
+barePiece false w s = []
+
+abbrev pub onwardPiece : (exhausted : Bool) → World → Storing → List Piece
+onwardPiece true w s = []
+onwardPiece false w s = piece (nextFirst w s) 2 ∷ []
+
+-- what is written to a frame descriptor if the frame is stored, and the rest
+abbrev pub storedPieces : World → Storing → List Piece → List Piece
+storedPieces w s rest = piece (inFrame w s 8) header ∷ piece (inFrame w s 0) 2 ∷ (barePiece (isBare (s .frame)) w s ++ rest)
+
+-- out of buffers: kept, or status 0000h alone; either way RSCERRS, then the SCB status
+abbrev pub lackingPieces : (saved : Bool) → World → Storing → List Piece
+lackingPieces true w s = storedPieces w s (piece (inScb w 12) 2 ∷ piece (inScb w statusAt) 2 ∷ [])
+lackingPieces false w s = piece (inFrame w s 0) 2 ∷ piece (inScb w 12) 2 ∷ piece (inScb w statusAt) 2 ∷ []
+
+-- all that an end turn of a good frame writes
+abbrev pub pieces : Ru → World → List Piece
+pieces ru.Idle w = []
+pieces ru.NoResources w = []
+pieces (ru.Suspended fd) w = []
+pieces (ru.Ready fd) w = []
+pieces (ru.Held fd f p) w = []
+pieces (ru.Filling s k) w = []
+pieces (ru.Closing s free full) w = storedPieces w s (onwardPiece (s .el || full) w s ++ piece (inScb w statusAt) 2 ∷ [])
+pieces (ru.Lacking s) w = lackingPieces (s .frame .savebad) w s
+
+-- what becomes of a good frame, as facts about memory at exit
+pub data GoodExit (f : Frame) (c : Call) (w : World) : Type 0 where
+  stays : loses c w ≡ false → ends c w ≡ false → StaysHeld f w (ran c w) → GoodExit f c w
+  stored : (s : Storing) (free : Offset) (full : Bool) → ends c w ≡ true → unitOf w ≡ ru.Closing s free full → s .frame ≡ f
+      → ran c w .outcome .fate ≡ fate.Stored
+      → StoredStands false s w (ran c w)
+      → ran c w .outcome .device .units .events .fr ≡ true
+      → GoodExit f c w
+  counted : (s : Storing) → ends c w ≡ true → unitOf w ≡ ru.Lacking s → s .frame ≡ f → f .savebad ≡ false
+      → ran c w .outcome .fate ≡ fate.Counted
+      → CountedStands w (ran c w)
+      → GoodExit f c w
+  both : (s : Storing) → ends c w ≡ true → unitOf w ≡ ru.Lacking s → s .frame ≡ f → f .savebad ≡ true
+      → ran c w .outcome .fate ≡ fate.StoredCounted
+      → StoredStands true s w (ran c w)
+      → ran c w .outcome .device .units .events .fr ≡ true
+      → CountedStands w (ran c w)
+      → GoodExit f c w
+  lost : loses c w ≡ true → Lost w c → GoodExit f c w
+
+-- ---- a bad frame: no counter moves
+
+-- all that an end turn of a bad frame writes, and the four counters, which it does not
+abbrev pub badPieces : Ru → World → List Piece
+badPieces ru.Idle w = []
+badPieces ru.NoResources w = []
+badPieces (ru.Suspended fd) w = []
+badPieces (ru.Ready fd) w = []
+badPieces (ru.Held fd f p) w = []
+badPieces (ru.Filling s k) w = []
+badPieces (ru.Closing s free full) w =
+    storedPieces w s (onwardPiece (s .el || full) w s ++ piece (inScb w statusAt) 2 ∷ piece (inScb w 8) 8 ∷ [])
+badPieces (ru.Lacking s) w = storedPieces w s (piece (inScb w statusAt) 2 ∷ piece (inScb w 8) 8 ∷ [])
+
+-- header bytes and status stand, bit 9 is set exactly if out of buffers, FR is set in the record, and the counters are as at entry
+pub record SavedStands (lacking : Bool) (s : Storing) (w : World) (r : Ran) : Type 0 where
+  pub stored : StoredStands lacking s w r
+  pub lacks : bit (wordAt (r .memory) (inFrame w s 0)) 9 ≡ lacking
+  pub fr : r .outcome .device .units .events .fr ≡ true
+  pub counters : CountersStand w r
+
+-- what becomes of a bad frame, as facts about memory at exit
+pub data BadExit (f : Frame) (c : Call) (w : World) : Type 0 where
+  stays : loses c w ≡ false → ends c w ≡ false → StaysHeld f w (ran c w) → BadExit f c w
+  stored : (s : Storing) (free : Offset) (full : Bool) → ends c w ≡ true → unitOf w ≡ ru.Closing s free full → s .frame ≡ f
+      → ran c w .outcome .fate ≡ fate.Stored
+      → SavedStands false s w (ran c w)
+      → BadExit f c w
+  lacking : (s : Storing) → ends c w ≡ true → unitOf w ≡ ru.Lacking s → s .frame ≡ f
+      → ran c w .outcome .fate ≡ fate.Stored
+      → SavedStands true s w (ran c w)
+      → BadExit f c w
+  lost : loses c w ≡ true → Lost w c → BadExit f c w
+
+-- ---- when that is so
+
+-- the frame descriptor's 22 bytes and the SCB's 16 have no byte in common
+pub record Clear (w : World) (s : Storing) : Type 0 where
+  pub room : 22 ≤ length (w .memory)
+  pub apart : Apart (length (w .memory)) (inFrame w s 0) 22 (inScb w 0) 16
+
+-- nor has +6 of the next frame descriptor with either
+pub record NextClear (w : World) (s : Storing) : Type 0 where
+  pub frame : Apart (length (w .memory)) (nextFirst w s) 2 (inFrame w s 0) 22
+  pub scb : Apart (length (w .memory)) (nextFirst w s) 2 (inScb w 0) 16
