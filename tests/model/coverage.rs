@@ -8,7 +8,7 @@ use std::io::{self, Write};
 pub const PORTION: u64 = 2_500;
 
 /// Met less often than this in 50,000 calls is rare.
-const RARE: u64 = 30;
+const RARE: u64 = 20;
 
 pub fn coverage(seed: u64, calls: u64, out: &mut dyn Write) -> io::Result<bool> {
     let mut met: BTreeMap<String, u64> = points().into_iter().map(|point| (point, 0)).collect();

@@ -49,8 +49,8 @@ struct Scene {
     /// Where the next piece goes, and where those before it went.
     free: usize,
     pieces: Vec<usize>,
-    /// A chain of about 64 descriptors was laid: turns come in bundles.
-    long: bool,
+    /// Working turns since a list or a receive area was started.
+    stale: usize,
 }
 
 pub struct Generator<'a> {
@@ -60,7 +60,6 @@ pub struct Generator<'a> {
     expect: &'a mut dyn Write,
     calls: u64,
     scene: Scene,
-    text: String,
 }
 
 /// Makes the list of a seed, of about so many calls. The model that ran it comes back.
@@ -72,7 +71,6 @@ pub fn generate(seed: u64, calls: u64, list: &mut dyn Write, expect: &mut dyn Wr
         expect,
         calls: 0,
         scene: Scene::default(),
-        text: String::new(),
     };
     generator.line(format!("# seed {seed}, about {calls} calls"))?;
     generator.before_reset()?;
@@ -80,7 +78,7 @@ pub fn generate(seed: u64, calls: u64, list: &mut dyn Write, expect: &mut dyn Wr
     while generator.calls < calls {
         scenes += 1;
         generator.line(format!("say scene {scenes}"))?;
-        let most = (calls - generator.calls).min(20 + generator.random.below(110) as u64);
+        let most = (calls - generator.calls).min(30 + generator.random.below(130) as u64);
         generator.play(most)?;
     }
     generator.line(format!("show memory 0 {MEMORY}"))?;
@@ -91,8 +89,70 @@ pub fn generate(seed: u64, calls: u64, list: &mut dyn Write, expect: &mut dyn Wr
     Ok(generator.replay)
 }
 
+/// A short list with a bad line in it: a good line with a character or a word too many, too few or another.
+pub fn bad(seed: u64) -> Vec<u8> {
+    let mut random = Random(seed ^ 0x0BAD_0BAD);
+    let good = [
+        "size 65536", "size 2000h", "reset", "attention", "arrival 0 FFFFFFFFFFFF 46x55 0102", "arrival 4294967295", "turn", "turn 3",
+        "turn 2 FFFFh", "bytes memory 65534 0102", "bytes holding 2047 1x7F", "words outgoing 07FEh 65535", "words memory 0 1 2h 3",
+        "show memory 16 33", "look holding 10h 9", "interrupt", "say what # this", "show outgoing 2040 8 # all", "  look\tmemory 65534\t1  ",
+    ];
+    let odd = b" \thxX#0159afFG-+_.,:/@";
+    loop {
+        let mut list = Vec::new();
+        for _ in 0..random.below(4) {
+            list.extend(random.pick(&good).as_bytes());
+            list.push(b'\n');
+        }
+        let mut line = random.pick(&good).as_bytes().to_vec();
+        for _ in 0..1 + random.below(3) {
+            let first = line.iter().position(|&byte| byte == b' ').map_or(0, |place| place + 1);
+            let first = if random.chance(75) { first } else { 0 };
+            let at = first + random.below(line.len() + 1 - first);
+            let start = line[..at].iter().rposition(|&byte| byte == b' ').map_or(0, |place| place + 1);
+            match random.below(6) {
+                0 | 1 => line.insert(at, random.pick(odd)),
+                2 if at < line.len() => line[at] = random.pick(odd),
+                3 if at < line.len() => {
+                    line.remove(at);
+                }
+                4 => line.truncate(start),
+                _ => {
+                    let words: [&[u8]; 8] = [b"65536", b"65537", b"4294967296", b"0 ", b"memory ", b"2048 ", b" #", b"FFFFh "];
+                    let word = random.pick(&words);
+                    line.splice(at..at, word.iter().copied());
+                }
+            }
+        }
+        list.extend(line);
+        let end = list.len();
+        list.extend(b"\ninterrupt\n");
+        if random.chance(20) {
+            list.truncate(end);
+        }
+        // Counts beyond all areas are no part of this.
+        if list.split(|byte| !byte.is_ascii_alphanumeric()).any(|word| word.iter().take_while(|byte| byte.is_ascii_digit()).count() > 7 && word.contains(&b'x')) {
+            continue;
+        }
+        let ends_badly = crate::list::run(&list, &mut io::sink()).is_ok_and(|(bad, _)| bad);
+        if ends_badly {
+            return list;
+        }
+    }
+}
+
 fn hex(bytes: &[u8]) -> String {
     bytes.iter().map(|byte| format!("{byte:02X}")).collect()
+}
+
+/// A Transmit's failing end is next.
+fn fails(device: &Device) -> bool {
+    matches!(device.begun().map(|begun| begun.step), Some(Send::End { failed: true, .. }))
+}
+
+/// The end of a frame that ran out of buffers is next.
+fn out(device: &Device) -> bool {
+    matches!(device.held().and_then(|held| held.begun).map(|begun| begun.step), Some(Store::End { out: true, .. }))
 }
 
 impl Generator<'_> {
@@ -106,7 +166,6 @@ impl Generator<'_> {
             Ok(calls) => self.calls += u64::from(calls),
             Err(bad) => panic!("the generator made a bad line: {text}: {bad:?}"),
         }
-        self.text = text;
         Ok(())
     }
 
@@ -246,8 +305,8 @@ impl Generator<'_> {
             let bytes: Vec<u8> = (0..64).map(|_| self.random.byte()).collect();
             self.put(at, &bytes)?;
         }
-        for _ in 0..12 {
-            if self.random.chance(20) {
+        for _ in 0..20 {
+            if self.random.chance(25) {
                 self.size()?;
             }
             match self.random.below(4) {
@@ -281,7 +340,7 @@ impl Generator<'_> {
             wild: self.random.pick(&[10, 20, 20, 40, 70]),
             free: self.random.below(8192),
             pieces: Vec::new(),
-            long: false,
+            stale: 0,
         };
         if self.random.chance(75) || !self.device().scb.is_some() {
             self.allowed_size()?;
@@ -298,7 +357,7 @@ impl Generator<'_> {
             }
             self.step()?;
         }
-        if self.random.chance(12) {
+        if self.random.chance(20) {
             let n = self.n();
             self.line(format!("show memory 0 {n}"))?;
         }
@@ -359,28 +418,233 @@ impl Generator<'_> {
             self.note("size altered under a running chip");
             self.allowed_size()?;
         }
+        match self.random.below(280) {
+            0 => return self.long_send(),
+            1 => return self.long_store(),
+            2..=6 => return self.small_store(),
+            7..=11 => return self.small_send(),
+            _ => {}
+        }
         let device = self.device();
         let works = device.cu_works() || device.ru_works();
         let held = device.ru_works();
         let ready = matches!(device.ru, Ru::Ready { .. });
         let no_resources = matches!(device.ru, Ru::NoResources);
+        let waiting = device.cu_name().contains("waits") || device.ru_name().contains("waits");
+        let begun = device.begun().is_some_and(|begun| matches!(begun.step, Send::End { .. }));
+        let failing = fails(device) || out(device);
+        let fresh = device.ru_name() == "Ready, held";
         let roll = self.random.below(100);
-        if works {
-            let arrivals = if ready && !held { 30 } else if held { 7 } else if no_resources { 10 } else { 3 };
-            let attentions = if self.scene.long { 2 } else { 17 };
-            if roll < arrivals {
-                self.arrival()
-            } else if roll < arrivals + attentions {
-                self.attention()
-            } else {
-                self.turn()
-            }
-        } else if ready {
-            if roll < 65 { self.arrival() } else if roll < 96 { self.attention() } else { self.turn() }
+        let (arrivals, attentions) = match (works, ready) {
+            (true, true) if !held => (32, 18),
+            (true, _) if waiting => (5, 35),
+            (true, _) if fresh => (6, 40),
+            (true, _) if failing => (4, 45),
+            (true, _) if begun => (4, 32),
+            (true, _) => (if held { 7 } else if no_resources { 12 } else { 3 }, if self.scene.stale > 60 { 40 } else { 20 }),
+            (false, true) => (72, 25),
+            (false, false) => (if no_resources { 40 } else { 7 }, if no_resources { 57 } else { 90 }),
+        };
+        if roll < arrivals {
+            self.arrival()
+        } else if roll < arrivals + attentions {
+            self.attention()
         } else {
-            let arrivals = if no_resources { 35 } else { 8 };
-            if roll < arrivals { self.arrival() } else if roll < 96 { self.attention() } else { self.turn() }
+            self.turn()
         }
+    }
+
+    // ---- One frame, closely watched ----
+
+    /// Starts a list of one Configure.
+    fn start_configure(&mut self, save_bad: bool, minimum: u8) -> io::Result<()> {
+        let block = self.piece(24);
+        let offset = self.offset(block);
+        self.put(block, &[0, 0, 2, 0x80, 0, 0, 12, 0, if save_bad { 0x80 } else { 0 }, 6, 0, 0, 0, 0, 0, 0, minimum, 0])?;
+        self.put_words(self.scb(4), &[offset])?;
+        self.command(0x0100)
+    }
+
+    /// A frame, good or bad, into few buffers, with SUSPEND, S and other settings on its way.
+    fn small_store(&mut self) -> io::Result<()> {
+        self.command(0xF440)?;
+        let save_bad = self.random.chance(85);
+        let minimum = self.random.pick(&[64, 64, 64, 40, 18]);
+        self.start_configure(save_bad, minimum)?;
+        self.line("turn 2".into())?;
+        let descriptors = [self.piece(22), self.piece(22), self.piece(10), self.piece(10)];
+        let offsets = descriptors.map(|at| self.offset(at));
+        let bits = self.random.pick(&[0, 0, 0x4000, 0x4000, 0x8000, 0xC000]);
+        let first = if self.random.chance(25) { NONE } else { offsets[2] };
+        self.put_words(descriptors[0], &[0, bits, offsets[1], first])?;
+        for (i, next) in [(2, offsets[3]), (3, NONE)] {
+            let size = self.random.pick(&[0, 1, 20, 30, 50]);
+            let el = if self.random.chance(20) { 0x8000 } else { 0 };
+            let data = self.piece(size);
+            let real = self.real(data);
+            self.put_words(descriptors[i], &[0, next, real as u16, (real >> 16) as u16, size as u16 | el])?;
+        }
+        self.put_words(self.scb(6), &[offsets[0]])?;
+        self.command(0x0010)?;
+        let length = 14 + self.random.below(60);
+        let to = self.sure();
+        self.frame(to, length)?;
+        for _ in 0..9 {
+            match self.random.below(14) {
+                0 | 1 => self.command(0x0030)?,
+                2 => self.attention()?,
+                3 | 4 if !self.device().cu_works() => self.start_configure(!save_bad, minimum)?,
+                _ if self.device().ru_works() => self.turn()?,
+                _ => break,
+            }
+        }
+        self.show_scb()?;
+        self.show(descriptors[0], 22)?;
+        self.show(descriptors[1], 8)
+    }
+
+    /// One command, mostly a short Transmit, with SUSPEND on its way.
+    fn small_send(&mut self) -> io::Result<()> {
+        self.command(0xF400)?;
+        let descriptor = self.piece(8);
+        let size = self.random.below(30);
+        let data = self.piece(size);
+        let real = self.real_bytes(data);
+        let first = if self.random.chance(50) { NONE } else { self.offset(descriptor) };
+        self.put_words(descriptor, &[0x8000 | size as u16, NONE])?;
+        self.put(descriptor + 4, &real)?;
+        let (block, kind) = (self.piece(18), self.random.pick(&[4, 4, 4, 4, 4, 4, 0, 1, 5, 6, 7]));
+        let bits = self.random.pick(&[0x8000, 0x4000, 0x4000, 0xE000, 0x6000, 0x2000, 0]);
+        let link = self.piece_offset();
+        self.put_words(block, &[self.calls as u16, bits | kind, link, first])?;
+        let to = self.address();
+        self.put(block + 8, &to)?;
+        let offset = self.offset(block);
+        self.put_words(self.scb(4), &[offset])?;
+        self.command(0x0100)?;
+        self.turn()?;
+        for _ in 0..5 {
+            if self.device().begun().is_none() {
+                break;
+            }
+            let waits = self.device().cu_name().contains("waits");
+            match self.random.below(10) {
+                0..=2 if !waits => self.command(0x0300)?,
+                0..=3 if waits => self.attention()?,
+                _ => self.turn()?,
+            }
+        }
+        self.show_scb()?;
+        self.show(block, 16)
+    }
+
+    // ---- Chains of about 64 ----
+
+    /// An attention with this command word.
+    fn command(&mut self, code: u16) -> io::Result<()> {
+        self.put_words(self.scb(2), &[code])?;
+        self.line("attention".into())
+    }
+
+    /// A Transmit of 63 to 66 descriptors, or of one that is its own next.
+    fn long_send(&mut self) -> io::Result<()> {
+        self.command(0xF400)?;
+        let count = self.random.pick(&[63, 64, 64, 64, 65, 65]);
+        let width = self.random.pick(&[7, 8]);
+        let size = self.random.below(32);
+        let first = self.piece(count * width);
+        let data = self.piece(size + 1);
+        let mut all = Vec::new();
+        for i in 0..count {
+            let last = i + 1 == count;
+            let next = self.offset((first + (i + 1) * width) % self.n());
+            let word = size as u16 | if last { 0x8000 } else { 0 };
+            let real = self.real_bytes(data + i % 7);
+            all.extend(word.to_le_bytes());
+            all.extend(next.to_le_bytes());
+            all.extend(&real[..width - 4]);
+        }
+        self.put(first, &all)?;
+        let offset = self.offset(first);
+        if self.random.chance(15) {
+            self.put_words(first + 2, &[offset])?;
+        }
+        let block = self.piece(16);
+        let word = 0x8004 | self.random.word() & 0x6000;
+        let to = self.address();
+        let mut bytes = Vec::new();
+        for word in [0, word, self.random.word(), offset] {
+            bytes.extend(word.to_le_bytes());
+        }
+        bytes.extend(to);
+        bytes.extend(self.random.word().to_le_bytes());
+        self.put(block, &bytes)?;
+        let block = self.offset(block);
+        self.put_words(self.scb(4), &[block])?;
+        self.put_words(self.scb(2), &[0x0100])?;
+        self.line("attention".into())?;
+        self.observe()?;
+        self.bundles()
+    }
+
+    /// A frame of about 64 bytes of data into buffers of one byte, as many or one that is its own next.
+    fn long_store(&mut self) -> io::Result<()> {
+        self.command(0xF040)?;
+        let count = self.random.pick(&[1, 1, 64, 65, 66]);
+        let first = self.piece(count * 10);
+        let data = self.piece(64);
+        let mut all = Vec::new();
+        for i in 0..count {
+            let next = if count == 1 { first } else { (first + 10 * i + 10) % self.n() };
+            let next = self.offset(next);
+            all.extend([0, 0]);
+            all.extend(next.to_le_bytes());
+            let n = self.n();
+            all.extend(self.real_bytes((data + i) % n));
+            all.extend([1, 0]);
+        }
+        self.put(first, &all)?;
+        let descriptors = [self.piece(22), self.piece(22)];
+        let link = self.offset(descriptors[1]);
+        let pointer = self.offset(first);
+        let bits = self.random.pick(&[0, 0, 0, 0x4000, 0x8000]);
+        self.put_words(descriptors[0], &[0, bits, link, pointer])?;
+        let descriptor = self.offset(descriptors[0]);
+        self.put_words(self.scb(6), &[descriptor])?;
+        self.put_words(self.scb(2), &[0x0010])?;
+        self.line("attention".into())?;
+        self.observe()?;
+        let length = 14 + self.random.pick(&[63, 64, 64, 65, 65, 65]);
+        let to = self.sure();
+        self.frame(to, length)?;
+        self.bundles()?;
+        self.show(descriptors[1], 8)
+    }
+
+    /// Turns in bundles, until the chain that is worked on has ended.
+    fn bundles(&mut self) -> io::Result<()> {
+        for _ in 0..12 {
+            let device = self.device();
+            let units = usize::from(device.cu_works()) + usize::from(device.ru_works());
+            let sending = match device.begun().map(|begun| begun.step) {
+                Some(Send::Buffer { used, .. }) => 64 - usize::from(used),
+                _ => 0,
+            };
+            let storing = match device.held().and_then(|held| held.begun).map(|begun| begun.step) {
+                Some(Store::Buffer { used, .. }) => 64 - usize::from(used),
+                _ => 0,
+            };
+            let ahead = sending.max(storing);
+            if units == 0 {
+                break;
+            }
+            self.turn_line((ahead * 3 / 4).max(1))?;
+            self.observe()?;
+            if self.random.chance(3) {
+                self.attention()?;
+            }
+        }
+        Ok(())
     }
 
     // ---- The first attention ----
@@ -407,7 +671,7 @@ impl Generator<'_> {
         let offset = low + n * self.random.below(65_536 / n);
         self.scene.free = (scb + 16 + self.random.below(n - 200)) % n;
         if self.random.chance(60) {
-            let near = self.random.pick(&[0, 0xFFFF, 0xFFFE]);
+            let near = self.random.pick(&[0xFFFF, 0xFFFF, 0xFFFE]);
             let words: Vec<u16> = (0..4).map(|_| if self.random.chance(50) { near } else { 0 }).collect();
             self.put_words(scb + 8, &words)?;
         }
@@ -421,6 +685,36 @@ impl Generator<'_> {
         self.put(n - 4, &pointer)?;
         self.line("attention".into())?;
         self.show(iscp, 8)?;
+        self.observe()?;
+        if self.random.chance(65) { self.settle() } else { Ok(()) }
+    }
+
+    /// Settings other than a reset's, mostly such that frames come in.
+    fn settle(&mut self) -> io::Result<()> {
+        let kinds = [1, 3, 2];
+        let places: Vec<usize> = kinds.iter().map(|kind| self.piece(if *kind == 3 { 106 } else { 24 })).collect();
+        let offsets: Vec<u16> = places.iter().map(|at| self.offset(*at)).collect();
+        for (i, kind) in kinds.iter().enumerate() {
+            let mut block = Vec::new();
+            for word in [0, kind | if i == 2 { 0x8000 } else { 0 }, offsets[(i + 1) % 3]] {
+                block.extend(word.to_le_bytes());
+            }
+            let mut parameters = self.parameters(*kind)?;
+            if *kind == 2 {
+                parameters[0] |= if self.random.chance(70) { 0x0C } else { 0 };
+                parameters[2] |= if self.random.chance(50) { 0x80 } else { 0 };
+                parameters[3] = 0x26;
+            }
+            if *kind == 1 && parameters[..6] == [0xFF; 6] {
+                parameters[0] = 0x02;
+            }
+            block.extend(parameters);
+            self.put(places[i], &block)?;
+        }
+        self.put_words(self.scb(4), &[offsets[0]])?;
+        self.put_words(self.scb(2), &[0xF100])?;
+        self.line("attention".into())?;
+        self.line("turn 6".into())?;
         self.observe()
     }
 
@@ -435,18 +729,33 @@ impl Generator<'_> {
             _ => self.random.word() & 0xF000,
         };
         let (mut cuc, mut ruc) = (self.random.below(8), self.random.below(8));
-        if !self.random.chance(self.scene.wild) {
+        let (cu, ru) = (self.device().cu_name(), self.device().ru_name());
+        let seldom = cu.contains("waits") || ru.contains("waits") || ru == "Ready, held" || ru == "Suspended";
+        if self.scene.stale > 60 && self.random.chance(60) {
+            // Lists and areas that lead nowhere are left.
+            self.scene.stale = 0;
+            (cuc, ruc) = (4, if self.random.chance(50) { 4 } else { ruc });
+        } else if !self.random.chance(if seldom { 75 } else { self.scene.wild }) {
             cuc = match self.device().cu {
                 Cu::Idle => self.random.pick(&[1, 1, 1, 1, 0]),
                 Cu::Suspended { .. } => self.random.pick(&[2, 2, 1, 0, 4]),
-                Cu::Active { .. } => self.random.pick(&[0, 0, 0, 0, 0, 3, 3, 4]),
+                Cu::Active { begun: Some(begun), .. } if begun.kind == 4 => self.random.pick(&[0, 0, 0, 0, 3, 3, 4]),
+                Cu::Active { begun: Some(_), .. } => self.random.pick(&[0, 3, 3, 4, 4, 4]),
+                Cu::Active { .. } => self.random.pick(&[0, 0, 0, 0, 0, 3, 4]),
             };
             ruc = match self.device().ru {
                 Ru::Idle => self.random.pick(&[1, 1, 1, 1, 0]),
                 Ru::Suspended { .. } => self.random.pick(&[2, 2, 1, 0, 0, 0]),
                 Ru::NoResources => self.random.pick(&[1, 1, 1, 0]),
+                Ru::Ready { held: Some(_), .. } => self.random.pick(&[0, 0, 0, 0, 3, 3, 4]),
                 Ru::Ready { .. } => self.random.pick(&[0, 0, 0, 0, 0, 0, 3, 4]),
             };
+        }
+        if fails(self.device()) && self.random.chance(40) {
+            cuc = 4;
+        }
+        if out(self.device()) && self.random.chance(25) {
+            ruc = 4;
         }
         if cuc == 1 && self.random.chance(90) {
             let first = self.command_list()?;
@@ -460,7 +769,10 @@ impl Generator<'_> {
         if self.random.chance(20) {
             word |= self.random.word() & 0x080F;
         }
-        if self.random.below(60) == 0 {
+        if cuc == 1 || ruc == 1 {
+            self.scene.stale /= 2;
+        }
+        if self.random.below(if seldom { 12 } else { 25 }) == 0 {
             word |= 0x0080;
         }
         if !self.random.chance(3) {
@@ -474,8 +786,15 @@ impl Generator<'_> {
 
     /// Lays a list; the offset of its first block comes back.
     fn command_list(&mut self) -> io::Result<u16> {
-        let count = self.random.pick(&[1, 1, 1, 2, 2, 3, 4, 6]);
-        let kinds: Vec<u16> = (0..count).map(|_| self.random.pick(&[0, 1, 2, 2, 2, 2, 3, 3, 4, 4, 4, 4, 4, 4, 5, 6, 7])).collect();
+        let count = self.random.pick(&[1, 1, 1, 1, 2, 2, 3, 4, 6]);
+        let mut kinds: Vec<u16> = (0..count).map(|_| self.random.pick(&[0, 1, 2, 2, 2, 2, 3, 3, 4, 4, 4, 4, 4, 4, 4, 5, 5, 6, 6, 7, 7])).collect();
+        if count == 1 && self.random.chance(40) {
+            kinds[0] = 4;
+        }
+        // Settings that change under a held frame.
+        if self.device().ru_works() && self.random.chance(60) {
+            kinds[0] = 2;
+        }
         let places: Vec<usize> = kinds.iter().map(|kind| self.piece(if *kind == 3 { 106 } else { 24 })).collect();
         let offsets: Vec<u16> = places.iter().map(|at| self.offset(*at)).collect();
         for (i, kind) in kinds.iter().enumerate() {
@@ -515,7 +834,7 @@ impl Generator<'_> {
             3 => {
                 let odd = self.random.below(6);
                 let most = self.random.word();
-                let count = self.random.pick(&[0, 6, 12, 18, 36, 84, 90, 96, 96 + odd, 102, 101, 102, 108, 5, odd, 30 + odd]);
+                let count = self.random.pick(&[0, 6, 12, 18, 36, 84, 90, 90 + odd, 96, 96 + odd, 102, 101, 102, 108, 5, odd, 30 + odd]);
                 let count = if self.random.chance(8) { most } else { count as u16 };
                 let high = if self.random.chance(15) { self.random.word() & 0xC000 } else { 0 };
                 let mut bytes = (count | high).to_le_bytes().to_vec();
@@ -537,17 +856,18 @@ impl Generator<'_> {
 
     fn configure_bytes(&mut self) -> Vec<u8> {
         let count = self.random.below(16) as u8 | if self.random.chance(20) { self.random.byte() & 0xF0 } else { 0 };
-        let count = if self.random.chance(40) { self.random.pick(&[11, 12, 10, 9, 8]) } else { count };
+        let count = if self.random.chance(15) { self.random.pick(&[11, 12, 10, 9, 8]) } else { count };
         let mut bytes: Vec<u8> = (0..14).map(|_| self.random.byte()).collect();
         bytes[0] = count;
         bytes[3] = match self.random.below(20) {
             0 => self.random.byte(),
-            1 => 0x26 ^ 1 << self.random.below(3),
-            2 => 0x2E,
-            3 => 0x66,
-            4 => 0xA6,
+            1 | 2 => 0x26 ^ 1 << self.random.below(3),
+            3 => 0x2E,
+            4 | 5 => 0x66,
+            6 | 7 => 0xA6,
             _ => 0x06 | self.random.byte() & 0x30,
         };
+        bytes[2] |= if self.random.chance(50) { 0x80 } else { 0 };
         bytes[8] = bytes[8] & 0xFC | self.random.pick(&[0, 0, 0, 1, 2, 2, 3]);
         bytes[10] = self.random.pick(&[64, 64, 64, 0, 18, 19, 20, 30, 255, bytes[10]]);
         bytes
@@ -582,33 +902,28 @@ impl Generator<'_> {
     fn transmit_chain(&mut self) -> io::Result<u16> {
         let some = self.random.below(200);
         let counts: Vec<usize> = match self.random.below(30) {
-            0 | 1 => return Ok(NONE),
-            // About 64 descriptors.
-            2 => {
-                self.scene.long = true;
-                vec![self.random.below(4); self.random.pick(&[63, 64, 64, 65, 65, 66])]
-            }
+            0..=2 | 20..=24 => return Ok(NONE),
             // About 2,048 bytes.
-            3..=6 => {
-                let total = 2033 + self.random.below(4);
+            3..=9 => {
+                let total = self.random.pick(&[2033, 2034, 2034, 2034, 2034, 2035, 2035]);
                 let parts = 1 + self.random.below(4);
                 let mut counts: Vec<usize> = (0..parts).map(|_| self.random.below(total / parts)).collect();
                 counts.push(total - counts.iter().sum::<usize>());
                 if self.random.chance(40) {
                     counts = vec![total];
                 }
-                if self.random.chance(30) {
+                if self.random.chance(50) {
                     counts.push(0);
                 }
                 counts
             }
-            7 => vec![some, 2035 + self.random.below(14_349)],
+            10 if some < 80 => vec![some, 2035 + self.random.below(14_349)],
             _ => {
                 let most = self.random.pick(&[1, 2, 20, 60, 200, 700]);
                 (0..self.random.pick(&[1, 1, 1, 2, 2, 3, 5])).map(|_| self.random.below(most + 1)).collect()
             }
         };
-        let end = self.random.below(20);
+        let end = self.random.below(24);
         let loops = self.random.chance(3);
         let many = counts.len() > 12;
         let width = if self.random.chance(50) { 8 } else { 7 };
@@ -622,6 +937,10 @@ impl Generator<'_> {
         let offsets: Vec<u16> = places.iter().map(|at| self.offset(*at % self.n())).collect();
         let mut all = Vec::new();
         let mut data = self.piece(total.min(2048).max(1));
+        if self.random.chance(10) {
+            data = self.n() - 1 - self.random.below(30);
+        }
+        let start = data;
         for (i, count) in counts.iter().enumerate() {
             let last = i + 1 == counts.len();
             let mut word = *count as u16 & 0x3FFF;
@@ -640,7 +959,6 @@ impl Generator<'_> {
                 if loops {
                     word &= 0x3FFF;
                     next = self.random.pick(&offsets);
-                    self.scene.long = true;
                 }
             } else if self.random.chance(if many { 0 } else { 3 }) {
                 next = NONE;
@@ -666,11 +984,9 @@ impl Generator<'_> {
         if many {
             self.put(places[0], &all)?;
         }
-        if self.random.chance(60) {
-            let bytes: Vec<u8> = (0..total.clamp(1, 40)).map(|_| self.random.byte()).collect();
-            let back = self.random.below(20);
-            let n = self.n();
-            self.put((data % n + n - back) % n, &bytes)?;
+        if self.random.chance(60) && total > 0 {
+            let bytes: Vec<u8> = (0..total.min(40)).map(|_| self.random.byte()).collect();
+            self.put(start, &bytes)?;
         }
         Ok(offsets[0])
     }
@@ -686,14 +1002,14 @@ impl Generator<'_> {
         for i in 0..count {
             let last = i + 1 == count;
             let link = match self.random.below(20) {
-                0 => 0xFFFF,
-                1 => offsets[i],
-                2 => self.random.word(),
+                0 | 1 => 0xFFFF,
+                2 => offsets[i],
+                3 => self.random.word(),
                 _ if last => self.random.pick(&offsets),
                 _ => offsets[i + 1],
             };
             let mut word = 0;
-            for (bit, percent) in [(0x8000, if last { 40 } else { 6 }), (0x4000, 12)] {
+            for (bit, percent) in [(0x8000, if last { 40 } else { 6 }), (0x4000, 20)] {
                 if self.random.chance(percent) {
                     word |= bit;
                 }
@@ -710,11 +1026,7 @@ impl Generator<'_> {
 
     fn buffers(&mut self) -> io::Result<u16> {
         let sizes: Vec<usize> = match self.random.below(32) {
-            0 | 1 => return Ok(NONE),
-            2 => {
-                self.scene.long = true;
-                vec![self.random.below(3); self.random.pick(&[63, 64, 65, 66])]
-            }
+            0..=2 => return Ok(NONE),
             3..=5 => vec![self.random.pick(&[0, 1, 1, 2, 16_383])],
             6..=8 => vec![2034, self.random.below(300)],
             9 => vec![self.random.below(16_384)],
@@ -735,6 +1047,9 @@ impl Generator<'_> {
         let offsets: Vec<u16> = places.iter().map(|at| self.offset(*at % self.n())).collect();
         let total: usize = sizes.iter().map(|size| size.min(&2034)).sum();
         let mut data = self.piece(total.clamp(1, 2100));
+        if self.random.chance(5) {
+            data = self.n() - 1 - self.random.below(30);
+        }
         let mut all = Vec::new();
         for (i, size) in sizes.iter().enumerate() {
             let last = i + 1 == sizes.len();
@@ -750,10 +1065,7 @@ impl Generator<'_> {
                         word |= 0x8000;
                         next = self.random.word();
                     }
-                    4..=6 => {
-                        next = self.random.pick(&offsets);
-                        self.scene.long |= total < 8;
-                    }
+                    4..=6 => next = self.random.pick(&offsets),
                     7 => next = self.piece_offset(),
                     _ => {}
                 }
@@ -805,13 +1117,15 @@ impl Generator<'_> {
         if self.random.below(80) == 0 {
             return self.overlong();
         }
-        let allowed = self.n() >= 8192 && self.n().is_power_of_two();
         let minimum = usize::from(self.device().minimum);
-        let (room, used) = if allowed && self.device().scb.is_some() { self.room() } else { (0, 0) };
+        let (room, used) = if self.allowed() && self.device().scb.is_some() { self.room() } else { (0, 0) };
         let any = self.random.below(2049);
         let small = 14 + self.random.below(100);
+        let short = 14 + self.random.below(minimum.max(19) - 18);
         let fits = (13 + room + self.random.below(3)).min(2048);
-        let length = match self.random.below(20) {
+        let out = 15 + room;
+        let length = match self.random.below(24) {
+            8..=16 if self.device().save_bad && out + 4 < minimum => out + self.random.below(minimum - 4 - out),
             0 => self.random.pick(&[0, 1, 5, 6, 12, 13, 13, 13]),
             1 => 14,
             2 => self.random.pick(&[13, 14, 15]),
@@ -820,14 +1134,21 @@ impl Generator<'_> {
             6 => self.random.pick(&[2048, 2047, 2048]),
             7 => any,
             8..=11 => fits,
+            12..=16 => short,
             _ if used == 64 => fits,
             _ => small.max(minimum),
         };
         let to = self.destination();
+        self.frame(to, length)
+    }
+
+    /// A frame of this length to this address.
+    fn frame(&mut self, to: [u8; 6], length: usize) -> io::Result<()> {
         let verdict = match self.random.below(20) {
-            0..=11 => 0,
-            12..=14 => 1,
-            15 | 16 => 2,
+            0..=6 => 0,
+            7..=9 if !self.device().save_bad => 0,
+            7..=13 => 1,
+            14..=16 => 2,
             17 => 3,
             _ => self.random.next() as u32 as usize,
         };
@@ -853,21 +1174,31 @@ impl Generator<'_> {
             }
         }
         self.line(text)?;
-        if allowed { self.observe() } else { Ok(()) }
+        if self.allowed() { self.observe() } else { Ok(()) }
+    }
+
+    fn allowed(&self) -> bool {
+        self.n() >= 8192 && self.n().is_power_of_two()
+    }
+
+    /// An address that the chip takes, if there is a plain one.
+    fn sure(&self) -> [u8; 6] {
+        if self.device().no_broadcast { self.device().own } else { [0xFF; 6] }
     }
 
     /// A frame's destination: mostly one that the chip takes.
     fn destination(&mut self) -> [u8; 6] {
         let device = self.device();
         let (own, all, any) = (device.own, [0xFF; 6], device.promiscuous);
-        match self.random.below(10) {
-            0..=4 => own,
-            5 | 6 => all,
-            7 if !self.device().list.is_empty() => {
+        match self.random.below(12) {
+            0..=2 => own,
+            3..=6 => self.sure(),
+            7 | 8 => all,
+            9 if !self.device().list.is_empty() => {
                 let which = self.random.below(self.device().list.len());
                 self.device().list[which]
             }
-            8 if any => std::array::from_fn(|_| self.random.byte()),
+            10 if any => std::array::from_fn(|_| self.random.byte()),
             _ => self.address(),
         }
     }
@@ -888,7 +1219,7 @@ impl Generator<'_> {
     fn odd_size(&mut self) -> io::Result<()> {
         let n = self.n();
         self.size()?;
-        if self.n() == n || self.n() >= 8192 && self.n().is_power_of_two() {
+        if self.n() == n || self.allowed() {
             let odd = self.random.pick(&[0, 4096, 8191, 24_576, 65_535]);
             self.line(format!("size {odd}"))?;
         }
@@ -900,7 +1231,7 @@ impl Generator<'_> {
                 _ => self.arrival()?,
             }
         }
-        if self.random.chance(8) {
+        if self.random.chance(25) {
             self.line("reset".into())?;
         }
         self.line(format!("size {n}"))?;
@@ -911,9 +1242,11 @@ impl Generator<'_> {
     // ---- Turns ----
 
     fn report(&mut self) -> usize {
-        match self.random.below(12) {
+        let sends = self.device().begun().is_some_and(|begun| begun.kind == 4 && matches!(begun.step, Send::End { .. }));
+        match self.random.below(12) + if sends { 4 } else { 0 } {
             0..=5 => 0,
-            6 | 7 => 1 << self.random.below(16),
+            6..=7 => 1 << self.random.below(16),
+            9..=15 if sends => 1 << self.random.below(16),
             8 => self.random.pick(&[0x0003, 0x0020, 0x0100, 0xFFFF, 0x00CF, 0x0200, 0x0400, 0xF910]),
             _ => usize::from(self.random.word()),
         }
@@ -931,28 +1264,9 @@ impl Generator<'_> {
     }
 
     fn turn(&mut self) -> io::Result<()> {
-        let device = self.device();
-        let both = device.cu_works() && device.ru_works();
-        // How many turns a long chain may still take before anything else happens.
-        let sending = match device.begun().map(|begun| begun.step) {
-            Some(Send::Buffer { used, .. }) if used > 1 => 63 - usize::from(used),
-            _ => 0,
-        };
-        let storing = match device.held().and_then(|held| held.begun).map(|begun| begun.step) {
-            Some(Store::Buffer { used, .. }) if used > 1 => 63 - usize::from(used),
-            _ => 0,
-        };
-        let ahead = sending.max(storing) * if both { 2 } else { 1 };
-        let count = if self.scene.long && ahead > 0 {
-            1 + self.random.below(ahead + 1)
-        } else if self.random.chance(6) {
-            1 + self.random.below(6)
-        } else {
-            1
-        };
-        if ahead == 0 && self.random.chance(4) {
-            self.scene.long = false;
-        }
+        let works = self.device().cu_works() || self.device().ru_works();
+        let count = if works && self.random.chance(5) { 1 + self.random.below(6) } else { 1 };
+        self.scene.stale += count;
         let cu = self.device().cu;
         let ru = self.device().ru;
         self.turn_line(count)?;

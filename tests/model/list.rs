@@ -346,15 +346,42 @@ fn answer(answer: Answer, out: &mut dyn Write) -> io::Result<()> {
     writeln!(out, "{} {} {}", answer.number, answer.length, u8::from(answer.edge))
 }
 
-/// Runs a whole list; the line that went wrong comes back, if one did, and whether a `record` line was met.
-pub fn run(list: &[u8], out: &mut dyn Write) -> io::Result<(bool, bool)> {
-    let mut replay = Replay::new();
-    // A last line without a newline is a line; nothing behind the last newline is none.
+/// A list's lines. A last line without a newline is a line; nothing behind the last newline is none.
+fn lines(list: &[u8]) -> Vec<&[u8]> {
     let mut lines: Vec<&[u8]> = list.split(|&byte| byte == b'\n').collect();
     if lines.last().is_some_and(|last| last.is_empty()) {
         lines.pop();
     }
-    for (i, line) in lines.iter().enumerate() {
+    lines
+}
+
+/// Says which line of a list prints this line of its output, and which call was the last before or at it.
+pub fn find(list: &[u8], wanted: u64, out: &mut dyn Write) -> io::Result<()> {
+    let mut replay = Replay::new();
+    let (mut printed, mut call) = (0, None);
+    for (i, line) in lines(list).into_iter().enumerate() {
+        let mut said = Vec::new();
+        let done = replay.line(line, &mut said)?;
+        let text = String::from_utf8_lossy(&line[..line.len().min(100)]);
+        if done.is_ok_and(|calls| calls > 0) {
+            call = Some((i + 1, text.to_string()));
+        }
+        printed += said.iter().filter(|&&byte| byte == b'\n').count() as u64;
+        if printed >= wanted || done.is_err() {
+            writeln!(out, "  list line {}: {text}", i + 1)?;
+            if let Some((at, text)) = call {
+                writeln!(out, "  last call, list line {at}: {text}")?;
+            }
+            break;
+        }
+    }
+    Ok(())
+}
+
+/// Runs a whole list; the line that went wrong comes back, if one did, and whether a `record` line was met.
+pub fn run(list: &[u8], out: &mut dyn Write) -> io::Result<(bool, bool)> {
+    let mut replay = Replay::new();
+    for (i, line) in lines(list).into_iter().enumerate() {
         if let Err(bad) = replay.line(line, out)? {
             writeln!(out, "line {}, column {}: expected {}", i + 1, bad.column, bad.expected)?;
             return Ok((true, replay.record));

@@ -12,7 +12,7 @@ use std::io::{self, BufWriter, Read, Write};
 use std::process::ExitCode;
 
 const USAGE: &str = "usage: model list SEED CALLS | expect SEED CALLS | check SEED CALLS LISTFILE EXPECTFILE | replay [FILE]
-       model coverage SEED CALLS | test";
+       model bad SEED LISTFILE EXPECTFILE | where LISTFILE OUTPUTLINE | coverage SEED CALLS | test";
 
 fn main() -> ExitCode {
     let arguments: Vec<String> = std::env::args().skip(1).collect();
@@ -59,6 +59,16 @@ fn command(words: &[&str]) -> io::Result<bool> {
                 eprintln!("model: `record` lines were left out, the record's layout is not the model's to say");
             }
             return Ok(!bad);
+        }
+        ["where", file, line] => {
+            let mut text = Vec::new();
+            File::open(file)?.read_to_end(&mut text)?;
+            list::find(&text, number(line)?, &mut out)?;
+        }
+        ["bad", seed, list, expect] => {
+            let text = generate::bad(number(seed)?);
+            std::fs::write(list, &text)?;
+            list::run(&text, &mut BufWriter::new(File::create(expect)?))?;
         }
         ["coverage", seed, calls] => return coverage::coverage(number(seed)?, number(calls)?, &mut out),
         ["test"] => return cases::run(&mut out),
