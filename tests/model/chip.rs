@@ -313,6 +313,13 @@ impl Chip {
         from_scb < 16 || from_scb + length > n
     }
 
+    /// Two words share a byte.
+    fn meet(&self, one: u32, other: u32) -> bool {
+        let n = self.n as u32;
+        let apart = (one % n + n - other % n) % n;
+        apart <= 1 || apart == n - 1
+    }
+
     fn set_field(&mut self, address: u32, value: u16) {
         self.note_if(self.over_scb(address, 2), "a block or descriptor is written over the SCB");
         self.set_word(address, value);
@@ -385,8 +392,13 @@ impl Chip {
             self.note_if(command & self.device.events & event != 0, &format!("{name} acknowledged"));
         }
         self.device.events &= !(command & 0xF000);
-        self.obey_cuc(command >> 8 & 7);
-        self.obey_ruc(command >> 4 & 7);
+        let (cuc, ruc) = (command >> 8 & 7, command >> 4 & 7);
+        let offsets = (self.word(self.scb(4)), self.word(self.scb(6)), self.device.cu_works());
+        self.obey_cuc(cuc);
+        let ready = matches!(self.device.ru, Ru::Ready { .. });
+        self.note_if(ruc == 1 && !ready && self.word(self.scb(6)) != offsets.1, "order: a CU abort writes what RU START reads");
+        self.obey_ruc(ruc);
+        self.note_if(cuc == 1 && !offsets.2 && self.word(self.scb(4)) != offsets.0, "order: an RU abort writes what CU START read");
         self.note_if(command & 0xF000 & self.raised != 0, "an event acknowledged and raised in one attention");
         self.set_word(self.scb(0), self.device.status());
         self.set_word(self.scb(2), 0);
@@ -642,6 +654,8 @@ impl Chip {
             self.raise(CX);
         }
         let suspend = begun.s || begun.suspend;
+        let over = !begun.el && self.meet(self.at(block, 4), self.scb(0));
+        self.note_if(over && self.raised != 0, "order: a link lies over the SCB's status");
         self.device.cu = if begun.el {
             self.note("end with EL");
             self.note_if(begun.s, "end with EL and S");
@@ -919,6 +933,8 @@ impl Chip {
         for i in 0..count {
             self.set_byte(address + u32::from(i), self.holding[usize::from(14 + stored + i)]);
         }
+        let over = self.word(self.at(descriptor, 2)) != next || self.word(self.at(descriptor, 8)) != word;
+        self.note_if(over, "order: a buffer lies over its own descriptor");
         let ends = count == left;
         self.set_field(self.at(descriptor, 0), 0x4000 | count | if ends { 0x8000 } else { 0 });
         if ends {
@@ -962,6 +978,8 @@ impl Chip {
             self.set_field(self.at(descriptor, 0), 0x0000);
         }
         if out && !held.short && held.verdict == Verdict::Good {
+            let from = (self.scb(12) + (self.n as u32) - self.at(descriptor, 0) % self.n as u32) % self.n as u32;
+            self.note_if(from == 0 || held.save_bad && from < 22, "order: RSCERRS lies in the frame descriptor");
             self.count(12);
         }
         self.device.ru = if out || storing.el || last_el {
@@ -979,6 +997,8 @@ impl Chip {
             let link = self.word(self.at(descriptor, 4));
             self.note_if(link == 0xFFFF, "a frame descriptor's link is FFFFh");
             self.note_if(link == descriptor, "a frame descriptor's link is its own");
+            self.note_if(self.meet(self.at(link, 6), self.scb(0)), "order: the next descriptor's +6 lies over the SCB's status");
+            self.note_if(self.meet(self.at(link, 6), self.at(descriptor, 0)), "order: the next descriptor's +6 lies over the status");
             self.set_field(self.at(link, 6), free);
             if storing.s || suspend {
                 self.note(match (storing.s, suspend) {

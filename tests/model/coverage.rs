@@ -212,6 +212,13 @@ const POINTS: &str = "
     frame's end: No Resources over a waiting SUSPEND
     a frame descriptor's link is FFFFh
     a frame descriptor's link is its own
+    order: a CU abort writes what RU START reads
+    order: an RU abort writes what CU START read
+    order: a link lies over the SCB's status
+    order: the next descriptor's +6 lies over the SCB's status
+    order: the next descriptor's +6 lies over the status
+    order: RSCERRS lies in the frame descriptor
+    order: a buffer lies over its own descriptor
     holding area altered while a frame is held
     outgoing area altered while a Transmit is begun
     block altered while its command is begun

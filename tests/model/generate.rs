@@ -418,11 +418,13 @@ impl Generator<'_> {
             self.note("size altered under a running chip");
             self.allowed_size()?;
         }
-        match self.random.below(280) {
+        match self.random.below(270) {
             0 => return self.long_send(),
             1 => return self.long_store(),
             2..=6 => return self.small_store(),
-            7..=11 => return self.small_send(),
+            7..=12 => return self.small_send(),
+            13..=15 => return self.over_scb(),
+            16..=19 => return self.crossing(),
             _ => {}
         }
         let device = self.device();
@@ -530,12 +532,170 @@ impl Generator<'_> {
             let waits = self.device().cu_name().contains("waits");
             match self.random.below(10) {
                 0..=2 if !waits => self.command(0x0300)?,
-                0..=3 if waits => self.attention()?,
+                0..=5 if waits => self.attention()?,
                 _ => self.turn()?,
             }
         }
         self.show_scb()?;
         self.show(block, 16)
+    }
+
+    // ---- Pieces over the SCB, where the order inside a call shows ----
+
+    /// A place over the SCB, often that one.
+    fn near_scb(&mut self, often: usize) -> usize {
+        let n = self.n();
+        if self.random.chance(35) {
+            return (self.scb(0) + n + often - 16) % n;
+        }
+        (self.scb(0) + n - 22 + 2 * self.random.below(19)) % n
+    }
+
+    fn over_scb(&mut self) -> io::Result<()> {
+        self.command(0xF440)?;
+        let (commands, frames) = self.random.pick(&[(true, false), (true, false), (false, true), (false, true), (true, true)]);
+        if commands {
+            // Its status over the RFA offset, or its link over the SCB's status.
+            let often = self.random.pick(&[16 + 6, 16 - 4]);
+            let at = self.near_scb(often);
+            let kind = self.random.pick(&[0, 0, 5, 1, 2, 4, 6]);
+            let word = kind | self.random.word() & self.random.pick(&[0x2000, 0x6000, 0xE000]);
+            let (link, parameter) = (self.piece_offset(), self.random.pick(&[NONE, 0x1234]));
+            self.put_words(at, &[0, word, link, parameter])?;
+            let offset = self.offset(at);
+            self.put_words(self.scb(4), &[offset])?;
+            self.command(0x0100)?;
+            self.show_scb()?;
+        }
+        if frames {
+            // Its status over the CBL offset or over RSCERRS; the next one's +6 over the SCB's status.
+            let often = self.random.pick(&[16 + 4, 16 + 12]);
+            let at = self.near_scb(often);
+            let offset = self.offset(at);
+            let next = self.near_scb(16 - 6);
+            let link = if self.random.chance(50) { self.offset(next) } else { self.piece_offset() };
+            let own = if self.random.chance(30) { self.buffer_over_itself()? } else { self.piece_offset() };
+            let first = if self.random.chance(50) { NONE } else { own };
+            let bits = self.random.pick(&[0, 0, 0x4000, 0x8000]);
+            self.put_words(at, &[0, bits, link, first])?;
+            self.put_words(self.scb(6), &[offset])?;
+            self.command(0x0010)?;
+            // The attention wrote over what lay at the SCB's first words.
+            self.put_words(at + 2, &[bits, link, first])?;
+            self.show_scb()?;
+            let length = self.random.pick(&[14, 60, 61, 80]);
+            let to = self.sure();
+            self.frame(to, length)?;
+        }
+        for _ in 0..8 {
+            let device = self.device();
+            if !device.cu_works() && !device.ru_works() {
+                break;
+            }
+            let begun = device.begun().is_some() || device.held().is_some_and(|held| held.begun.is_some());
+            if begun && self.random.chance(30) {
+                let ack = self.random.word() & 0xF000;
+                let code = self.random.pick(&[0x0400, 0x0410, 0x0410, 0x0410, 0x0040, 0x0140, 0x0140, 0x0140, 0x0440, 0x0330]);
+                self.command(ack | code)?;
+                self.show_scb()?;
+            } else {
+                self.turn()?;
+            }
+        }
+        // Where the units stand now shows in what they write next.
+        self.turn()?;
+        let held = self.sure();
+        self.frame(held, 60)?;
+        self.line("turn 2".into())?;
+        self.observe()
+    }
+
+    /// One of the places where two accesses of one call meet.
+    fn crossing(&mut self) -> io::Result<()> {
+        self.command(0xF440)?;
+        let n = self.n();
+        let scb = self.scb(0);
+        let ack = self.random.word() & 0xF000;
+        let kind = self.random.pick(&[0, 0, 1, 5, 6, 7]);
+        let buffer = self.piece(70);
+        let real = self.real(buffer);
+        let rbd = self.piece(10);
+        let rbd_offset = self.offset(rbd);
+        let next = self.piece_offset();
+        self.put_words(rbd, &[0, next, real as u16, (real >> 16) as u16, 70])?;
+        let to = self.sure();
+        match self.random.below(6) {
+            // A begun block's status over the RFA offset: abort, and START of the RU.
+            0 => {
+                let offset = self.offset((scb + 6) % n);
+                self.put_words(scb + 4, &[offset, 0, kind])?;
+                self.command(0x0100)?;
+                self.line("turn".into())?;
+                self.command(ack | 0x0410)?;
+            }
+            // A begun frame's descriptor over the CBL offset: abort, and START of the CU.
+            1 => {
+                let offset = self.offset((scb + 4) % n);
+                self.put_words(scb + 4, &[0, offset])?;
+                self.command(0x0010)?;
+                self.frame(to, 60)?;
+                self.line("turn".into())?;
+                self.command(ack | 0x0140)?;
+            }
+            // A block's link over the SCB's status.
+            2 => {
+                let at = (scb + n - 4) % n;
+                let offset = self.offset(at);
+                let bits = self.random.pick(&[0x2000, 0x4000, 0x6000]);
+                self.put_words(scb + 4, &[offset])?;
+                self.put_words(at, &[0, bits | kind])?;
+                self.command(0x0100)?;
+                self.line("turn 2".into())?;
+                self.show_scb()?;
+                self.command(0x0200)?;
+            }
+            // The next descriptor's +6 over the SCB's status, or over this one's status.
+            3 | 4 => {
+                let at = self.piece(22);
+                let near = if self.random.chance(50) { at } else { scb };
+                let link = self.offset((near + n - 6) % n);
+                let bits = self.random.pick(&[0, 0, 0x4000]);
+                self.put_words(at, &[0, bits, link, rbd_offset])?;
+                let offset = self.offset(at);
+                self.put_words(scb + 6, &[offset])?;
+                self.command(0x0010)?;
+                self.frame(to, 60 + 4 * usize::from(bits != 0))?;
+                self.line("turn 3".into())?;
+                self.show(at, 22)?;
+            }
+            // RSCERRS in the descriptor of a frame that runs out of buffers.
+            _ => {
+                let at = (scb + n + 12 - 2 * self.random.pick(&[0, 0, 4, 5, 6, 7, 8, 9, 10])) % n;
+                let offset = self.offset(at);
+                self.put_words(scb + 6, &[offset])?;
+                self.command(0x0010)?;
+                self.put_words(at + 2, &[0, 0, NONE])?;
+                let length = usize::from(self.device().minimum).max(15);
+                self.frame(to, length)?;
+                self.line("turn 2".into())?;
+            }
+        }
+        self.show_scb()?;
+        // Where the units stand now shows in what they write next.
+        self.frame(to, 64)?;
+        self.line("turn 2".into())?;
+        self.observe()
+    }
+
+    /// A receive buffer descriptor with its buffer over it.
+    fn buffer_over_itself(&mut self) -> io::Result<u16> {
+        let at = self.piece(10);
+        let offset = self.offset(at);
+        let n = self.n();
+        let near = (at + n + self.random.below(12) - 6) % n;
+        let real = self.real(near);
+        self.put_words(at, &[0, offset, real as u16, (real >> 16) as u16, 20])?;
+        Ok(offset)
     }
 
     // ---- Chains of about 64 ----
@@ -614,7 +774,7 @@ impl Generator<'_> {
         self.put_words(self.scb(2), &[0x0010])?;
         self.line("attention".into())?;
         self.observe()?;
-        let length = 14 + self.random.pick(&[63, 64, 64, 65, 65, 65]);
+        let length = 14 + self.random.pick(&[63, 64, 64, 64, 65, 65, 65]);
         let to = self.sure();
         self.frame(to, length)?;
         self.bundles()?;
@@ -701,7 +861,7 @@ impl Generator<'_> {
             }
             let mut parameters = self.parameters(*kind)?;
             if *kind == 2 {
-                parameters[0] |= if self.random.chance(70) { 0x0C } else { 0 };
+                parameters[0] |= if self.random.chance(45) { 0x0C } else { 0 };
                 parameters[2] |= if self.random.chance(50) { 0x80 } else { 0 };
                 parameters[3] = 0x26;
             }
@@ -862,9 +1022,9 @@ impl Generator<'_> {
         bytes[3] = match self.random.below(20) {
             0 => self.random.byte(),
             1 | 2 => 0x26 ^ 1 << self.random.below(3),
-            3 => 0x2E,
-            4 | 5 => 0x66,
-            6 | 7 => 0xA6,
+            3 | 4 => 0x2E,
+            5 | 6 => 0x66,
+            7 | 8 => 0xA6,
             _ => 0x06 | self.random.byte() & 0x30,
         };
         bytes[2] |= if self.random.chance(50) { 0x80 } else { 0 };
@@ -1002,9 +1162,10 @@ impl Generator<'_> {
         for i in 0..count {
             let last = i + 1 == count;
             let link = match self.random.below(20) {
-                0 | 1 => 0xFFFF,
-                2 => offsets[i],
-                3 => self.random.word(),
+                0..=2 => 0xFFFF,
+                3 => offsets[i],
+                4 => self.random.word(),
+                5 if self.scene.overlap > 0 => offsets[i].wrapping_add(2 * self.random.below(22) as u16).wrapping_sub(22),
                 _ if last => self.random.pick(&offsets),
                 _ => offsets[i + 1],
             };
@@ -1149,7 +1310,7 @@ impl Generator<'_> {
             7..=9 if !self.device().save_bad => 0,
             7..=13 => 1,
             14..=16 => 2,
-            17 => 3,
+            17 => self.random.pick(&[3, 255, 256, 257, 65_536, 65_537, 1 << 31, (1 << 31) + 1, 0xFFFF_FFFF]),
             _ => self.random.next() as u32 as usize,
         };
         let verdict = self.number(verdict);

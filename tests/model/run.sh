@@ -4,7 +4,6 @@
 # REPLAY is the program's path, or a command to which a list's name is added. CALLS (50,000) are made in portions of 2,500, each from a
 # seed of its own, from SEED (1) on. Then lists that end in a bad line are tried, 200 of them. It stops at the first difference.
 set -eu
-here=$(cd "$(dirname "$0")" && pwd)
 
 fail() {
     echo "tests/model/run.sh: $*" >&2
@@ -13,6 +12,7 @@ fail() {
 
 [ $# -ge 1 ] || fail "which replay program? run.sh REPLAY [CALLS [SEED]]"
 command -v rustc >/dev/null || fail "rustc is missing"
+here=$(cd "$(dirname "$0")" && pwd)
 replay=$1
 calls=${2:-50000}
 first=${3:-1}
