@@ -8,7 +8,7 @@ use std::io::{self, Write};
 pub const PORTION: u64 = 2_500;
 
 /// Met less often than this in 50,000 calls is rare.
-const RARE: u64 = 20;
+const RARE: u64 = 15;
 
 pub fn coverage(seed: u64, calls: u64, out: &mut dyn Write) -> io::Result<bool> {
     let mut met: BTreeMap<String, u64> = points().into_iter().map(|point| (point, 0)).collect();
@@ -48,10 +48,10 @@ fn points() -> Vec<String> {
         add(format!("end of command {code}, {}", if code == 6 { "not OK" } else { "OK" }));
         add(format!("abort of command {code} before the end"));
     }
-    for state in ["Idle", "Suspended", "Active, not begun", "Active, begun"] {
+    for state in ["Idle", "Suspended", "Active, not begun", "Active, begun", "Active, SUSPEND waits"] {
         add(format!("resetting attention, CU {state}"));
     }
-    for state in ["Idle", "Suspended", "No Resources", "Ready", "Ready, held", "Ready, begun"] {
+    for state in ["Idle", "Suspended", "No Resources", "Ready", "Ready, held", "Ready, begun", "Ready, SUSPEND waits"] {
         add(format!("resetting attention, RU {state}"));
     }
     for command in [2, 3, 4] {

@@ -164,7 +164,7 @@ impl Generator<'_> {
         self.list.write_all(b"\n")?;
         match self.replay.line(text.as_bytes(), &mut *self.expect)? {
             Ok(calls) => self.calls += u64::from(calls),
-            Err(bad) => panic!("the generator made a bad line: {text}: {bad:?}"),
+            Err(bad) => panic!("the generator made a bad line: {}: {:?}", text, bad),
         }
         Ok(())
     }

@@ -27,7 +27,13 @@ rustc --edition 2021 -O -o "$work/model" "$here/model.rs" || fail "the model doe
 differ() { # SEED
     trap - EXIT
     at=$(cmp "$work/expect" "$work/said" 2>/dev/null | sed -n 's/.* line \([0-9]*\)$/\1/p')
-    [ -n "$at" ] || at=$(($(wc -l <"$work/said") + 1))
+    if [ -z "$at" ]; then # one of them is the other's beginning
+        at=$(cat "$work/expect" "$work/said" | wc -l)
+        for file in expect said; do
+            lines=$(($(wc -l <"$work/$file") + 1))
+            [ "$lines" -ge "$at" ] || at=$lines
+        done
+    fi
     {
         echo "seed $1: the replay program differs from the model in line $at of the output"
         "$work/model" where "$work/list" "$at"
