@@ -1,0 +1,1367 @@
+//! The model's own tests: document 01's cases at the edges, what its points come to in small cases, and the list's forms.
+//! Each case is a function that ends with the first thing that is not so.
+
+use crate::chip::{Answer, Chip, Ru, NONE};
+use crate::list;
+use std::io::{self, Write};
+
+type Case = fn() -> Result<(), String>;
+
+macro_rules! same {
+    ($left:expr, $right:expr) => {{
+        let (left, right) = ($left, $right);
+        if left != right {
+            return Err(format!("line {}: {} is {:X?}, not {:X?}", line!(), stringify!($left), left, right));
+        }
+    }};
+}
+
+macro_rules! cases {
+    ($($name:ident)*) => { &[$((stringify!($name), $name as Case)),*] };
+}
+
+const CASES: &[(&str, Case)] = cases! {
+    p1_initialised p2_one_nop p3_three_buffers p4_one_buffer p5_short p6_counter_wraps p7_reports p8_descriptor_el
+    sixty_four_descriptors data_2034_passes_2035_not
+    refusals refusal_numbers sizes size_altered status_not_read_from_memory holding_only_by_held altered_holding altered_outgoing
+    offset_beyond_65536 word_over_the_end real_addresses scp_place ffff_links
+    init_order init_obeys_nothing init_before init_again
+    attention_cu_before_ru attention_ru_after_cu attention_ack_first attention_status_last attention_resets attention_reserved
+    start_when_active resume_when_waiting suspend_cu suspend_ru waiting_forgotten aborts_off abort_kinds abort_ru resume_takes_old_link
+    waiting_of_each_unit started_writes_nothing
+    plain_end_writes_no_status events_again edges_of_attention cx_only_by_i
+    alternation turn_counts_sending turn_counts_storing report_only_at_transmit_end
+    begin_keeps link_before_status link_ffff failures_end_normally el_wins
+    ia_setup configure_bytes configure_counts configure_rejects mc_setup transmit_tests transmit_next_kept reports tdr_dump_diagnose
+    arrival_order arrival_minimum match_rules settings_at_arrival
+    storing_reads_whole storing_size_zero storing_exact_ends storing_no_data storing_status_bits storing_not_kept storing_rscerrs_follows
+    storing_suspends storing_status_last storing_descriptor_kept
+    list_example list_forms list_bad_input
+};
+
+pub fn run(out: &mut dyn Write) -> io::Result<bool> {
+    let mut passed = 0;
+    for (name, case) in CASES {
+        match case() {
+            Ok(()) => passed += 1,
+            Err(why) => {
+                writeln!(out, "{name}: {why}")?;
+                out.flush()?;
+                return Ok(false);
+            }
+        }
+    }
+    writeln!(out, "{passed} passed")?;
+    out.flush()?;
+    Ok(true)
+}
+
+// ---- What the cases are made with ----
+
+const SCB: usize = 0x0100;
+const QUIET: Answer = Answer { number: 0, length: 0, edge: false };
+const EDGE: Answer = Answer { number: 0, length: 0, edge: true };
+
+fn refusal(number: u8) -> Answer {
+    Answer { number, length: 0, edge: false }
+}
+
+struct Rig {
+    chip: Chip,
+}
+
+impl Rig {
+    /// After reset, ISCP at 0040h, the SCB where it is said.
+    fn at(n: usize, base: u32, offset: u16) -> Rig {
+        let mut rig = Rig { chip: Chip::new(n) };
+        rig.words(n - 4, &[0x0040, 0]);
+        rig.words(0x40, &[1, offset, base as u16, (base >> 16) as u16]);
+        rig.chip.reset();
+        rig
+    }
+
+    /// Initialised, the SCB at 0100h, base 0, all acknowledged.
+    fn new() -> Rig {
+        let mut rig = Rig::at(8192, 0, SCB as u16);
+        rig.chip.attention();
+        rig.command(0xF000);
+        rig
+    }
+
+    /// The same, with the RU Ready at a descriptor at 0300h.
+    fn ready() -> Rig {
+        let mut rig = Rig::new();
+        rig.words(SCB + 6, &[0x0300]);
+        rig.command(0x0010);
+        rig
+    }
+
+    /// The same, with save-bad set and a minimum.
+    fn saving(minimum: u8) -> Rig {
+        let mut rig = Rig::new();
+        rig.configure(&[12, 0, 0x80, 6, 0, 0, 0, 0, 0, 0, minimum]);
+        rig.words(SCB + 6, &[0x0300]);
+        rig.command(0xF010);
+        rig
+    }
+
+    /// Runs one Configure at 0F00h to its end, alone.
+    fn configure(&mut self, bytes: &[u8]) -> u16 {
+        self.one(0x0F00, 2, bytes)
+    }
+
+    /// Runs one command with EL to its end; its status comes back.
+    fn one(&mut self, block: usize, kind: u16, parameters: &[u8]) -> u16 {
+        self.words(block, &[0, 0x8000 | kind, 0]);
+        self.bytes(block + 6, parameters);
+        self.words(SCB + 4, &[block as u16]);
+        self.command(0x0100);
+        while self.chip.device.cu_works() {
+            self.chip.turn(0);
+        }
+        self.command(0xF000);
+        self.word(block)
+    }
+
+    fn bytes(&mut self, at: usize, bytes: &[u8]) {
+        self.chip.memory[at..at + bytes.len()].copy_from_slice(bytes);
+    }
+
+    fn words(&mut self, at: usize, words: &[u16]) {
+        for (i, word) in words.iter().enumerate() {
+            self.bytes(at + 2 * i, &word.to_le_bytes());
+        }
+    }
+
+    fn word(&self, at: usize) -> u16 {
+        u16::from_le_bytes([self.chip.memory[at], self.chip.memory[at + 1]])
+    }
+
+    fn scb(&self) -> u16 {
+        self.word(SCB)
+    }
+
+    fn command(&mut self, word: u16) -> Answer {
+        self.words(SCB + 2, &[word]);
+        self.chip.attention()
+    }
+
+    fn start(&mut self, block: u16) {
+        self.words(SCB + 4, &[block]);
+        self.command(0x0100);
+    }
+
+    fn turns(&mut self, count: usize) -> Answer {
+        let mut last = QUIET;
+        for _ in 0..count {
+            last = self.chip.turn(0);
+        }
+        last
+    }
+
+    /// Turns until nothing is left to do.
+    fn rest(&mut self) -> usize {
+        let mut count = 0;
+        while self.chip.device.cu_works() || self.chip.device.ru_works() {
+            self.chip.turn(0);
+            count += 1;
+        }
+        count
+    }
+
+    fn fd(&mut self, at: usize, bits: u16, link: u16, first: u16) {
+        self.words(at, &[0, bits, link, first]);
+    }
+
+    fn rbd(&mut self, at: usize, next: u16, buffer: u16, size: u16) {
+        self.words(at, &[0, next, buffer, 0, size]);
+    }
+
+    fn tbd(&mut self, at: usize, word: u16, next: u16, buffer: u16) {
+        self.words(at, &[word, next, buffer, 0]);
+    }
+
+    fn transmit(&mut self, at: usize, bits: u16, first: u16) {
+        self.words(at, &[0, bits | 4, 0x0200, first, 0x0102, 0x0304, 0x0506, 0x0008]);
+    }
+
+    fn hear(&mut self, frame: &[u8], verdict: u32) -> Answer {
+        self.chip.arrival(frame, frame.len() as u64, verdict)
+    }
+
+    fn held(&self) -> bool {
+        self.chip.device.ru_works()
+    }
+}
+
+/// A broadcast frame of so many data bytes, counting up from 80h.
+fn frame(data: usize) -> Vec<u8> {
+    let mut frame = vec![0xFF; 6];
+    frame.extend([2, 3, 4, 5, 6, 7, 8, 0]);
+    frame.extend((0..data).map(|i| (0x80 + i) as u8));
+    frame
+}
+
+// ---- Cases at the edges ----
+
+fn p1_initialised() -> Result<(), String> {
+    let mut rig = Rig::at(8192, 0, SCB as u16);
+    same!(rig.chip.attention(), EDGE);
+    same!(rig.scb(), 0xA000);
+    same!(rig.word(SCB + 2), 0);
+    same!(rig.word(0x40), 0);
+    Ok(())
+}
+
+fn p2_one_nop() -> Result<(), String> {
+    let mut rig = Rig::at(8192, 0, SCB as u16);
+    rig.chip.attention();
+    rig.words(0x200, &[0, 0xA000, 0]);
+    rig.words(SCB + 4, &[0x200]);
+    same!(rig.command(0xA100), QUIET);
+    same!(rig.scb(), 0x0200);
+    same!(rig.turns(1), QUIET);
+    same!(rig.word(0x200), 0x4000);
+    same!(rig.turns(1), EDGE);
+    same!((rig.scb(), rig.word(0x200)), (0xA000, 0xA000));
+    Ok(())
+}
+
+fn three_buffers(sizes: [u16; 3]) -> Rig {
+    let mut rig = Rig::ready();
+    rig.fd(0x300, 0, 0x320, 0x400);
+    for (i, size) in sizes.iter().enumerate() {
+        let at = 0x400 + 16 * i;
+        rig.rbd(at, at as u16 + 16, 0x800 + 0x100 * i as u16, *size);
+    }
+    rig
+}
+
+fn p3_three_buffers() -> Result<(), String> {
+    let mut rig = three_buffers([20, 20, 20]);
+    same!(rig.hear(&frame(46), 0), QUIET);
+    same!(rig.rest(), 5);
+    same!((rig.word(0x400), rig.word(0x410), rig.word(0x420)), (0x4014, 0x4014, 0xC006));
+    same!((rig.word(0x300), rig.word(0x326), rig.scb()), (0xA000, 0x430, 0x4040));
+    same!(rig.chip.memory[0x800..0x814].to_vec(), frame(46)[14..34].to_vec());
+    same!(rig.chip.memory[0xA00..0xA07].to_vec(), [&frame(46)[54..60], &[0]].concat());
+    same!(rig.chip.memory[0x308..0x316].to_vec(), frame(0));
+    Ok(())
+}
+
+fn p4_one_buffer() -> Result<(), String> {
+    let mut rig = three_buffers([46, 20, 20]);
+    rig.hear(&frame(46), 0);
+    same!(rig.rest(), 3);
+    same!((rig.word(0x400), rig.word(0x410), rig.word(0x326)), (0xC02E, 0, 0x410));
+    Ok(())
+}
+
+fn p5_short() -> Result<(), String> {
+    let mut rig = three_buffers([20, 20, 20]);
+    rig.hear(&frame(45), 0);
+    same!(rig.held(), false);
+    same!(rig.chip.memory[SCB + 8..SCB + 16].to_vec(), vec![0; 8]);
+    rig.hear(&frame(46), 0);
+    same!(rig.held(), true);
+    Ok(())
+}
+
+fn p6_counter_wraps() -> Result<(), String> {
+    let mut rig = Rig::ready();
+    rig.words(SCB + 8, &[0xFFFF]);
+    rig.hear(&frame(46), 1);
+    same!(rig.word(SCB + 8), 0);
+    Ok(())
+}
+
+fn p7_reports() -> Result<(), String> {
+    for (report, status, length) in [(0x0003, 0xA003, 14), (0x0020, 0x8020, 0)] {
+        let mut rig = Rig::new();
+        rig.transmit(0x200, 0x8000, NONE);
+        rig.start(0x200);
+        rig.turns(1);
+        same!(rig.chip.turn(report), Answer { number: 0, length, edge: true });
+        same!(rig.word(0x200), status);
+    }
+    Ok(())
+}
+
+fn p8_descriptor_el() -> Result<(), String> {
+    let mut rig = three_buffers([46, 20, 20]);
+    rig.fd(0x300, 0x8000, 0x320, 0x400);
+    rig.hear(&frame(46), 0);
+    rig.rest();
+    same!((rig.scb(), rig.word(0x326), rig.word(SCB + 12)), (0x5020, 0, 0));
+    Ok(())
+}
+
+/// A Transmit of so many descriptors of one byte each, EOF in the last.
+fn chain(count: usize) -> (usize, u16, Rig) {
+    let mut rig = Rig::new();
+    rig.transmit(0x200, 0x8000, 0x1000);
+    for i in 0..count {
+        let at = 0x1000 + 8 * i;
+        rig.tbd(at, if i + 1 == count { 0x8001 } else { 1 }, at as u16 + 8, 0x800);
+    }
+    rig.start(0x200);
+    let turns = rig.rest();
+    (turns, rig.word(0x200), rig)
+}
+
+fn sixty_four_descriptors() -> Result<(), String> {
+    let (turns, status, _) = chain(64);
+    same!((turns, status), (66, 0xA000));
+    let (turns, status, _) = chain(65);
+    same!((turns, status), (66, 0x8100));
+    Ok(())
+}
+
+fn data_2034_passes_2035_not() -> Result<(), String> {
+    for (count, answer, status) in [(2034, 2048, 0xA000), (2035, 0, 0x8100)] {
+        let mut rig = Rig::new();
+        rig.transmit(0x200, 0x8000, 0x400);
+        rig.tbd(0x400, 0x8000 | count, NONE, 0x1000);
+        rig.chip.memory[0x1000..0x1800].fill(0x77);
+        rig.start(0x200);
+        same!(rig.turns(3), Answer { number: 0, length: answer, edge: true });
+        same!(rig.word(0x200), status);
+        same!(rig.chip.outgoing[14], if status == 0xA000 { 0x77 } else { 0 });
+    }
+    Ok(())
+}
+
+// ---- Calls, areas, refusals ----
+
+fn refusals() -> Result<(), String> {
+    let mut rig = Rig { chip: Chip::new(8192) };
+    same!(rig.chip.attention(), refusal(4));
+    same!(rig.chip.turn(0), refusal(4));
+    same!(rig.hear(&[], 0), refusal(4));
+    same!(rig.hear(&[0; 2049], 0), refusal(3));
+    same!(rig.chip.reset(), QUIET);
+    same!(rig.hear(&[0; 2049], 0), refusal(3));
+    same!(rig.hear(&[0; 2048], 0), QUIET);
+    same!(rig.hear(&[], 0), QUIET);
+    Ok(())
+}
+
+fn refusal_numbers() -> Result<(), String> {
+    let mut rig = Rig::new();
+    rig.chip.n = 8191;
+    same!(rig.hear(&[0; 2049], 0), refusal(1));
+    same!(rig.chip.attention(), refusal(1));
+    same!(rig.chip.turn(0), refusal(1));
+    same!(rig.chip.reset(), QUIET);
+    Ok(())
+}
+
+fn sizes() -> Result<(), String> {
+    for (size, number) in [(0, 1), (4096, 1), (8192, 4), (8193, 1), (12_288, 1), (65_536, 4), (1 << 24, 4), (1 << 25, 1)] {
+        let mut chip = Chip::new(0);
+        chip.n = size;
+        same!(chip.turn(0), refusal(number));
+    }
+    Ok(())
+}
+
+fn size_altered() -> Result<(), String> {
+    let mut rig = Rig::at(65_536, 0x01_2345, 0x0100);
+    rig.chip.attention();
+    same!(rig.word(0x2445), 0xA000);
+    rig.chip.n = 8192;
+    rig.chip.attention();
+    same!(rig.word(0x0445), 0xA000);
+    Ok(())
+}
+
+fn status_not_read_from_memory() -> Result<(), String> {
+    let mut rig = Rig::at(8192, 0, SCB as u16);
+    rig.chip.attention();
+    rig.words(SCB, &[0]);
+    rig.command(0);
+    same!(rig.scb(), 0xA000);
+    Ok(())
+}
+
+fn holding_only_by_held() -> Result<(), String> {
+    let mut rig = Rig::ready();
+    rig.chip.holding.fill(0x11);
+    rig.hear(&frame(46), 0);
+    same!(rig.chip.holding[..60].to_vec(), frame(46));
+    same!(rig.chip.holding[60..].to_vec(), vec![0x11; 1988]);
+    let before = rig.chip.holding.clone();
+    rig.hear(&[0xFF; 100], 0);
+    same!(rig.chip.holding == before, true);
+    same!(rig.word(SCB + 14), 1);
+    rig.command(0x0040);
+    same!(rig.chip.holding == before, true);
+    Ok(())
+}
+
+fn altered_holding() -> Result<(), String> {
+    let mut rig = three_buffers([46, 20, 20]);
+    rig.hear(&frame(46), 0);
+    rig.turns(1);
+    rig.chip.holding[0] = 0x12;
+    rig.chip.holding[14] = 0x34;
+    rig.rest();
+    same!((rig.chip.memory[0x308], rig.chip.memory[0x800]), (0x12, 0x34));
+    Ok(())
+}
+
+fn altered_outgoing() -> Result<(), String> {
+    let mut rig = Rig::new();
+    rig.transmit(0x200, 0x8000, NONE);
+    rig.start(0x200);
+    rig.turns(1);
+    same!(rig.chip.outgoing[..14].to_vec(), vec![2, 1, 4, 3, 6, 5, 0xFF, 0xFF, 0xFF, 0xFF, 0xFF, 0xFF, 8, 0]);
+    rig.chip.outgoing[12] = 0x99;
+    rig.words(0x20E, &[0x7777]);
+    same!(rig.turns(1).length, 14);
+    same!(rig.chip.outgoing[12], 0x99);
+    Ok(())
+}
+
+// ---- Addresses ----
+
+fn offset_beyond_65536() -> Result<(), String> {
+    let mut rig = Rig::at(131_072, 0, SCB as u16);
+    rig.chip.attention();
+    rig.words(0xFFFE, &[0, 0x8005]);
+    rig.words(SCB + 4, &[0xFFFE]);
+    rig.command(0xF100);
+    rig.rest();
+    same!((rig.word(0xFFFE), rig.word(0x1_0004)), (0xA000, 0x8000));
+    Ok(())
+}
+
+fn word_over_the_end() -> Result<(), String> {
+    let mut rig = Rig::at(8192, 0, 0x1FFF);
+    rig.chip.memory[0] = 0x55;
+    rig.chip.attention();
+    same!((rig.chip.memory[0x1FFF], rig.chip.memory[0]), (0x00, 0xA0));
+    Ok(())
+}
+
+fn real_addresses() -> Result<(), String> {
+    // A buffer's real address has no base added; the byte behind it is ignored.
+    let mut rig = Rig::at(65_536, 0x00_4000, 0x0100);
+    rig.chip.attention();
+    rig.fd(0x4300, 0, 0x320, 0x400);
+    rig.words(0x4400, &[0, NONE, 0x0800, 0x7700, 46]);
+    rig.words(0x4106, &[0x300]);
+    rig.words(0x4102, &[0x0010]);
+    rig.chip.attention();
+    rig.hear(&frame(46), 0);
+    rig.rest();
+    same!((rig.chip.memory[0x800], rig.chip.memory[0x4800]), (0x80, 0));
+    Ok(())
+}
+
+fn scp_place() -> Result<(), String> {
+    for n in [8192, 16_384, 65_536] {
+        let mut rig = Rig::at(n, 0, SCB as u16);
+        rig.chip.memory[n - 1] = 0xFF;
+        rig.chip.attention();
+        same!(rig.scb(), 0xA000);
+    }
+    Ok(())
+}
+
+fn ffff_links() -> Result<(), String> {
+    // A frame descriptor's link FFFFh is an offset: +6 of what lies there is at base + 10005h.
+    let mut rig = Rig::ready();
+    rig.fd(0x300, 0, 0xFFFF, 0x400);
+    rig.rbd(0x400, 0x0410, 0x800, 46);
+    rig.hear(&frame(46), 0);
+    rig.rest();
+    same!(rig.word(0x0005), 0x0410);
+    same!(rig.chip.device.ru, Ru::Ready { descriptor: 0xFFFF, suspend: false, held: None });
+    Ok(())
+}
+
+// ---- First attention ----
+
+fn init_order() -> Result<(), String> {
+    let mut rig = Rig::at(8192, 0, 0x003F);
+    rig.chip.attention();
+    same!(rig.chip.memory[0x3F..0x43].to_vec(), vec![0x00, 0xA0, 0x00, 0x00]);
+    Ok(())
+}
+
+fn init_obeys_nothing() -> Result<(), String> {
+    let mut rig = Rig::at(8192, 0, SCB as u16);
+    same!(rig.command(0x8090), EDGE);
+    same!((rig.scb(), rig.word(SCB + 2)), (0xA000, 0));
+    same!(rig.chip.device.scb.is_some(), true);
+    Ok(())
+}
+
+fn init_before() -> Result<(), String> {
+    let mut rig = Rig::at(8192, 0, SCB as u16);
+    let before = rig.chip.memory.clone();
+    same!(rig.turns(2), QUIET);
+    same!(rig.hear(&frame(46), 0), QUIET);
+    same!(rig.hear(&frame(46), 1), QUIET);
+    same!(rig.chip.memory == before, true);
+    Ok(())
+}
+
+fn init_again() -> Result<(), String> {
+    let mut rig = Rig::new();
+    rig.command(0x0080);
+    rig.words(0x42, &[0x0180]);
+    same!(rig.chip.attention(), EDGE);
+    same!(rig.word(0x180), 0xA000);
+    Ok(())
+}
+
+// ---- Attention ----
+
+fn attention_cu_before_ru() -> Result<(), String> {
+    let mut rig = Rig::new();
+    rig.words(0x106, &[0, 0x8000]);
+    rig.start(0x106);
+    rig.turns(1);
+    rig.command(0x0410);
+    same!(rig.chip.device.ru, Ru::Ready { descriptor: 0x9000, suspend: false, held: None });
+    Ok(())
+}
+
+fn attention_ru_after_cu() -> Result<(), String> {
+    let mut rig = Rig::new();
+    rig.words(SCB + 4, &[0, 0x104]);
+    rig.command(0x0010);
+    rig.hear(&frame(46), 0);
+    rig.turns(1);
+    same!(rig.word(0x104), 0x4000);
+    rig.command(0x0140);
+    same!(rig.word(0x104), 0x0000);
+    same!(rig.chip.device.cu, crate::chip::Cu::Active { block: 0x4000, begun: None });
+    Ok(())
+}
+
+fn attention_ack_first() -> Result<(), String> {
+    let mut rig = Rig::at(8192, 0, SCB as u16);
+    rig.chip.attention();
+    rig.words(0x200, &[0, 0x8000, 0]);
+    rig.words(SCB + 4, &[0x200]);
+    rig.command(0x8100);
+    rig.turns(1);
+    same!(rig.command(0x2400), EDGE);
+    same!((rig.scb(), rig.word(0x200)), (0x2000, 0x9000));
+    Ok(())
+}
+
+fn attention_status_last() -> Result<(), String> {
+    let mut rig = Rig::new();
+    rig.start(0x100);
+    rig.turns(1);
+    same!(rig.scb(), 0x4000);
+    rig.command(0x0400);
+    same!((rig.scb(), rig.word(SCB + 2)), (0x2000, 0));
+    // A block over SCB+2: the closing 0 wins.
+    let mut rig = Rig::new();
+    rig.start(0x102);
+    rig.turns(1);
+    rig.command(0x0400);
+    same!((rig.scb(), rig.word(SCB + 2)), (0x2000, 0));
+    Ok(())
+}
+
+fn attention_resets() -> Result<(), String> {
+    let mut rig = Rig::ready();
+    rig.hear(&frame(46), 0);
+    rig.turns(1);
+    rig.words(0x200, &[0, 0x8000, 0]);
+    rig.start(0x200);
+    rig.turns(2);
+    let status = rig.scb();
+    same!(rig.command(0xF4C0), QUIET);
+    same!((rig.scb(), rig.word(SCB + 2)), (status, 0));
+    same!((rig.word(0x200), rig.word(0x300)), (0x4000, 0x4000));
+    same!(rig.chip.device == crate::chip::Device::fresh(), true);
+    Ok(())
+}
+
+fn attention_reserved() -> Result<(), String> {
+    let mut rig = Rig::new();
+    for word in [0x080F, 0x0550, 0x0660, 0x0770, 0x0220, 0x0330] {
+        same!(rig.command(word), QUIET);
+        same!(rig.scb(), 0);
+    }
+    Ok(())
+}
+
+// ---- Control codes ----
+
+fn start_when_active() -> Result<(), String> {
+    let mut rig = Rig::new();
+    rig.words(0x200, &[0, 0x8000, 0]);
+    rig.start(0x200);
+    rig.start(0x300);
+    rig.rest();
+    same!((rig.word(0x200), rig.word(0x300)), (0xA000, 0));
+    Ok(())
+}
+
+fn resume_when_waiting() -> Result<(), String> {
+    let mut rig = Rig::new();
+    rig.start(0x200);
+    rig.turns(1);
+    same!(rig.command(0x0300), QUIET);
+    rig.command(0x0200);
+    rig.turns(1);
+    same!(rig.scb(), 0x2100);
+    Ok(())
+}
+
+fn suspend_cu() -> Result<(), String> {
+    let mut rig = Rig::new();
+    rig.words(0x200, &[0, 0x8000, 0]);
+    rig.start(0x200);
+    same!(rig.command(0x0300), EDGE);
+    same!(rig.scb(), 0x2100);
+    rig.words(SCB + 4, &[0x300]);
+    rig.command(0x2200);
+    rig.turns(1);
+    same!(rig.word(0x200), 0x4000);
+    rig.command(0x0300);
+    same!(rig.command(0x0300), QUIET);
+    Ok(())
+}
+
+fn suspend_ru() -> Result<(), String> {
+    let mut rig = Rig::ready();
+    same!(rig.command(0x0030), EDGE);
+    same!(rig.scb(), 0x1010);
+    let mut rig = three_buffers([46, 20, 20]);
+    rig.hear(&frame(46), 0);
+    same!(rig.command(0x0030), QUIET);
+    same!(rig.scb(), 0x0040);
+    rig.rest();
+    same!((rig.scb(), rig.word(0x326)), (0x5010, 0x410));
+    same!(rig.chip.device.ru, Ru::Suspended { next: 0x320 });
+    Ok(())
+}
+
+fn waiting_forgotten() -> Result<(), String> {
+    let mut rig = Rig::new();
+    rig.words(0x200, &[0, 0x8000, 0x200]);
+    rig.start(0x200);
+    rig.turns(1);
+    rig.command(0x0300);
+    rig.turns(1);
+    same!(rig.scb(), 0x2000);
+    rig.words(0x200, &[0, 0x0000, 0x200]);
+    rig.command(0x2100);
+    rig.turns(2);
+    same!(rig.chip.device.status(), 0x0200);
+    Ok(())
+}
+
+fn aborts_off() -> Result<(), String> {
+    let mut rig = Rig::new();
+    same!(rig.command(0x0440), QUIET);
+    same!(rig.scb(), 0);
+    rig.start(0x200);
+    rig.command(0x0300);
+    same!(rig.command(0x2400), QUIET);
+    same!((rig.scb(), rig.word(0x200)), (0, 0));
+    // Active but not begun: CNA, no write.
+    rig.start(0x200);
+    same!(rig.command(0x0400), EDGE);
+    same!((rig.scb(), rig.word(0x200)), (0x2000, 0));
+    Ok(())
+}
+
+fn abort_kinds() -> Result<(), String> {
+    for kind in 0..8 {
+        let mut rig = Rig::new();
+        rig.words(0x200, &[0, 0xA000 | kind, 0, 0x1234]);
+        rig.start(0x200);
+        rig.turns(1);
+        rig.command(0x0400);
+        same!((rig.word(0x200), rig.word(0x206), rig.scb()), (0x9000, 0x1234, 0x2000));
+        same!(rig.chip.device.own, [0xFF; 6]);
+    }
+    Ok(())
+}
+
+fn abort_ru() -> Result<(), String> {
+    let mut rig = three_buffers([20, 20, 20]);
+    rig.words(0x300, &[0x1234]);
+    rig.hear(&frame(46), 0);
+    same!(rig.command(0x0040), EDGE);
+    same!((rig.word(0x300), rig.scb()), (0x1234, 0x1000));
+    rig.command(0x1010);
+    rig.hear(&frame(46), 0);
+    rig.turns(2);
+    rig.command(0x0040);
+    same!((rig.word(0x300), rig.word(0x400), rig.chip.memory[0x800]), (0, 0x4014, 0x80));
+    same!(rig.chip.memory[SCB + 8..SCB + 16].to_vec(), vec![0; 8]);
+    Ok(())
+}
+
+fn resume_takes_old_link() -> Result<(), String> {
+    let mut rig = Rig::new();
+    rig.words(0x200, &[0, 0x4000, 0x220]);
+    rig.start(0x200);
+    rig.turns(2);
+    same!(rig.scb(), 0x2100);
+    rig.words(0x204, &[0x240]);
+    rig.command(0x0200);
+    rig.turns(1);
+    same!((rig.word(0x220), rig.word(0x240)), (0x4000, 0));
+    Ok(())
+}
+
+fn waiting_of_each_unit() -> Result<(), String> {
+    let mut rig = three_buffers([46, 20, 20]);
+    rig.fd(0x300, 0x8000, 0x320, 0x400);
+    rig.hear(&frame(46), 0);
+    rig.start(0x200);
+    rig.turns(2);
+    rig.command(0x0330);
+    rig.turns(1);
+    while rig.held() {
+        rig.turns(1);
+    }
+    same!(rig.chip.device.ru, Ru::NoResources);
+    rig.rest();
+    same!(rig.chip.device.status() & 0x0700, 0x0100);
+    Ok(())
+}
+
+fn started_writes_nothing() -> Result<(), String> {
+    let mut rig = Rig::new();
+    rig.words(0x300, &[0x1234]);
+    rig.words(SCB + 6, &[0x300]);
+    rig.command(0x0010);
+    same!(rig.word(0x300), 0x1234);
+    rig.hear(&frame(46), 0);
+    same!(rig.word(0x300), 0x1234);
+    rig.turns(1);
+    same!(rig.word(0x300), 0x4000);
+    Ok(())
+}
+
+// ---- Status, events, edges ----
+
+fn plain_end_writes_no_status() -> Result<(), String> {
+    let mut rig = Rig::new();
+    rig.words(0x200, &[0, 0, 0x220]);
+    rig.start(0x200);
+    rig.words(SCB, &[0x1234]);
+    same!(rig.turns(2), QUIET);
+    same!((rig.scb(), rig.word(0x200)), (0x1234, 0xA000));
+    Ok(())
+}
+
+fn events_again() -> Result<(), String> {
+    let mut rig = Rig::new();
+    rig.words(0x200, &[0, 0x2000, 0x200]);
+    rig.start(0x200);
+    same!(rig.turns(2), EDGE);
+    same!(rig.turns(2), EDGE);
+    same!(rig.hear(&frame(46), 0), QUIET);
+    Ok(())
+}
+
+fn edges_of_attention() -> Result<(), String> {
+    let mut rig = Rig::at(8192, 0, SCB as u16);
+    same!(rig.chip.attention(), EDGE);
+    same!(rig.command(0x0000), EDGE);
+    same!(rig.command(0xF000), QUIET);
+    same!(rig.command(0x0000), QUIET);
+    Ok(())
+}
+
+fn cx_only_by_i() -> Result<(), String> {
+    let mut rig = Rig::new();
+    rig.words(0x200, &[0, 0x8000, 0]);
+    rig.start(0x200);
+    rig.turns(2);
+    same!(rig.scb(), 0x2000);
+    Ok(())
+}
+
+// ---- Turns ----
+
+fn alternation() -> Result<(), String> {
+    // R C R C after reset.
+    let mut rig = three_buffers([46, 20, 20]);
+    rig.words(0x200, &[0, 0, 0x200]);
+    rig.start(0x200);
+    rig.hear(&frame(46), 0);
+    rig.turns(1);
+    same!((rig.word(0x300), rig.word(0x200)), (0x4000, 0));
+    rig.turns(1);
+    same!(rig.word(0x200), 0x4000);
+    rig.turns(1);
+    same!((rig.word(0x400), rig.word(0x200)), (0xC02E, 0x4000));
+    rig.turns(1);
+    same!((rig.word(0x300), rig.word(0x200)), (0x4000, 0xA000));
+    // The CU alone three turns, then a frame: RU next. The RU last, then the CU started: CU next.
+    let mut rig = three_buffers([46, 20, 20]);
+    rig.words(0x200, &[0, 0, 0x200]);
+    rig.start(0x200);
+    rig.turns(3);
+    rig.hear(&frame(46), 0);
+    rig.turns(1);
+    same!(rig.word(0x300), 0x4000);
+    let mut rig = three_buffers([46, 20, 20]);
+    rig.hear(&frame(46), 0);
+    rig.turns(1);
+    rig.start(0x200);
+    rig.turns(1);
+    same!((rig.word(0x200), rig.word(0x400)), (0x4000, 0));
+    Ok(())
+}
+
+fn turn_counts_sending() -> Result<(), String> {
+    for (first, word, next, turns, status) in [
+        (NONE, 0, 0, 2, 0xA000),
+        (0x400, 0x8000 | 2035, NONE, 3, 0x8100),
+        (0x400, 10, NONE, 3, 0x8100),
+        (0x400, 0x8000, NONE, 3, 0xA000),
+        (0x400, 0, 0x400, 66, 0x8100),
+    ] {
+        let mut rig = Rig::new();
+        rig.transmit(0x200, 0x8000, first);
+        rig.tbd(0x400, word, next, 0x800);
+        rig.start(0x200);
+        same!((rig.rest(), rig.word(0x200)), (turns, status));
+    }
+    Ok(())
+}
+
+fn turn_counts_storing() -> Result<(), String> {
+    let mut rig = Rig::ready();
+    rig.fd(0x300, 0, 0x320, NONE);
+    rig.hear(&frame(46), 0);
+    same!((rig.rest(), rig.scb(), rig.word(SCB + 12)), (2, 0x1020, 1));
+    let mut rig = three_buffers([20, 20, 20]);
+    rig.rbd(0x410, NONE, 0x900, 20);
+    rig.hear(&frame(46), 0);
+    same!((rig.rest(), rig.word(0x400), rig.word(0x410)), (4, 0x4014, 0x4014));
+    let mut rig = three_buffers([1, 1, 1]);
+    rig.rbd(0x400, 0x400, 0x900, 1);
+    rig.hear(&frame(65), 0);
+    same!((rig.rest(), rig.scb()), (66, 0x1020));
+    Ok(())
+}
+
+fn report_only_at_transmit_end() -> Result<(), String> {
+    let mut rig = Rig::new();
+    rig.words(0x200, &[0, 0x8000, 0]);
+    rig.start(0x200);
+    rig.chip.turn(0xFFFF);
+    rig.chip.turn(0xFFFF);
+    same!(rig.word(0x200), 0xA000);
+    let mut rig = Rig::new();
+    rig.transmit(0x200, 0x8000, NONE);
+    rig.start(0x200);
+    rig.chip.turn(0xFFFF);
+    same!(rig.chip.turn(0).length, 14);
+    same!(rig.word(0x200), 0xA000);
+    Ok(())
+}
+
+// ---- Commands ----
+
+fn begin_keeps() -> Result<(), String> {
+    let mut rig = Rig::new();
+    rig.words(0x200, &[0, 0x8001, 0, 0, 0, 0]);
+    rig.start(0x200);
+    rig.turns(1);
+    rig.words(0x202, &[0x2006, 0x220, 0x0201, 0x0403, 0x0605]);
+    rig.turns(1);
+    same!((rig.word(0x200), rig.scb(), rig.chip.device.own), (0xA000, 0x2000, [1, 2, 3, 4, 5, 6]));
+    let mut rig = Rig::new();
+    rig.words(0x200, &[0, 0, 0x220]);
+    rig.start(0x200);
+    rig.turns(1);
+    rig.words(0x204, &[0x240]);
+    rig.turns(2);
+    same!((rig.word(0x220), rig.word(0x240)), (0, 0x4000));
+    Ok(())
+}
+
+fn link_before_status() -> Result<(), String> {
+    let mut rig = Rig::new();
+    rig.words(0xFC, &[0, 0x2000]);
+    rig.start(0xFC);
+    rig.turns(2);
+    same!(rig.scb(), 0x8200);
+    same!(rig.chip.device.cu, crate::chip::Cu::Active { block: 0x0200, begun: None });
+    Ok(())
+}
+
+fn link_ffff() -> Result<(), String> {
+    let mut rig = Rig::new();
+    rig.words(0x200, &[0, 0, 0xFFFF]);
+    rig.start(0x200);
+    rig.turns(3);
+    same!((rig.chip.memory[0x1FFF], rig.chip.memory[0]), (0x00, 0x40));
+    Ok(())
+}
+
+fn failures_end_normally() -> Result<(), String> {
+    let mut rig = Rig::new();
+    rig.words(0x200, &[0, 0x6006, 0x220]);
+    rig.start(0x200);
+    same!(rig.turns(2), EDGE);
+    same!((rig.word(0x200), rig.scb()), (0x8000, 0xA100));
+    same!(rig.chip.device.cu, crate::chip::Cu::Suspended { next: 0x220 });
+    Ok(())
+}
+
+fn el_wins() -> Result<(), String> {
+    let mut rig = Rig::new();
+    rig.words(0x200, &[0, 0xC000, 0x220]);
+    rig.start(0x200);
+    rig.turns(2);
+    same!((rig.scb(), rig.chip.device.cu), (0x2000, crate::chip::Cu::Idle));
+    Ok(())
+}
+
+fn ia_setup() -> Result<(), String> {
+    let mut rig = Rig::new();
+    same!(rig.one(0x200, 1, &[1, 2, 3, 4, 5, 6, 7]), 0xA000);
+    same!(rig.chip.device.own, [1, 2, 3, 4, 5, 6]);
+    Ok(())
+}
+
+fn settings(rig: &Rig) -> (bool, bool, bool, u8) {
+    let device = &rig.chip.device;
+    (device.save_bad, device.promiscuous, device.no_broadcast, device.minimum)
+}
+
+fn configure_bytes() -> Result<(), String> {
+    let mut rig = Rig::new();
+    same!(rig.configure(&[0x0B, 0x08, 0x80, 0x26, 0, 0x60, 0, 0xF2, 0x01, 0, 0]), 0xA000);
+    same!(settings(&rig), (true, true, false, 0));
+    Ok(())
+}
+
+fn configure_counts() -> Result<(), String> {
+    for count in 0..16 {
+        let mut rig = Rig::new();
+        same!(rig.configure(&[0xF0 | count, 0, 0x80, 6, 0, 0, 0, 0, 3, 0, 200]), 0xA000);
+        let eight = count > 8;
+        same!(settings(&rig), (true, eight, eight, if count > 10 { 200 } else { 64 }));
+    }
+    Ok(())
+}
+
+fn configure_rejects() -> Result<(), String> {
+    for byte in 0..=255 {
+        let mut rig = Rig::new();
+        let taken = byte & 7 == 6 && byte & 8 == 0 && byte & 0xC0 == 0;
+        same!(rig.configure(&[12, 0, 0x80, byte, 0, 0, 0, 0, 3, 0, 0]), if taken { 0xA000 } else { 0x8000 });
+        same!(settings(&rig), if taken { (true, true, true, 0) } else { (false, false, false, 64) });
+    }
+    Ok(())
+}
+
+fn mc_setup() -> Result<(), String> {
+    for (count, status, listed) in [(0u16, 0xA000, 0), (5, 0xA000, 0), (6, 0xA000, 1), (95, 0xA000, 15), (96, 0xA000, 16), (101, 0xA000, 16), (0xC00C, 0xA000, 2)] {
+        let mut rig = Rig::new();
+        let mut bytes = count.to_le_bytes().to_vec();
+        bytes.extend(1..=102);
+        same!(rig.one(0x200, 3, &bytes), status);
+        same!(rig.chip.device.list.len(), listed);
+        if listed > 1 {
+            same!(rig.chip.device.list[1], [7, 8, 9, 10, 11, 12]);
+        }
+        same!(rig.one(0x200, 3, &102u16.to_le_bytes()), 0x8000);
+        same!(rig.chip.device.list.len(), listed);
+    }
+    Ok(())
+}
+
+fn transmit_tests() -> Result<(), String> {
+    // Data of a descriptor that fails by FFFFh is copied; a count of 0 at 2,048 bytes passes.
+    let mut rig = Rig::new();
+    rig.transmit(0x200, 0x8000, 0x400);
+    rig.tbd(0x400, 0x4002, NONE, 0x800);
+    rig.words(0x800, &[0x2211]);
+    rig.start(0x200);
+    rig.rest();
+    same!((rig.word(0x200), rig.chip.outgoing[14..17].to_vec()), (0x8100, vec![0x11, 0x22, 0]));
+    let mut rig = Rig::new();
+    rig.transmit(0x200, 0x8000, 0x400);
+    rig.tbd(0x400, 2034, 0x408, 0x800);
+    rig.tbd(0x408, 0x8000, NONE, 0x800);
+    rig.start(0x200);
+    same!(rig.turns(4), Answer { number: 0, length: 2048, edge: true });
+    Ok(())
+}
+
+fn transmit_next_kept() -> Result<(), String> {
+    let mut rig = Rig::new();
+    rig.transmit(0x200, 0x8000, 0x400);
+    rig.tbd(0x400, 1, 0x408, 0x800);
+    rig.tbd(0x408, 0x8001, NONE, 0x800);
+    rig.start(0x200);
+    rig.turns(2);
+    rig.words(0x402, &[NONE]);
+    same!(rig.turns(2).length, 16);
+    Ok(())
+}
+
+fn reports() -> Result<(), String> {
+    for (report, status, sent) in [(0xFFFF, 0x86EF, 0), (0x0100, 0xA000, 14), (0x00CF, 0xA0CF, 14), (0x0400, 0x8400, 0), (0x0200, 0x8200, 0), (0xF910, 0xA000, 14)] {
+        let mut rig = Rig::new();
+        rig.transmit(0x200, 0x8000, NONE);
+        rig.start(0x200);
+        rig.turns(1);
+        same!(rig.chip.turn(report), Answer { number: 0, length: sent, edge: true });
+        same!(rig.word(0x200), status);
+    }
+    let mut rig = Rig::new();
+    rig.transmit(0x200, 0x8000, 0x400);
+    rig.tbd(0x400, 1, NONE, 0x800);
+    rig.start(0x200);
+    rig.turns(2);
+    same!(rig.chip.turn(0xFFFF), EDGE);
+    same!(rig.word(0x200), 0x8100);
+    Ok(())
+}
+
+fn tdr_dump_diagnose() -> Result<(), String> {
+    let mut rig = Rig::new();
+    for (kind, status, word) in [(5, 0xA000, 0x8000), (6, 0x8000, 0x1234), (7, 0xA000, 0x1234), (0, 0xA000, 0x1234)] {
+        same!(rig.one(0x200, kind, &[0x34, 0x12]), status);
+        same!(rig.word(0x206), word);
+    }
+    Ok(())
+}
+
+// ---- Arrival ----
+
+/// CRCERRS, ALNERRS, RSCERRS, OVRNERRS
+fn counters(rig: &Rig) -> [u16; 4] {
+    std::array::from_fn(|i| rig.word(SCB + 8 + 2 * i))
+}
+
+fn arrival_order() -> Result<(), String> {
+    let mut rig = Rig::new();
+    rig.hear(&frame(46), 1);
+    same!(counters(&rig), [0, 0, 0, 0]);
+    let mut rig = Rig::ready();
+    for verdict in [1, 2, 200, u32::MAX] {
+        rig.hear(&frame(46), verdict);
+    }
+    same!((counters(&rig), rig.held()), ([1, 3, 0, 0], false));
+    rig.hear(&frame(45), 1);
+    rig.hear(&frame(0)[..13], 1);
+    same!(counters(&rig), [1, 3, 0, 0]);
+    rig.hear(&frame(46), 0);
+    rig.hear(&frame(46), 1);
+    rig.hear(&frame(10), 2);
+    same!(counters(&rig), [1, 3, 0, 2]);
+    // No Resources: counters, nothing held.
+    let mut rig = Rig::saving(64);
+    rig.fd(0x300, 0x8000, 0x320, NONE);
+    rig.hear(&frame(46), 1);
+    same!((counters(&rig), rig.held()), ([1, 0, 0, 0], true));
+    rig.rest();
+    same!((rig.scb(), rig.word(0x300), counters(&rig)), (0x5020, 0x8A00, [1, 0, 0, 0]));
+    for (data, verdict) in [(46, 0), (46, 1), (46, 2), (45, 0), (45, 1)] {
+        rig.hear(&frame(data), verdict);
+        same!(rig.held(), false);
+    }
+    same!(counters(&rig), [2, 1, 1, 0]);
+    Ok(())
+}
+
+fn arrival_minimum() -> Result<(), String> {
+    for (minimum, data, short) in [(64, 46, false), (64, 45, true), (18, 0, false), (19, 0, true), (0, 0, false), (255, 236, true), (255, 237, false)] {
+        let mut rig = Rig::saving(minimum);
+        rig.hear(&frame(data), 0);
+        same!(rig.chip.device.held().map(|held| held.short), Some(short));
+    }
+    Ok(())
+}
+
+fn match_rules() -> Result<(), String> {
+    let to = |address: [u8; 6]| {
+        let mut frame = frame(46);
+        frame[..6].copy_from_slice(&address);
+        frame
+    };
+    // The own address is six FFh after reset: broadcast disabled drops it, listed or not.
+    let mut rig = Rig::ready();
+    rig.configure(&[9, 0, 0, 6, 0, 0, 0, 0, 2]);
+    rig.hear(&to([0xFF; 6]), 0);
+    same!(rig.held(), false);
+    rig.one(0x200, 3, &[6, 0, 0xFF, 0xFF, 0xFF, 0xFF, 0xFF, 0xFF]);
+    rig.hear(&to([0xFF; 6]), 0);
+    same!(rig.held(), false);
+    // An own address with its low bit set matches though it is not listed.
+    rig.one(0x200, 1, &[1, 2, 3, 4, 5, 6]);
+    rig.hear(&to([1, 2, 3, 4, 5, 6]), 0);
+    same!(rig.held(), true);
+    // Listed: only with the low bit set.
+    let mut rig = Rig::ready();
+    rig.one(0x200, 3, &[12, 0, 2, 2, 2, 2, 2, 2, 3, 3, 3, 3, 3, 3]);
+    rig.hear(&to([2; 6]), 0);
+    same!(rig.held(), false);
+    rig.hear(&to([3, 3, 3, 3, 3, 2]), 0);
+    same!(rig.held(), false);
+    rig.hear(&to([3; 6]), 0);
+    same!(rig.held(), true);
+    // Promiscuous: anything, a disabled broadcast too.
+    for address in [[2; 6], [0xFF; 6]] {
+        let mut rig = Rig::ready();
+        rig.configure(&[9, 0, 0, 6, 0, 0, 0, 0, 3]);
+        rig.hear(&to(address), 0);
+        same!(rig.held(), true);
+    }
+    Ok(())
+}
+
+fn settings_at_arrival() -> Result<(), String> {
+    let mut rig = Rig::saving(64);
+    rig.fd(0x300, 0, 0x320, 0x400);
+    rig.rbd(0x400, 0x410, 0x800, 1);
+    rig.rbd(0x410, NONE, 0x800, 1);
+    rig.hear(&frame(46), 0);
+    // Configure without save-bad, begun before the frame's end.
+    rig.words(0x200, &[0, 0x8002, 0]);
+    rig.bytes(0x206, &[12, 0, 0, 6, 0, 0, 0, 0, 0, 0, 255]);
+    rig.start(0x200);
+    rig.turns(4);
+    same!((rig.chip.device.save_bad, rig.held()), (false, true));
+    rig.rest();
+    same!((rig.word(0x300), counters(&rig)), (0x8200, [0, 0, 1, 0]));
+    same!(rig.scb() & 0x4000, 0x4000);
+    Ok(())
+}
+
+// ---- Storing ----
+
+fn storing_reads_whole() -> Result<(), String> {
+    let mut rig = Rig::ready();
+    rig.fd(0x300, 0, 0x320, 0x400);
+    rig.rbd(0x400, 0x420, 0x400, 20);
+    rig.rbd(0x420, NONE, 0x800, 100);
+    let mut heard = frame(46);
+    heard[14..].fill(0x77);
+    rig.hear(&heard, 0);
+    rig.rest();
+    same!((rig.word(0x400), rig.word(0x402), rig.word(0x420)), (0x4014, 0x7777, 0xC01A));
+    Ok(())
+}
+
+fn storing_size_zero() -> Result<(), String> {
+    let mut rig = three_buffers([0x4000, 46, 1]);
+    rig.words(0x400, &[0xFFFF]);
+    rig.hear(&frame(46), 0);
+    same!(rig.rest(), 4);
+    same!((rig.word(0x400), rig.word(0x410)), (0x4000, 0xC02E));
+    Ok(())
+}
+
+fn storing_exact_ends() -> Result<(), String> {
+    // Data that ends just in an EL buffer is stored well; No Resources follows.
+    let mut rig = three_buffers([0x8000 | 46, 20, 20]);
+    rig.hear(&frame(46), 0);
+    rig.rest();
+    same!((rig.word(0x300), rig.scb(), rig.word(0x326), counters(&rig)), (0xA000, 0x5020, 0, [0; 4]));
+    // In the 64th: Ready.
+    let mut rig = three_buffers([1, 1, 1]);
+    rig.rbd(0x400, 0x400, 0x900, 1);
+    rig.hear(&frame(64), 0);
+    same!((rig.rest(), rig.scb(), rig.word(0x326)), (66, 0x4040, 0x400));
+    // FFFFh behind the data's end: Ready.
+    let mut rig = three_buffers([46, 1, 1]);
+    rig.rbd(0x400, NONE, 0x900, 46);
+    rig.hear(&frame(46), 0);
+    rig.rest();
+    same!((rig.scb(), rig.word(0x326)), (0x4040, NONE));
+    // 20, 20 for 46: no EOF where the buffers end.
+    let mut rig = three_buffers([20, 0x8000 | 20, 20]);
+    rig.hear(&frame(46), 0);
+    rig.rest();
+    same!((rig.word(0x410), rig.word(0x420)), (0x4014, 0));
+    Ok(())
+}
+
+fn storing_no_data() -> Result<(), String> {
+    let mut rig = Rig::saving(0);
+    rig.fd(0x300, 0, 0x320, 0x400);
+    rig.rbd(0x400, NONE, 0x800, 0x8000);
+    rig.hear(&frame(0), 0);
+    same!(rig.rest(), 2);
+    same!((rig.word(0x300), rig.word(0x306), rig.word(0x326), rig.word(0x400)), (0xA000, NONE, 0x400, 0));
+    // A ring of one keeps its first offset.
+    let mut rig = Rig::saving(0);
+    rig.fd(0x300, 0, 0x300, 0x400);
+    rig.hear(&frame(0), 0);
+    rig.rest();
+    same!(rig.word(0x306), 0x400);
+    Ok(())
+}
+
+fn storing_status_bits() -> Result<(), String> {
+    for (data, verdict, first, status, counted) in [
+        (46, 0, 0x400, 0xA000, [0, 0, 0, 0]),
+        (45, 0, 0x400, 0x8080, [0, 0, 0, 0]),
+        (45, 1, 0x400, 0x8880, [0, 0, 0, 0]),
+        (45, 9, 0x400, 0x8480, [0, 0, 0, 0]),
+        (46, 1, 0x400, 0x8800, [1, 0, 0, 0]),
+        (46, 2, 0x400, 0x8400, [0, 1, 0, 0]),
+        (46, 1, NONE, 0x8A00, [1, 0, 0, 0]),
+        (46, 2, NONE, 0x8600, [0, 1, 0, 0]),
+        (46, 0, NONE, 0x8200, [0, 0, 1, 0]),
+        (45, 0, NONE, 0x8280, [0, 0, 0, 0]),
+    ] {
+        let mut rig = Rig::saving(64);
+        rig.fd(0x300, 0, 0x320, first);
+        rig.rbd(0x400, 0x410, 0x800, 100);
+        rig.hear(&frame(data), verdict);
+        rig.rest();
+        same!((rig.word(0x300), counters(&rig)), (status, counted));
+        same!(rig.scb(), if first == NONE { 0x5020 } else { 0x4040 });
+        same!(rig.chip.memory[0x308..0x316].to_vec(), frame(0));
+    }
+    Ok(())
+}
+
+fn storing_not_kept() -> Result<(), String> {
+    let mut rig = three_buffers([20, 0x8000 | 20, 20]);
+    rig.hear(&frame(46), 0);
+    rig.rest();
+    same!((rig.word(0x300), rig.scb(), counters(&rig)), (0, 0x1020, [0, 0, 1, 0]));
+    same!((rig.word(0x400), rig.word(0x410), rig.word(0x308)), (0x4014, 0x4014, 0));
+    Ok(())
+}
+
+fn storing_rscerrs_follows() -> Result<(), String> {
+    let mut rig = Rig::new();
+    rig.words(SCB + 6, &[0x10C]);
+    rig.words(0x112, &[NONE]);
+    rig.command(0x0010);
+    rig.hear(&frame(46), 0);
+    rig.rest();
+    same!(rig.word(0x10C), 1);
+    let mut rig = Rig::saving(64);
+    rig.command(0x1040);
+    rig.words(SCB + 6, &[0xFC]);
+    rig.command(0xF010);
+    // The descriptor's +6 is SCB+2, which the attention cleared: its first buffer descriptor would lie at 0.
+    rig.words(0x102, &[NONE]);
+    let mut heard = frame(46);
+    heard[8] = 3;
+    heard[9] = 4;
+    rig.hear(&heard, 0);
+    rig.rest();
+    same!(rig.word(0x10C), 0x0404);
+    Ok(())
+}
+
+fn storing_suspends() -> Result<(), String> {
+    let mut rig = three_buffers([46, 20, 20]);
+    rig.fd(0x300, 0x4000, 0x320, 0x400);
+    rig.hear(&frame(46), 0);
+    rig.rest();
+    same!((rig.scb(), rig.word(0x326)), (0x5010, 0x410));
+    same!(rig.chip.device.ru, Ru::Suspended { next: 0x320 });
+    // No Resources wins over S.
+    let mut rig = three_buffers([46, 20, 20]);
+    rig.fd(0x300, 0xC000, 0x320, 0x400);
+    rig.hear(&frame(46), 0);
+    rig.rest();
+    same!(rig.scb(), 0x5020);
+    Ok(())
+}
+
+fn storing_status_last() -> Result<(), String> {
+    // The next descriptor's +6 is SCB+0.
+    let mut rig = three_buffers([46, 20, 20]);
+    rig.fd(0x300, 0, 0x00FA, 0x400);
+    rig.hear(&frame(46), 0);
+    rig.rest();
+    same!(rig.scb(), 0x4040);
+    Ok(())
+}
+
+fn storing_descriptor_kept() -> Result<(), String> {
+    // EL, S and +6 hold from the begin on; the link is read at the end.
+    let mut rig = three_buffers([46, 20, 20]);
+    rig.hear(&frame(46), 0);
+    rig.turns(1);
+    rig.words(0x302, &[0xC000, 0x340, NONE]);
+    rig.rest();
+    same!((rig.scb(), rig.word(0x346), rig.word(0x326), rig.word(0x306)), (0x4040, 0x410, 0, NONE));
+    Ok(())
+}
+
+// ---- The list's forms ----
+
+fn printed(text: &str) -> String {
+    let mut out = Vec::new();
+    list::run(text.as_bytes(), &mut out).expect("a vector takes everything");
+    String::from_utf8(out).expect("what is printed is text")
+}
+
+fn list_example() -> Result<(), String> {
+    let list = "# initialise: SCP's pointer at FFFCh, ISCP at 20h, SCB at 30h
+    size 65536
+    words memory FFFCh 20h 0
+    words memory 20h 1 30h 0 0
+    reset
+    attention
+    look memory 30h 2";
+    same!(printed(list), "0 0 0\n0 0 1\n0030: A000 0000\n");
+    Ok(())
+}
+
+fn list_forms() -> Result<(), String> {
+    same!(printed("attention\nturn 2\narrival 0\narrival 7 2049x00\nsize 0\nturn\nreset\n"), "4 0 0\n4 0 0\n4 0 0\n4 0 0\n3 0 0\n1 0 0\n0 0 0\n");
+    same!(printed("bytes holding 10h 3x0a fF00\nshow holding 0fh 18#x\nlook holding 16 1\nshow holding 0 0"), "000F: 00 0A 0A 0A FF 00 00 00 00 00 00 00 00 00 00 00\n001F: 00 00\n0010: 0A0A\n");
+    same!(printed("\n \t\n#\nsay\nsay  a  b # c\n say x\n"), "\na  b \nx\n");
+    same!(printed("interrupt\nreset\nattention\ninterrupt"), "interrupt low\n0 0 0\n0 0 1\ninterrupt high\n");
+    same!(printed("show memory 65535 1\nshow outgoing 2047 1\nwords memory 65534 65535\nlook memory FFFEh 1\nbytes memory 0\nturn 0"), "FFFF: 00\n07FF: 00\nFFFE: FFFF\n");
+    Ok(())
+}
+
+fn list_bad_input() -> Result<(), String> {
+    for (line, column, expected) in [
+        ("  sizes 5", 3, "a line's first word"),
+        ("size", 5, "a number"),
+        ("size  # 5", 5, "a number"),
+        ("size 65537", 6, "a number up to 65536"),
+        ("size 4294967296", 6, "a number"),
+        ("size 1g", 6, "a number"),
+        ("size h", 6, "a number"),
+        ("size 8192 x", 11, "the end of the line"),
+        ("reset now", 7, "the end of the line"),
+        ("turn 65536", 6, "a number up to 65535"),
+        ("turn 1 10000h", 8, "a number up to 65535"),
+        ("turn 1 2 3", 10, "the end of the line"),
+        ("arrival", 8, "a number"),
+        ("arrival 0 12 345", 14, "bytes"),
+        ("arrival 0 x55", 11, "bytes"),
+        ("arrival 0 3x5", 11, "bytes"),
+        ("bytes", 6, "an area"),
+        ("bytes record 0", 7, "an area"),
+        ("bytes memory", 13, "a number"),
+        ("bytes memory 65536", 14, "a place in the area"),
+        ("bytes holding 2048", 15, "a place in the area"),
+        ("bytes memory 65535 1234", 14, "room in the area"),
+        ("bytes memory 65535 1234 5", 25, "bytes"),
+        ("words memory 65535 1", 14, "room in the area"),
+        ("words memory 0 65536", 16, "a number up to 65535"),
+        ("show memory 0", 14, "a number"),
+        ("show outgoing 1 2048", 15, "room in the area"),
+        ("look outgoing 1 1024 3", 22, "the end of the line"),
+    ] {
+        same!(printed(&format!("interrupt\n{line}\ninterrupt\n")), format!("interrupt low\nline 2, column {column}: expected {expected}\n"));
+    }
+    Ok(())
+}

@@ -1,0 +1,1035 @@
+//! The chip, as document 01 (`01-scope.md`, "the law") has it. Names of sections and sentences in the comments are document 01's.
+//! An offset is a `u16`, a real address a `u32`: the only way from the one to the other is `at`.
+
+use std::cell::RefCell;
+use std::collections::BTreeMap;
+
+/// Length of the holding area and of the outgoing area, and the longest frame.
+pub const AREA: usize = 2048;
+
+// Events, at their places in the SCB's words.
+pub const CX: u16 = 0x8000;
+pub const FR: u16 = 0x4000;
+pub const CNA: u16 = 0x2000;
+pub const RNR: u16 = 0x1000;
+
+/// An offset that is none (only in pointers to buffer descriptors).
+pub const NONE: u16 = 0xFFFF;
+
+/// "Every command and every held frame takes a begin turn, at most 64 buffer turns and an end turn."
+const MOST: u8 = 64;
+
+/// "An answer is the number (0 if not refused), the length sent (0 if none) and the edge."
+#[derive(Clone, Copy, PartialEq, Eq, Debug)]
+pub struct Answer {
+    pub number: u8,
+    pub length: u16,
+    pub edge: bool,
+}
+
+impl Answer {
+    fn refusal(number: u8) -> Answer {
+        Answer { number, length: 0, edge: false }
+    }
+
+    fn done(length: u16, edge: bool) -> Answer {
+        Answer { number: 0, length, edge }
+    }
+}
+
+/// "0 good, 1 CRC, any other value misaligned"
+#[derive(Clone, Copy, PartialEq, Eq, Debug)]
+pub enum Verdict {
+    Good,
+    Crc,
+    Misaligned,
+}
+
+/// What is kept of a command from its begin turn on.
+#[derive(Clone, Copy, PartialEq, Eq, Debug)]
+pub struct Begun {
+    pub kind: u8,
+    pub el: bool,
+    pub s: bool,
+    pub i: bool,
+    /// A SUSPEND waits for the command's end.
+    pub suspend: bool,
+    pub step: Send,
+}
+
+#[derive(Clone, Copy, PartialEq, Eq, Debug)]
+pub enum Send {
+    /// The next turn reads this descriptor; so many were read; so many bytes stand in the outgoing area.
+    Buffer { descriptor: u16, used: u8, length: u16 },
+    /// The end turn is next.
+    End { failed: bool, length: u16 },
+}
+
+#[derive(Clone, Copy, PartialEq, Eq, Debug)]
+pub enum Cu {
+    Idle,
+    Suspended { next: u16 },
+    Active { block: u16, begun: Option<Begun> },
+}
+
+/// A held frame: what was judged at its arrival.
+#[derive(Clone, Copy, PartialEq, Eq, Debug)]
+pub struct Held {
+    pub length: u16,
+    pub verdict: Verdict,
+    pub short: bool,
+    pub save_bad: bool,
+    pub begun: Option<Storing>,
+}
+
+/// What is kept of a frame descriptor from the begin turn on.
+#[derive(Clone, Copy, PartialEq, Eq, Debug)]
+pub struct Storing {
+    pub el: bool,
+    pub s: bool,
+    pub step: Store,
+}
+
+#[derive(Clone, Copy, PartialEq, Eq, Debug)]
+pub enum Store {
+    /// The next turn reads this descriptor; so many were read; so many data bytes are stored.
+    Buffer { descriptor: u16, used: u8, stored: u16 },
+    /// The end turn is next. `free` is the next free offset, `last_el` the EL of the last buffer used.
+    End { out: bool, free: u16, last_el: bool },
+}
+
+#[derive(Clone, Copy, PartialEq, Eq, Debug)]
+pub enum Ru {
+    Idle,
+    Suspended { next: u16 },
+    NoResources,
+    Ready { descriptor: u16, suspend: bool, held: Option<Held> },
+}
+
+#[derive(Clone, Copy, PartialEq, Eq, Debug)]
+pub struct Scb {
+    pub base: u32,
+    pub offset: u16,
+}
+
+#[derive(Clone, PartialEq, Eq, Debug)]
+pub struct Device {
+    /// Where the SCB is; none before the first attention.
+    pub scb: Option<Scb>,
+    pub events: u16,
+    pub cu: Cu,
+    pub ru: Ru,
+    /// The unit served at the last working turn was RU.
+    pub ru_last: bool,
+    pub own: [u8; 6],
+    pub list: Vec<[u8; 6]>,
+    pub save_bad: bool,
+    pub promiscuous: bool,
+    pub no_broadcast: bool,
+    pub minimum: u8,
+}
+
+impl Device {
+    /// "After reset the address is six FFh." "Reset: 6 for address length, 64 for minimum length, those bits 0." "after reset RU first"
+    pub fn fresh() -> Device {
+        Device {
+            scb: None,
+            events: 0,
+            cu: Cu::Idle,
+            ru: Ru::Idle,
+            ru_last: false,
+            own: [0xFF; 6],
+            list: Vec::new(),
+            save_bad: false,
+            promiscuous: false,
+            no_broadcast: false,
+            minimum: 64,
+        }
+    }
+
+    /// "10-8 CUS (0 Idle, 1 Suspended, 2 Active); 6-4 RUS (0 Idle, 1 Suspended, 2 No Resources, 4 Ready)"
+    pub fn status(&self) -> u16 {
+        let cus = match self.cu {
+            Cu::Idle => 0,
+            Cu::Suspended { .. } => 1,
+            Cu::Active { .. } => 2,
+        };
+        let rus = match self.ru {
+            Ru::Idle => 0,
+            Ru::Suspended { .. } => 1,
+            Ru::NoResources => 2,
+            Ru::Ready { .. } => 4,
+        };
+        self.events | cus << 8 | rus << 4
+    }
+
+    pub fn held(&self) -> Option<Held> {
+        match self.ru {
+            Ru::Ready { held, .. } => held,
+            _ => None,
+        }
+    }
+
+    pub fn begun(&self) -> Option<Begun> {
+        match self.cu {
+            Cu::Active { begun, .. } => begun,
+            _ => None,
+        }
+    }
+
+    /// "RU has work while a frame is held, CU while Active."
+    pub fn ru_works(&self) -> bool {
+        self.held().is_some()
+    }
+
+    pub fn cu_works(&self) -> bool {
+        matches!(self.cu, Cu::Active { .. })
+    }
+
+    pub fn cu_name(&self) -> &'static str {
+        match self.cu {
+            Cu::Idle => "Idle",
+            Cu::Suspended { .. } => "Suspended",
+            Cu::Active { begun: None, .. } => "Active, not begun",
+            Cu::Active { begun: Some(b), .. } if b.suspend => "Active, SUSPEND waits",
+            Cu::Active { .. } => "Active, begun",
+        }
+    }
+
+    pub fn ru_name(&self) -> &'static str {
+        match self.ru {
+            Ru::Idle => "Idle",
+            Ru::Suspended { .. } => "Suspended",
+            Ru::NoResources => "No Resources",
+            Ru::Ready { held: None, .. } => "Ready",
+            Ru::Ready { suspend: true, .. } => "Ready, SUSPEND waits",
+            Ru::Ready { held: Some(h), .. } if h.begun.is_none() => "Ready, held",
+            Ru::Ready { .. } => "Ready, begun",
+        }
+    }
+}
+
+/// A stretch of an area that the last call wrote.
+#[derive(Clone, Copy, PartialEq, Eq, Debug)]
+pub enum Wrote {
+    Memory(usize, usize),
+    Holding(usize, usize),
+    Outgoing(usize, usize),
+}
+
+pub struct Chip {
+    /// The first `n` bytes are lent.
+    pub memory: Vec<u8>,
+    pub n: usize,
+    pub holding: Vec<u8>,
+    pub outgoing: Vec<u8>,
+    /// The record is a chip's: a reset was made.
+    pub made: bool,
+    pub device: Device,
+    /// Events that the present call raised.
+    raised: u16,
+    /// What the last call wrote, and what was met how often (for the generator).
+    pub wrote: Vec<Wrote>,
+    pub met: RefCell<BTreeMap<String, u64>>,
+}
+
+impl Chip {
+    pub fn new(size: usize) -> Chip {
+        Chip {
+            memory: vec![0; size],
+            n: size,
+            holding: vec![0; AREA],
+            outgoing: vec![0; AREA],
+            made: false,
+            device: Device::fresh(),
+            raised: 0,
+            wrote: Vec::new(),
+            met: RefCell::new(BTreeMap::new()),
+        }
+    }
+
+    /// Counts that something was met.
+    pub fn note(&self, what: &str) {
+        let mut met = self.met.borrow_mut();
+        match met.get_mut(what) {
+            Some(count) => *count += 1,
+            None => {
+                met.insert(what.to_string(), 1);
+            }
+        }
+    }
+
+    fn note_if(&self, so: bool, what: &str) {
+        if so {
+            self.note(what);
+        }
+    }
+
+    // ---- Memory. "Words are low byte first." "Any address is taken modulo N, byte by byte" ----
+
+    fn byte(&self, address: u32) -> u8 {
+        self.memory[address as usize % self.n]
+    }
+
+    pub fn word(&self, address: u32) -> u16 {
+        self.note_if(address as usize % self.n == self.n - 1, "a word over the end of memory is read");
+        u16::from_le_bytes([self.byte(address), self.byte(address + 1)])
+    }
+
+    /// "A real address has 24 bits: a word, then the low byte of the next word."
+    fn real(&self, address: u32) -> u32 {
+        u32::from_le_bytes([self.byte(address), self.byte(address + 1), self.byte(address + 2), 0])
+    }
+
+    fn set_byte(&mut self, address: u32, value: u8) {
+        let index = address as usize % self.n;
+        self.memory[index] = value;
+        match self.wrote.last_mut() {
+            Some(Wrote::Memory(start, count)) if *start + *count == index => *count += 1,
+            _ => self.wrote.push(Wrote::Memory(index, 1)),
+        }
+    }
+
+    fn set_word(&mut self, address: u32, value: u16) {
+        self.note_if(address as usize % self.n == self.n - 1, "a word over the end of memory is written");
+        self.set_byte(address, value as u8);
+        self.set_byte(address + 1, (value >> 8) as u8);
+    }
+
+    /// "An offset has 16 bits; its address is the SCB base plus the offset": the field of what lies there.
+    pub fn at(&self, offset: u16, field: u32) -> u32 {
+        self.device.scb.map_or(0, |scb| scb.base) + u32::from(offset) + field
+    }
+
+    /// A field of the SCB.
+    pub fn scb(&self, field: u32) -> u32 {
+        self.at(self.device.scb.map_or(0, |scb| scb.offset), field)
+    }
+
+    /// A write to a block, a descriptor or a buffer lies over the SCB.
+    fn over_scb(&self, address: u32, length: u32) -> bool {
+        let n = self.n as u32;
+        let from_scb = (address % n + n - self.scb(0) % n) % n;
+        from_scb < 16 || from_scb + length > n
+    }
+
+    /// Two words share a byte.
+    fn meet(&self, one: u32, other: u32) -> bool {
+        let n = self.n as u32;
+        let apart = (one % n + n - other % n) % n;
+        apart <= 1 || apart == n - 1
+    }
+
+    fn set_field(&mut self, address: u32, value: u16) {
+        self.note_if(self.over_scb(address, 2), "a block or descriptor is written over the SCB");
+        self.set_word(address, value);
+    }
+
+    // ---- Refusals ----
+
+    /// "N a power of two (exactly one bit set) from 8,192 to 16,777,216"
+    fn allowed(&self) -> bool {
+        self.n.count_ones() == 1 && (8_192..=16_777_216).contains(&self.n)
+    }
+
+    /// "The lowest number that applies is given." Number 2 cannot be: the areas' lengths are right here. Number 4: the record is a
+    /// chip's from the first reset on, since the host does not alter it.
+    fn refused(&self, call: &str, length: u64) -> Option<Answer> {
+        let overlong = length > AREA as u64;
+        let number = if !self.allowed() {
+            self.note_if(overlong, "refusal 1 goes before 3");
+            self.note_if(!self.made, "refusal 1 goes before 4");
+            1
+        } else if overlong {
+            self.note_if(!self.made, "refusal 3 goes before 4");
+            3
+        } else if !self.made {
+            4
+        } else {
+            return None;
+        };
+        self.note(&format!("refusal {number} of {call}"));
+        Some(Answer::refusal(number))
+    }
+
+    // ---- Reset ----
+
+    /// "Reset takes the record alone, ignores its content and writes a fresh one"
+    pub fn reset(&mut self) -> Answer {
+        self.wrote.clear();
+        self.note("reset");
+        self.note_if(!self.allowed(), "reset with a size that is not allowed");
+        self.note_if(self.made && self.device.ru_works(), "reset with a frame held");
+        self.note_if(self.made && self.device.begun().is_some(), "reset with a command begun");
+        self.made = true;
+        self.device = Device::fresh();
+        Answer::done(0, false)
+    }
+
+    // ---- Attention ----
+
+    pub fn attention(&mut self) -> Answer {
+        self.wrote.clear();
+        if let Some(answer) = self.refused("attention", 0) {
+            return answer;
+        }
+        self.raised = 0;
+        if self.device.scb.is_none() {
+            return self.first_attention();
+        }
+        // "An attention, in order: read command; if RESET, write command 0 and become as after reset, nothing else"
+        let command = self.word(self.scb(2));
+        if command & 0x0080 != 0 {
+            self.note(&format!("resetting attention, CU {}", self.device.cu_name()));
+            self.note(&format!("resetting attention, RU {}", self.device.ru_name()));
+            self.note_if(self.device.events != 0, "resetting attention with events set");
+            self.set_word(self.scb(2), 0);
+            self.device = Device::fresh();
+            return Answer::done(0, false);
+        }
+        // "clear acknowledged events; obey CUC; obey RUC; write status; write command 0"
+        for (event, name) in [(CX, "CX"), (FR, "FR"), (CNA, "CNA"), (RNR, "RNR")] {
+            self.note_if(command & self.device.events & event != 0, &format!("{name} acknowledged"));
+        }
+        self.device.events &= !(command & 0xF000);
+        let (cuc, ruc) = (command >> 8 & 7, command >> 4 & 7);
+        let offsets = (self.word(self.scb(4)), self.word(self.scb(6)), self.device.cu_works());
+        self.obey_cuc(cuc);
+        let ready = matches!(self.device.ru, Ru::Ready { .. });
+        self.note_if(ruc == 1 && !ready && self.word(self.scb(6)) != offsets.1, "order: a CU abort writes what RU START reads");
+        self.obey_ruc(ruc);
+        self.note_if(cuc == 1 && !offsets.2 && self.word(self.scb(4)) != offsets.0, "order: an RU abort writes what CU START read");
+        self.note_if(command & 0xF000 & self.raised != 0, "an event acknowledged and raised in one attention");
+        self.set_word(self.scb(0), self.device.status());
+        self.set_word(self.scb(2), 0);
+        // "An edge is reported when an event is raised, again included, or an attention leaves any event set."
+        let edge = self.device.events != 0;
+        self.note(if edge { "attention with an edge" } else { "attention without an edge" });
+        Answer::done(0, edge)
+    }
+
+    /// "SCP is at FFFFF6h; its pointer to ISCP is the real address at FFFFFCh. ISCP: BUSY byte +0, SCB offset +2, SCB base (real) +4.
+    /// The chip reads these, clears BUSY, writes SCB status A000h (CX, CNA) and command 0000h, both units Idle."
+    fn first_attention(&mut self) -> Answer {
+        self.note("first attention");
+        let iscp = self.real(0xFF_FFFC);
+        let offset = self.word(iscp + 2);
+        let base = self.real(iscp + 4);
+        self.device.scb = Some(Scb { base, offset });
+        self.note_if(self.word(self.scb(2)) & 0x0080 != 0, "first attention over a RESET bit");
+        self.set_byte(iscp, 0);
+        self.device.events = CX | CNA;
+        self.set_word(self.scb(0), self.device.status());
+        self.set_word(self.scb(2), 0);
+        Answer::done(0, true)
+    }
+
+    fn raise(&mut self, event: u16) {
+        self.note_if(self.device.events & event != 0, "an event raised again");
+        self.device.events |= event;
+        self.raised |= event;
+    }
+
+    /// The table's CU column. "Every other pair does nothing (ours). Leaving Active raises CNA". "CU abort of a begun command writes its
+    /// status 9000h."
+    fn obey_cuc(&mut self, code: u16) {
+        self.note(&format!("CU code {code} in {}", self.device.cu_name()));
+        self.device.cu = match (code, self.device.cu) {
+            (1, Cu::Idle | Cu::Suspended { .. }) => Cu::Active { block: self.word(self.scb(4)), begun: None },
+            (2, Cu::Suspended { next }) => Cu::Active { block: next, begun: None },
+            (3, Cu::Active { block, begun: None }) => {
+                self.raise(CNA);
+                Cu::Suspended { next: block }
+            }
+            (3, Cu::Active { block, begun: Some(begun) }) => Cu::Active { block, begun: Some(Begun { suspend: true, ..begun }) },
+            (4, Cu::Active { block, begun }) => {
+                if let Some(begun) = begun {
+                    let phase = match begun.step {
+                        Send::Buffer { .. } => "a buffer turn",
+                        Send::End { failed: true, .. } => "a failing end",
+                        Send::End { failed: false, .. } => "the end",
+                    };
+                    self.note(&format!("abort of command {} before {phase}", begun.kind));
+                    self.set_field(self.at(block, 0), 0x9000);
+                }
+                self.raise(CNA);
+                Cu::Idle
+            }
+            (4, _) => Cu::Idle,
+            (_, cu) => cu,
+        };
+    }
+
+    /// The table's RU column. "leaving Ready raises RNR". "RU abort drops a held frame uncounted and writes 0000h to its frame
+    /// descriptor if begun."
+    fn obey_ruc(&mut self, code: u16) {
+        self.note(&format!("RU code {code} in {}", self.device.ru_name()));
+        self.device.ru = match (code, self.device.ru) {
+            (1, Ru::Idle | Ru::Suspended { .. } | Ru::NoResources) => self.ready(self.word(self.scb(6))),
+            (2, Ru::Suspended { next }) => self.ready(next),
+            (3, Ru::Ready { descriptor, held: None, .. }) => {
+                self.raise(RNR);
+                Ru::Suspended { next: descriptor }
+            }
+            (3, Ru::Ready { descriptor, held, .. }) => Ru::Ready { descriptor, suspend: true, held },
+            (4, Ru::Ready { descriptor, held, .. }) => {
+                if let Some(held) = held {
+                    self.note(match held.begun.map(|begun| begun.step) {
+                        None => "abort of a held frame before its begin",
+                        Some(Store::Buffer { used: 0, .. }) => "abort of a held frame before its first buffer turn",
+                        Some(Store::Buffer { .. }) => "abort of a held frame before a later buffer turn",
+                        Some(Store::End { out: true, .. }) => "abort of a held frame before its end, out of buffers",
+                        Some(Store::End { .. }) => "abort of a held frame before its end",
+                    });
+                    if held.begun.is_some() {
+                        self.set_field(self.at(descriptor, 0), 0x0000);
+                    }
+                }
+                self.raise(RNR);
+                Ru::Idle
+            }
+            (4, _) => Ru::Idle,
+            (_, ru) => ru,
+        };
+    }
+
+    fn ready(&self, descriptor: u16) -> Ru {
+        Ru::Ready { descriptor, suspend: false, held: None }
+    }
+
+    // ---- Turn ----
+
+    /// "If both have, the unit not served at the last working turn is served; after reset RU first. With no work a turn changes
+    /// nothing." Status is written "as the last write, at every turn that raises an event or changes a unit's state": each change of a
+    /// state in a turn raises an event.
+    pub fn turn(&mut self, report: u16) -> Answer {
+        self.wrote.clear();
+        if let Some(answer) = self.refused("turn", 0) {
+            return answer;
+        }
+        self.raised = 0;
+        let serve_ru = match (self.device.ru_works(), self.device.cu_works()) {
+            (false, false) => {
+                self.note(if self.device.scb.is_none() { "turn before the first attention" } else { "turn with no work" });
+                return Answer::done(0, false);
+            }
+            (true, false) => {
+                self.note("turn, RU alone");
+                true
+            }
+            (false, true) => {
+                self.note("turn, CU alone");
+                false
+            }
+            (true, true) => {
+                self.note(if self.device.ru_last { "turn, both: CU" } else { "turn, both: RU" });
+                !self.device.ru_last
+            }
+        };
+        self.device.ru_last = serve_ru;
+        let length = if serve_ru {
+            self.serve_ru();
+            0
+        } else {
+            self.serve_cu(report)
+        };
+        let edge = self.raised != 0;
+        if edge {
+            self.set_word(self.scb(0), self.device.status());
+        }
+        Answer::done(length, edge)
+    }
+
+    // ---- The command unit ----
+
+    /// One turn of the CU; the length sent comes back.
+    fn serve_cu(&mut self, report: u16) -> u16 {
+        let Cu::Active { block, begun } = self.device.cu else {
+            return 0;
+        };
+        let Some(begun) = begun else {
+            let begun = self.begin_command(block);
+            self.device.cu = Cu::Active { block, begun: Some(begun) };
+            return 0;
+        };
+        match begun.step {
+            Send::Buffer { descriptor, used, length } => {
+                let step = self.send_buffer(descriptor, used, length);
+                self.device.cu = Cu::Active { block, begun: Some(Begun { step, ..begun }) };
+                0
+            }
+            Send::End { failed, length } => self.end_command(block, begun, failed, length, report),
+        }
+    }
+
+    /// "Begin: read the command word, which holds to the end; write status 4000h."
+    fn begin_command(&mut self, block: u16) -> Begun {
+        let word = self.word(self.at(block, 2));
+        let kind = (word & 7) as u8;
+        self.note(&format!("begin of command {kind}"));
+        let step = if kind == 4 { self.begin_transmit(block) } else { Send::End { failed: false, length: 0 } };
+        self.set_field(self.at(block, 0), 0x4000);
+        Begun { kind, el: word & 0x8000 != 0, s: word & 0x4000 != 0, i: word & 0x2000 != 0, suspend: false, step }
+    }
+
+    /// "+6, read at begin, offset of a buffer descriptor, FFFFh none; destination +8; type +14. Frame: destination, own address, type,
+    /// data." "The header goes to the outgoing area at begin, data behind it."
+    fn begin_transmit(&mut self, block: u16) -> Send {
+        let descriptor = self.word(self.at(block, 6));
+        for i in 0..6 {
+            self.outgoing[i] = self.byte(self.at(block, 8 + i as u32));
+            self.outgoing[6 + i] = self.device.own[i];
+        }
+        for i in 0..2 {
+            self.outgoing[12 + i] = self.byte(self.at(block, 14 + i as u32));
+        }
+        self.wrote.push(Wrote::Outgoing(0, 14));
+        if descriptor == NONE {
+            self.note("Transmit without a descriptor");
+            Send::End { failed: false, length: 14 }
+        } else {
+            Send::Buffer { descriptor, used: 0, length: 14 }
+        }
+    }
+
+    /// "Descriptor: +0 15 EOF, 13-0 count; +2 next offset; +4 real address; one buffer turn each." "At a buffer that would pass 2,048
+    /// bytes (none of it copied), at a next offset FFFFh before EOF, or with no EOF in 64 descriptors, the end turn is next"
+    fn send_buffer(&mut self, descriptor: u16, used: u8, length: u16) -> Send {
+        let word = self.word(self.at(descriptor, 0));
+        let next = self.word(self.at(descriptor, 2));
+        let address = self.real(self.at(descriptor, 4));
+        let eof = word & 0x8000 != 0;
+        let count = word & 0x3FFF;
+        let used = used + 1;
+        if usize::from(length + count) > AREA {
+            self.note(if eof { "Transmit fails: 2,048 passed, with EOF" } else { "Transmit fails: 2,048 passed" });
+            self.note_if(usize::from(length + count) == AREA + 1, "Transmit fails: 2,048 passed by one");
+            return Send::End { failed: true, length };
+        }
+        self.note_if(count == 0, "Transmit: count 0");
+        self.note_if(count == 0 && usize::from(length) == AREA, "Transmit: count 0 at 2,048");
+        self.note_if(self.runs_over(address, count), "Transmit: a buffer over the end of memory");
+        for i in 0..count {
+            self.outgoing[usize::from(length + i)] = self.byte(address + u32::from(i));
+        }
+        self.wrote.push(Wrote::Outgoing(usize::from(length), usize::from(count)));
+        let length = length + count;
+        if eof {
+            self.note_if(used == MOST, "Transmit: EOF in the 64th descriptor");
+            self.note_if(next == NONE, "Transmit: EOF and next FFFFh");
+            self.note_if(used > 1, "Transmit: several descriptors");
+            Send::End { failed: false, length }
+        } else if next == NONE {
+            self.note("Transmit fails: FFFFh before EOF");
+            Send::End { failed: true, length }
+        } else if used == MOST {
+            self.note("Transmit fails: no EOF in 64 descriptors");
+            Send::End { failed: true, length }
+        } else {
+            Send::Buffer { descriptor: next, used, length }
+        }
+    }
+
+    fn runs_over(&self, address: u32, count: u16) -> bool {
+        address as usize % self.n + usize::from(count) > self.n
+    }
+
+    /// "End: do the action, write status; I raises CX; EL makes CU Idle, else S or a waiting SUSPEND makes it Suspended; the link, read
+    /// now, is next. EL wins over S."
+    fn end_command(&mut self, block: u16, begun: Begun, failed: bool, length: u16, report: u16) -> u16 {
+        let (status, sent) = match begun.kind {
+            1 => (self.ia_setup(block), 0),
+            2 => (self.configure(block), 0),
+            3 => (self.mc_setup(block), 0),
+            4 => self.transmitted(failed, length, report),
+            5 => (self.tdr(block), 0),
+            6 => (0x8000, 0),
+            _ => (0xA000, 0),
+        };
+        self.note(&format!("end of command {}, {}", begun.kind, if status & 0x2000 != 0 { "OK" } else { "not OK" }));
+        self.set_field(self.at(block, 0), status);
+        let link = self.word(self.at(block, 4));
+        if begun.i {
+            self.note("end with I");
+            self.raise(CX);
+        }
+        let suspend = begun.s || begun.suspend;
+        let over = !begun.el && self.meet(self.at(block, 4), self.scb(0));
+        self.note_if(over && self.raised != 0, "order: a link lies over the SCB's status");
+        self.device.cu = if begun.el {
+            self.note("end with EL");
+            self.note_if(begun.s, "end with EL and S");
+            self.note_if(begun.suspend, "end with EL and a waiting SUSPEND");
+            self.raise(CNA);
+            Cu::Idle
+        } else if suspend {
+            self.note_if(begun.s && !begun.suspend, "end with S");
+            self.note_if(!begun.s && begun.suspend, "end with a waiting SUSPEND");
+            self.note_if(begun.s && begun.suspend, "end with S and a waiting SUSPEND");
+            self.raise(CNA);
+            Cu::Suspended { next: link }
+        } else {
+            self.note_if(!begun.i, "end that raises nothing");
+            self.note_if(link == 0xFFFF, "a command's link is FFFFh");
+            self.note_if(link == block, "a command's link is its own block");
+            Cu::Active { block: link, begun: None }
+        };
+        sent
+    }
+
+    /// "IA-Setup: six bytes at +6."
+    fn ia_setup(&mut self, block: u16) -> u16 {
+        self.device.own = self.six(self.at(block, 6));
+        0xA000
+    }
+
+    fn six(&self, address: u32) -> [u8; 6] {
+        std::array::from_fn(|i| self.byte(address + i as u32))
+    }
+
+    /// "Configure: byte count, low 4 bits of +6, below 4 taken as 4, above 12 as 12; that many bytes are taken from +6 (byte 0), the
+    /// others kept." "If the result has a length other than 6, location 1 or loopback: status 8000h, nothing changed (ours)."
+    fn configure(&mut self, block: u16) -> u16 {
+        let byte = |n: u32| self.byte(self.at(block, 6 + n));
+        self.note(&format!("Configure of count {}", byte(0) & 15));
+        let count = (byte(0) & 15).clamp(4, 12);
+        let (byte2, byte3, byte8, byte10) = (byte(2), byte(3), byte(8), byte(10));
+        if byte3 & 7 != 6 || byte3 & 0xC8 != 0 {
+            self.note_if(byte3 & 7 != 6 && byte3 & 0xC8 == 0, "Configure fails: length");
+            self.note_if(byte3 & 0xCF == 0x0E, "Configure fails: location");
+            self.note_if(byte3 & 0x8F == 0x06 && byte3 & 0x40 != 0, "Configure fails: loopback, bit 6");
+            self.note_if(byte3 & 0x4F == 0x06 && byte3 & 0x80 != 0, "Configure fails: loopback, bit 7");
+            return 0x8000;
+        }
+        self.device.save_bad = byte2 & 0x80 != 0;
+        if count > 8 {
+            self.device.promiscuous = byte8 & 1 != 0;
+            self.device.no_broadcast = byte8 & 2 != 0;
+        }
+        if count > 10 {
+            self.device.minimum = byte10;
+        }
+        let held = self.device.held();
+        self.note_if(held.is_some_and(|held| held.save_bad != self.device.save_bad), "Configure alters save-bad under a held frame");
+        0xA000
+    }
+
+    /// "MC-Setup: low 14 bits at +6 count bytes, addresses from +8, a remainder ignored. Above 16 addresses: 8000h, old list kept."
+    fn mc_setup(&mut self, block: u16) -> u16 {
+        let word = self.word(self.at(block, 6));
+        let bytes = word & 0x3FFF;
+        let count = bytes / 6;
+        self.note_if(bytes % 6 != 0, "MC-Setup with a remainder");
+        self.note_if(word & 0xC000 != 0, "MC-Setup with bits above the count");
+        if count > 16 {
+            self.note(if bytes == 102 { "MC-Setup fails at 17" } else { "MC-Setup fails above 17" });
+            return 0x8000;
+        }
+        self.note(match count {
+            0 => "MC-Setup of no address",
+            1..=14 => "MC-Setup of 1 to 14",
+            15 => "MC-Setup of 15",
+            _ => "MC-Setup of 16",
+        });
+        self.device.list = (0..u32::from(count)).map(|i| self.six(self.at(block, 8 + 6 * i))).collect();
+        0xA000
+    }
+
+    /// "8100h, nothing sent (ours). Otherwise bits 10, 9, 7, 6, 5, 3-0 of the line report given with the end turn are set with C; OK, and
+    /// the frame sent, exactly if 10, 9, 5 are clear."
+    fn transmitted(&mut self, failed: bool, length: u16, report: u16) -> (u16, u16) {
+        if failed {
+            self.note_if(report != 0, "Transmit failed, with a report");
+            return (0x8100, 0);
+        }
+        for bit in 0..16 {
+            self.note_if(report >> bit & 1 != 0, &format!("report with bit {bit}"));
+            self.note_if(report == 1 << bit, &format!("report of bit {bit} alone"));
+        }
+        let status = 0x8000 | report & 0x06EF;
+        if report & 0x0620 != 0 {
+            self.note("Transmit: not sent");
+            return (status, 0);
+        }
+        self.note(if report == 0 { "Transmit: sent" } else { "Transmit: sent, with a report" });
+        self.note_if(length == 14, "Transmit: 14 bytes sent");
+        self.note_if(usize::from(length) == AREA, "Transmit: 2,048 bytes sent");
+        (status | 0x2000, length)
+    }
+
+    /// "TDR: word +6 becomes 8000h, status A000h."
+    fn tdr(&mut self, block: u16) -> u16 {
+        self.set_field(self.at(block, 6), 0x8000);
+        0xA000
+    }
+
+    // ---- Arrival ----
+
+    /// "In order: under 14 bytes, dropped. No match, dropped. RU Idle or Suspended, dropped. A frame already held: OVRNERRS. Short ...:
+    /// bad, no counter whatever the verdict. Misaligned verdict: bad, ALNERRS. CRC verdict: bad, CRCERRS. Any other of 14 bytes or more
+    /// is good. A bad frame is held only in Ready with save-bad set; a good one is held in Ready, else RSCERRS."
+    /// `length` is the frame's; of a frame of more than 2,048 bytes the bytes need not be given.
+    pub fn arrival(&mut self, frame: &[u8], length: u64, verdict: u32) -> Answer {
+        self.wrote.clear();
+        if let Some(answer) = self.refused("arrival", length) {
+            return answer;
+        }
+        self.raised = 0;
+        self.note(&format!("arrival of verdict {}", verdict.min(3)));
+        for special in [0, 13, 14, 2048] {
+            self.note_if(length == special, &format!("arrival of {special} bytes"));
+        }
+        if length < 14 {
+            self.note("dropped: under 14 bytes");
+            return Answer::done(0, false);
+        }
+        if !self.matches(frame) {
+            return Answer::done(0, false);
+        }
+        self.hear(frame, verdict);
+        Answer::done(0, false)
+    }
+
+    /// "Match: promiscuous; or all FFh with broadcast enabled; or not all FFh and either own address or, with the low bit of the first
+    /// byte set, a listed address."
+    fn matches(&self, frame: &[u8]) -> bool {
+        let to = &frame[..6];
+        let all = to.iter().all(|&byte| byte == 0xFF);
+        let own = to == self.device.own;
+        let listed = self.device.list.iter().any(|address| address == to);
+        let group = to[0] & 1 != 0;
+        let otherwise = if all { !self.device.no_broadcast } else { own || group && listed };
+        if self.device.promiscuous {
+            self.note_if(!otherwise, "match: promiscuous alone");
+        } else if otherwise {
+            self.note(match (all, own) {
+                (true, _) => "match: broadcast",
+                (false, true) => if group { "match: own, a group's" } else { "match: own" },
+                (false, false) => "match: listed",
+            });
+        } else {
+            self.note(match (all, group) {
+                (true, _) if own => "dropped: broadcast disabled, own all FFh",
+                (true, _) if listed => "dropped: broadcast disabled, listed",
+                (true, _) => "dropped: broadcast disabled",
+                (false, true) => "dropped: a group not listed",
+                (false, false) if listed => "dropped: listed without its low bit",
+                (false, false) => "dropped: another's",
+            });
+        }
+        self.device.promiscuous || otherwise
+    }
+
+    fn hear(&mut self, frame: &[u8], verdict: u32) {
+        let length = frame.len() as u16;
+        let (descriptor, suspend) = match self.device.ru {
+            Ru::Idle | Ru::Suspended { .. } => {
+                let name = if self.device.scb.is_none() { "before the first attention" } else { self.device.ru_name() };
+                self.note(&format!("dropped: {name}"));
+                return;
+            }
+            Ru::Ready { held: Some(_), .. } => {
+                self.note(&format!("overrun, verdict {}", verdict.min(2)));
+                self.count(14);
+                return;
+            }
+            Ru::Ready { descriptor, suspend, held: None } => (Some(descriptor), suspend),
+            Ru::NoResources => (None, false),
+        };
+        let verdict = match verdict {
+            0 => Verdict::Good,
+            1 => Verdict::Crc,
+            _ => Verdict::Misaligned,
+        };
+        // "Short (bytes plus 4 below the minimum)"
+        let short = length + 4 < u16::from(self.device.minimum);
+        self.note_if(length + 5 == u16::from(self.device.minimum), "arrival one byte below the minimum");
+        self.note_if(length + 4 == u16::from(self.device.minimum), "arrival of just the minimum");
+        let good = !short && verdict == Verdict::Good;
+        let kind = format!("{}{verdict:?}", if short { "short " } else { "" });
+        if !short && verdict == Verdict::Misaligned {
+            self.count(10);
+        }
+        if !short && verdict == Verdict::Crc {
+            self.count(8);
+        }
+        match descriptor {
+            Some(descriptor) if good || self.device.save_bad => {
+                self.note(&format!("held: {kind}"));
+                let held = Held { length, verdict, short, save_bad: self.device.save_bad, begun: None };
+                self.device.ru = Ru::Ready { descriptor, suspend, held: Some(held) };
+                self.holding[..frame.len()].copy_from_slice(frame);
+                self.wrote.push(Wrote::Holding(0, frame.len()));
+            }
+            None if good => {
+                self.note("lost in No Resources: Good");
+                self.count(12);
+            }
+            Some(_) => self.note(&format!("lost in Ready: {kind}")),
+            None => self.note(&format!("lost in No Resources: {kind}")),
+        }
+    }
+
+    /// "Counters are read from the SCB, increased modulo 65,536, written back."
+    fn count(&mut self, field: u32) {
+        let value = self.word(self.scb(field));
+        self.note(&format!("counter +{field}"));
+        self.note_if(value == 0xFFFF, &format!("counter +{field} from FFFFh to 0"));
+        self.set_word(self.scb(field), value.wrapping_add(1));
+    }
+
+    // ---- The receive unit ----
+
+    fn serve_ru(&mut self) {
+        let Ru::Ready { descriptor, suspend, held: Some(held) } = self.device.ru else {
+            return;
+        };
+        let begun = match held.begun {
+            None => self.begin_frame(descriptor, held.length),
+            Some(storing) => match storing.step {
+                Store::Buffer { descriptor, used, stored } => {
+                    let step = self.store_buffer(descriptor, used, stored, held.length - 14);
+                    Storing { step, ..storing }
+                }
+                Store::End { out, free, last_el } => {
+                    self.end_frame(descriptor, suspend, held, storing, out, free, last_el);
+                    return;
+                }
+            },
+        };
+        self.device.ru = Ru::Ready { descriptor, suspend, held: Some(Held { begun: Some(begun), ..held }) };
+    }
+
+    /// "Begin: read +2 and +6, write 4000h." "Data left ... at FFFFh: out of buffers."
+    fn begin_frame(&mut self, descriptor: u16, length: u16) -> Storing {
+        let word = self.word(self.at(descriptor, 2));
+        let first = self.word(self.at(descriptor, 6));
+        self.set_field(self.at(descriptor, 0), 0x4000);
+        let step = if length == 14 {
+            self.note("frame: no data");
+            Store::End { out: false, free: first, last_el: false }
+        } else if first == NONE {
+            self.note("out of buffers: first FFFFh");
+            Store::End { out: true, free: first, last_el: false }
+        } else {
+            Store::Buffer { descriptor: first, used: 0, stored: 0 }
+        };
+        Storing { el: word & 0x8000 != 0, s: word & 0x4000 != 0, step }
+    }
+
+    /// "Each buffer turn reads one descriptor whole, fills its buffer (size 0 too), then writes F, count, and EOF if the data ends there.
+    /// Data left after EL, after 64, or at FFFFh: out of buffers."
+    fn store_buffer(&mut self, descriptor: u16, used: u8, stored: u16, data: u16) -> Store {
+        let next = self.word(self.at(descriptor, 2));
+        let address = self.real(self.at(descriptor, 4));
+        let word = self.word(self.at(descriptor, 8));
+        let el = word & 0x8000 != 0;
+        let left = data - stored;
+        let count = left.min(word & 0x3FFF);
+        let used = used + 1;
+        self.note_if(word & 0x3FFF == 0, "frame: a buffer of size 0");
+        self.note_if(self.runs_over(address, count), "frame: a buffer over the end of memory");
+        self.note_if(count > 0 && self.over_scb(address, u32::from(count)), "frame: a buffer over the SCB");
+        for i in 0..count {
+            self.set_byte(address + u32::from(i), self.holding[usize::from(14 + stored + i)]);
+        }
+        let over = self.word(self.at(descriptor, 2)) != next || self.word(self.at(descriptor, 8)) != word;
+        self.note_if(over, "order: a buffer lies over its own descriptor");
+        let ends = count == left;
+        self.set_field(self.at(descriptor, 0), 0x4000 | count | if ends { 0x8000 } else { 0 });
+        if ends {
+            self.note_if(el, "frame: data ends in the EL buffer");
+            self.note_if(used == MOST, "frame: data ends in the 64th buffer");
+            self.note_if(next == NONE, "frame: data ends, next FFFFh");
+            self.note_if(count == word & 0x3FFF, "frame: data fills its last buffer");
+            Store::End { out: false, free: next, last_el: el }
+        } else if el || used == MOST || next == NONE {
+            self.note(match (el, used == MOST) {
+                (true, _) => "out of buffers: after EL",
+                (false, true) => "out of buffers: after 64",
+                (false, false) => "out of buffers: next FFFFh",
+            });
+            Store::End { out: true, free: next, last_el: el }
+        } else {
+            Store::Buffer { descriptor: next, used, stored: stored + count }
+        }
+    }
+
+    /// "End, if stored: fourteen header bytes, status, FFFFh at +6 if no data; raise FR." "Out of buffers: kept with bit 9 if save-bad was
+    /// set at arrival; else status 0000h, no FR. Either way RSCERRS follows if otherwise good, and No Resources. Descriptor EL, or EL on
+    /// the last buffer used, also gives No Resources, which wins over Suspended. Otherwise +6 of the next frame descriptor (link read now)
+    /// gets the next free offset (with no data, the +6 read at begin), and S or a waiting SUSPEND suspends."
+    #[allow(clippy::too_many_arguments)]
+    fn end_frame(&mut self, descriptor: u16, suspend: bool, held: Held, storing: Storing, out: bool, free: u16, last_el: bool) {
+        self.note_if(held.save_bad != self.device.save_bad, "frame ends under another save-bad than at arrival");
+        if !out || held.save_bad {
+            for i in 0..14 {
+                self.set_byte(self.at(descriptor, 8 + i as u32), self.holding[i]);
+            }
+            let status = self.frame_status(held, out);
+            self.note(&format!("stored {status:04X}"));
+            self.set_field(self.at(descriptor, 0), status);
+            if held.length == 14 {
+                self.set_field(self.at(descriptor, 6), NONE);
+            }
+            self.raise(FR);
+        } else {
+            self.note("not kept");
+            self.set_field(self.at(descriptor, 0), 0x0000);
+        }
+        if out && !held.short && held.verdict == Verdict::Good {
+            let from = (self.scb(12) + (self.n as u32) - self.at(descriptor, 0) % self.n as u32) % self.n as u32;
+            self.note_if(from == 0 || held.save_bad && from < 22, "order: RSCERRS lies in the frame descriptor");
+            self.count(12);
+        }
+        self.device.ru = if out || storing.el || last_el {
+            self.note(match (out, storing.el, last_el) {
+                (true, ..) => "frame's end: No Resources, out of buffers",
+                (_, true, true) => "frame's end: No Resources, both EL",
+                (_, true, false) => "frame's end: No Resources, descriptor's EL",
+                _ => "frame's end: No Resources, buffer's EL",
+            });
+            self.note_if(storing.s, "frame's end: No Resources over S");
+            self.note_if(suspend, "frame's end: No Resources over a waiting SUSPEND");
+            self.raise(RNR);
+            Ru::NoResources
+        } else {
+            let link = self.word(self.at(descriptor, 4));
+            self.note_if(link == 0xFFFF, "a frame descriptor's link is FFFFh");
+            self.note_if(link == descriptor, "a frame descriptor's link is its own");
+            self.note_if(self.meet(self.at(link, 6), self.scb(0)), "order: the next descriptor's +6 lies over the SCB's status");
+            self.note_if(self.meet(self.at(link, 6), self.at(descriptor, 0)), "order: the next descriptor's +6 lies over the status");
+            self.set_field(self.at(link, 6), free);
+            if storing.s || suspend {
+                self.note(match (storing.s, suspend) {
+                    (true, true) => "frame's end: Suspended by S and a waiting SUSPEND",
+                    (true, false) => "frame's end: Suspended by S",
+                    _ => "frame's end: Suspended by a waiting SUSPEND",
+                });
+                self.raise(RNR);
+                Ru::Suspended { next: link }
+            } else {
+                self.note("frame's end: Ready");
+                self.ready(link)
+            }
+        };
+    }
+
+    /// "+0 status (C, B, OK; 11 CRC, 10 alignment, 9 out of buffers, 7 short)". "All bits that apply are set, 10 excluding 11. OK only with
+    /// no error bit."
+    fn frame_status(&self, held: Held, out: bool) -> u16 {
+        let mut errors = 0;
+        match held.verdict {
+            Verdict::Good => {}
+            Verdict::Crc => errors |= 0x0800,
+            Verdict::Misaligned => errors |= 0x0400,
+        }
+        if out {
+            errors |= 0x0200;
+        }
+        if held.short {
+            errors |= 0x0080;
+        }
+        if errors == 0 { 0xA000 } else { 0x8000 | errors }
+    }
+}

@@ -1,0 +1,226 @@
+//! How often each thing that document 01 speaks of is met in the lists of so many calls.
+
+use crate::generate::generate;
+use std::collections::BTreeMap;
+use std::io::{self, Write};
+
+/// A list's portion, as tests/model/run.sh takes it.
+pub const PORTION: u64 = 2_500;
+
+/// Met less often than this in 50,000 calls is rare.
+const RARE: u64 = 15;
+
+pub fn coverage(seed: u64, calls: u64, out: &mut dyn Write) -> io::Result<bool> {
+    let mut met: BTreeMap<String, u64> = points().into_iter().map(|point| (point, 0)).collect();
+    let known = met.len();
+    let mut made = 0;
+    while made < calls {
+        let portion = PORTION.min(calls - made);
+        let replay = generate(seed + made / PORTION, portion, &mut io::sink(), &mut io::sink())?;
+        for (what, count) in replay.chip.met.borrow().iter() {
+            *met.entry(what.clone()).or_insert(0) += count;
+        }
+        made += portion;
+    }
+    let rare = RARE * calls / 50_000;
+    let mut rares = 0;
+    for (what, count) in &met {
+        let mark = if *count < rare { "  rare" } else { "" };
+        rares += u32::from(*count < rare);
+        writeln!(out, "{count:8}  {what}{mark}")?;
+    }
+    writeln!(out, "{} things, {rares} of them fewer than {rare} times; {} not in the list of points", met.len(), met.len() - known)?;
+    Ok(rares == 0)
+}
+
+/// Everything that must be met.
+fn points() -> Vec<String> {
+    let mut all: Vec<String> = POINTS.lines().map(str::trim).filter(|line| !line.is_empty()).map(String::from).collect();
+    let mut add = |text: String| all.push(text);
+    for code in 0..8 {
+        for state in ["Idle", "Suspended", "Active, not begun", "Active, begun", "Active, SUSPEND waits"] {
+            add(format!("CU code {code} in {state}"));
+        }
+        for state in ["Idle", "Suspended", "No Resources", "Ready", "Ready, held", "Ready, begun", "Ready, SUSPEND waits"] {
+            add(format!("RU code {code} in {state}"));
+        }
+        add(format!("begin of command {code}"));
+        add(format!("end of command {code}, {}", if code == 6 { "not OK" } else { "OK" }));
+        add(format!("abort of command {code} before the end"));
+    }
+    for state in ["Idle", "Suspended", "Active, not begun", "Active, begun", "Active, SUSPEND waits"] {
+        add(format!("resetting attention, CU {state}"));
+    }
+    for state in ["Idle", "Suspended", "No Resources", "Ready", "Ready, held", "Ready, begun", "Ready, SUSPEND waits"] {
+        add(format!("resetting attention, RU {state}"));
+    }
+    for command in [2, 3, 4] {
+        add(format!("end of command {command}, not OK"));
+    }
+    for event in ["CX", "FR", "CNA", "RNR"] {
+        add(format!("{event} acknowledged"));
+    }
+    for call in ["attention", "arrival", "turn"] {
+        add(format!("refusal 1 of {call}"));
+        add(format!("refusal 4 of {call}"));
+    }
+    for count in 0..16 {
+        add(format!("Configure of count {count}"));
+        add(format!("report with bit {count}"));
+        add(format!("report of bit {count} alone"));
+    }
+    for field in [8, 10, 12, 14] {
+        add(format!("counter +{field}"));
+        add(format!("counter +{field} from FFFFh to 0"));
+    }
+    for verdict in 0..4 {
+        add(format!("arrival of verdict {verdict}"));
+    }
+    for verdict in 0..3 {
+        add(format!("overrun, verdict {verdict}"));
+    }
+    for length in [0, 13, 14, 2048] {
+        add(format!("arrival of {length} bytes"));
+    }
+    for kind in ["Good", "Crc", "Misaligned", "short Good", "short Crc", "short Misaligned"] {
+        add(format!("held: {kind}"));
+        add(format!("lost in No Resources: {kind}"));
+        if kind != "Good" {
+            add(format!("lost in Ready: {kind}"));
+        }
+    }
+    for status in ["A000", "8080", "8800", "8880", "8400", "8480", "8200", "8280", "8A00", "8A80", "8600", "8680"] {
+        add(format!("stored {status}"));
+    }
+    all
+}
+
+const POINTS: &str = "
+    reset
+    reset with a size that is not allowed
+    reset with a frame held
+    reset with a command begun
+    refusal 1 goes before 3
+    refusal 1 goes before 4
+    refusal 3 goes before 4
+    refusal 3 of arrival
+    size altered under a running chip
+    first attention
+    first attention over a RESET bit
+    resetting attention with events set
+    attention with an edge
+    attention without an edge
+    an event acknowledged and raised in one attention
+    an event raised again
+    a word over the end of memory is read
+    a word over the end of memory is written
+    a block or descriptor is written over the SCB
+    abort of command 4 before a buffer turn
+    abort of command 4 before a failing end
+    abort of a held frame before its begin
+    abort of a held frame before its first buffer turn
+    abort of a held frame before a later buffer turn
+    abort of a held frame before its end
+    abort of a held frame before its end, out of buffers
+    turn before the first attention
+    turn with no work
+    turn, RU alone
+    turn, CU alone
+    turn, both: CU
+    turn, both: RU
+    end with I
+    end with EL
+    end with EL and S
+    end with EL and a waiting SUSPEND
+    end with S
+    end with a waiting SUSPEND
+    end with S and a waiting SUSPEND
+    end that raises nothing
+    a command's link is FFFFh
+    a command's link is its own block
+    Configure fails: length
+    Configure fails: location
+    Configure fails: loopback, bit 6
+    Configure fails: loopback, bit 7
+    Configure alters save-bad under a held frame
+    MC-Setup with a remainder
+    MC-Setup with bits above the count
+    MC-Setup of no address
+    MC-Setup of 1 to 14
+    MC-Setup of 15
+    MC-Setup of 16
+    MC-Setup fails at 17
+    MC-Setup fails above 17
+    Transmit without a descriptor
+    Transmit: several descriptors
+    Transmit: count 0
+    Transmit: count 0 at 2,048
+    Transmit: a buffer over the end of memory
+    Transmit: EOF in the 64th descriptor
+    Transmit: EOF and next FFFFh
+    Transmit fails: 2,048 passed
+    Transmit fails: 2,048 passed by one
+    Transmit fails: 2,048 passed, with EOF
+    Transmit fails: FFFFh before EOF
+    Transmit fails: no EOF in 64 descriptors
+    Transmit failed, with a report
+    Transmit: not sent
+    Transmit: sent
+    Transmit: sent, with a report
+    Transmit: 14 bytes sent
+    Transmit: 2,048 bytes sent
+    dropped: under 14 bytes
+    dropped: broadcast disabled
+    dropped: broadcast disabled, own all FFh
+    dropped: broadcast disabled, listed
+    dropped: a group not listed
+    dropped: listed without its low bit
+    dropped: another's
+    dropped: before the first attention
+    dropped: Idle
+    dropped: Suspended
+    match: promiscuous alone
+    match: broadcast
+    match: own
+    match: own, a group's
+    match: listed
+    arrival one byte below the minimum
+    arrival of just the minimum
+    frame: no data
+    frame: a buffer of size 0
+    frame: a buffer over the end of memory
+    frame: a buffer over the SCB
+    frame: data ends in the EL buffer
+    frame: data ends in the 64th buffer
+    frame: data ends, next FFFFh
+    frame: data fills its last buffer
+    frame ends under another save-bad than at arrival
+    out of buffers: first FFFFh
+    out of buffers: next FFFFh
+    out of buffers: after EL
+    out of buffers: after 64
+    not kept
+    frame's end: Ready
+    frame's end: Suspended by S
+    frame's end: Suspended by a waiting SUSPEND
+    frame's end: Suspended by S and a waiting SUSPEND
+    frame's end: No Resources, out of buffers
+    frame's end: No Resources, descriptor's EL
+    frame's end: No Resources, buffer's EL
+    frame's end: No Resources, both EL
+    frame's end: No Resources over S
+    frame's end: No Resources over a waiting SUSPEND
+    a frame descriptor's link is FFFFh
+    a frame descriptor's link is its own
+    order: a CU abort writes what RU START reads
+    order: an RU abort writes what CU START read
+    order: a link lies over the SCB's status
+    order: the next descriptor's +6 lies over the SCB's status
+    order: the next descriptor's +6 lies over the status
+    order: RSCERRS lies in the frame descriptor
+    order: a buffer lies over its own descriptor
+    holding area altered while a frame is held
+    outgoing area altered while a Transmit is begun
+    block altered while its command is begun
+    frame descriptor altered while a frame is held
+";

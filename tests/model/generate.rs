@@ -1,0 +1,1578 @@
+//! Makes random lists of lines and what must be printed for them. A list is made while the model runs it, so that the lines can aim at the
+//! chip's present state. Everything follows from the seed and the number of calls.
+
+use crate::chip::{Cu, Device, Ru, Send, Store, Wrote, NONE};
+use crate::list::{Replay, MEMORY};
+use std::io::{self, Write};
+
+/// splitmix64
+struct Random(u64);
+
+impl Random {
+    fn next(&mut self) -> u64 {
+        self.0 = self.0.wrapping_add(0x9E37_79B9_7F4A_7C15);
+        let mut z = self.0;
+        z = (z ^ z >> 30).wrapping_mul(0xBF58_476D_1CE4_E5B9);
+        z = (z ^ z >> 27).wrapping_mul(0x94D0_49BB_1331_11EB);
+        z ^ z >> 31
+    }
+
+    fn below(&mut self, bound: usize) -> usize {
+        ((self.next() >> 32) * bound as u64 >> 32) as usize
+    }
+
+    /// True in so many cases of a hundred.
+    fn chance(&mut self, percent: usize) -> bool {
+        self.below(100) < percent
+    }
+
+    fn pick<T: Copy>(&mut self, of: &[T]) -> T {
+        of[self.below(of.len())]
+    }
+
+    fn byte(&mut self) -> u8 {
+        self.next() as u8
+    }
+
+    fn word(&mut self) -> u16 {
+        self.next() as u16
+    }
+}
+
+/// How a scene is set.
+#[derive(Default)]
+struct Scene {
+    /// Percentages: pieces laid over others; alterations before a call; attentions with any codes.
+    overlap: usize,
+    alter: usize,
+    wild: usize,
+    /// Where the next piece goes, and where those before it went.
+    free: usize,
+    pieces: Vec<usize>,
+    /// Working turns since a list or a receive area was started.
+    stale: usize,
+}
+
+pub struct Generator<'a> {
+    random: Random,
+    replay: Replay,
+    list: &'a mut dyn Write,
+    expect: &'a mut dyn Write,
+    calls: u64,
+    scene: Scene,
+}
+
+/// Makes the list of a seed, of about so many calls. The model that ran it comes back.
+pub fn generate(seed: u64, calls: u64, list: &mut dyn Write, expect: &mut dyn Write) -> io::Result<Replay> {
+    let mut generator = Generator {
+        random: Random(seed ^ 0x8258_6000),
+        replay: Replay::new(),
+        list,
+        expect,
+        calls: 0,
+        scene: Scene::default(),
+    };
+    generator.line(format!("# seed {seed}, about {calls} calls"))?;
+    generator.before_reset()?;
+    let mut scenes = 0;
+    while generator.calls < calls {
+        scenes += 1;
+        generator.line(format!("say scene {scenes}"))?;
+        let most = (calls - generator.calls).min(30 + generator.random.below(130) as u64);
+        generator.play(most)?;
+    }
+    generator.line(format!("show memory 0 {MEMORY}"))?;
+    generator.line("show holding 0 2048".into())?;
+    generator.line("show outgoing 0 2048".into())?;
+    generator.list.flush()?;
+    generator.expect.flush()?;
+    Ok(generator.replay)
+}
+
+/// A short list with a bad line in it: a good line with a character or a word too many, too few or another.
+pub fn bad(seed: u64) -> Vec<u8> {
+    let mut random = Random(seed ^ 0x0BAD_0BAD);
+    let good = [
+        "size 65536", "size 2000h", "reset", "attention", "arrival 0 FFFFFFFFFFFF 46x55 0102", "arrival 4294967295", "turn", "turn 3",
+        "turn 2 FFFFh", "bytes memory 65534 0102", "bytes holding 2047 1x7F", "words outgoing 07FEh 65535", "words memory 0 1 2h 3",
+        "show memory 16 33", "look holding 10h 9", "interrupt", "say what # this", "show outgoing 2040 8 # all", "  look\tmemory 65534\t1  ",
+    ];
+    let odd = b" \thxX#0159afFG-+_.,:/@";
+    loop {
+        let mut list = Vec::new();
+        for _ in 0..random.below(4) {
+            list.extend(random.pick(&good).as_bytes());
+            list.push(b'\n');
+        }
+        let mut line = random.pick(&good).as_bytes().to_vec();
+        for _ in 0..1 + random.below(3) {
+            let first = line.iter().position(|&byte| byte == b' ').map_or(0, |place| place + 1);
+            let first = if random.chance(75) { first } else { 0 };
+            let at = first + random.below(line.len() + 1 - first);
+            let start = line[..at].iter().rposition(|&byte| byte == b' ').map_or(0, |place| place + 1);
+            match random.below(6) {
+                0 | 1 => line.insert(at, random.pick(odd)),
+                2 if at < line.len() => line[at] = random.pick(odd),
+                3 if at < line.len() => {
+                    line.remove(at);
+                }
+                4 => line.truncate(start),
+                _ => {
+                    let words: [&[u8]; 8] = [b"65536", b"65537", b"4294967296", b"0 ", b"memory ", b"2048 ", b" #", b"FFFFh "];
+                    let word = random.pick(&words);
+                    line.splice(at..at, word.iter().copied());
+                }
+            }
+        }
+        list.extend(line);
+        let end = list.len();
+        list.extend(b"\ninterrupt\n");
+        if random.chance(20) {
+            list.truncate(end);
+        }
+        // Counts beyond all areas are no part of this.
+        if list.split(|byte| !byte.is_ascii_alphanumeric()).any(|word| word.iter().take_while(|byte| byte.is_ascii_digit()).count() > 7 && word.contains(&b'x')) {
+            continue;
+        }
+        let ends_badly = crate::list::run(&list, &mut io::sink()).is_ok_and(|(bad, _)| bad);
+        if ends_badly {
+            return list;
+        }
+    }
+}
+
+fn hex(bytes: &[u8]) -> String {
+    bytes.iter().map(|byte| format!("{byte:02X}")).collect()
+}
+
+/// A Transmit's failing end is next.
+fn fails(device: &Device) -> bool {
+    matches!(device.begun().map(|begun| begun.step), Some(Send::End { failed: true, .. }))
+}
+
+/// The end of a frame that ran out of buffers is next.
+fn out(device: &Device) -> bool {
+    matches!(device.held().and_then(|held| held.begun).map(|begun| begun.step), Some(Store::End { out: true, .. }))
+}
+
+impl Generator<'_> {
+    // ---- Lines ----
+
+    /// Adds a line to the list and what it prints to the output.
+    fn line(&mut self, text: String) -> io::Result<()> {
+        self.list.write_all(text.as_bytes())?;
+        self.list.write_all(b"\n")?;
+        match self.replay.line(text.as_bytes(), &mut *self.expect)? {
+            Ok(calls) => self.calls += u64::from(calls),
+            Err(bad) => panic!("the generator made a bad line: {}: {:?}", text, bad),
+        }
+        Ok(())
+    }
+
+    fn device(&self) -> &Device {
+        &self.replay.chip.device
+    }
+
+    fn note(&self, what: &str) {
+        self.replay.chip.note(what);
+    }
+
+    fn n(&self) -> usize {
+        self.replay.chip.n
+    }
+
+    /// A number in one of its forms.
+    fn number(&mut self, value: usize) -> String {
+        match self.random.below(8) {
+            0 | 1 => format!("{value}"),
+            2 => format!("{value:x}h"),
+            3 => format!("0{value:X}h"),
+            _ => format!("{value:X}h"),
+        }
+    }
+
+    /// The host writes bytes to memory, on over its end.
+    fn put(&mut self, at: usize, bytes: &[u8]) -> io::Result<()> {
+        let n = self.n().max(1);
+        let at = at % n;
+        let here = bytes.len().min(n - at);
+        let place = self.number(at);
+        if here % 2 == 0 && here <= 64 && !self.random.chance(15) {
+            let words = bytes[..here].chunks(2).map(|two| usize::from(u16::from_le_bytes([two[0], two[1]])));
+            let words: Vec<usize> = words.collect();
+            let words: Vec<String> = words.into_iter().map(|word| self.number(word)).collect();
+            self.line(format!("words memory {place} {}", words.join(" ")))?;
+        } else {
+            self.line(format!("bytes memory {place} {}", hex(&bytes[..here])))?;
+        }
+        if here < bytes.len() { self.put(0, &bytes[here..]) } else { Ok(()) }
+    }
+
+    fn put_words(&mut self, at: usize, words: &[u16]) -> io::Result<()> {
+        let bytes: Vec<u8> = words.iter().flat_map(|word| word.to_le_bytes()).collect();
+        self.put(at, &bytes)
+    }
+
+    /// Shows a stretch of memory, on over its end.
+    fn show(&mut self, at: usize, count: usize) -> io::Result<()> {
+        let n = self.n();
+        let (at, count) = (at % n, count.min(n));
+        let here = count.min(n - at);
+        if here % 2 == 0 && here <= 64 {
+            self.line(format!("look memory {at:X}h {}", here / 2))?;
+        } else {
+            self.line(format!("show memory {at:X}h {here}"))?;
+        }
+        if here < count { self.show(0, count - here) } else { Ok(()) }
+    }
+
+    // ---- Places ----
+
+    fn scb(&self, field: u32) -> usize {
+        self.replay.chip.scb(field) as usize % self.n()
+    }
+
+    /// A place for a piece of so many bytes: a fresh one, or in a hostile scene near or over another.
+    fn piece(&mut self, length: usize) -> usize {
+        let n = self.n();
+        let at = if self.random.chance(self.scene.overlap) {
+            match self.random.below(8) {
+                0 => self.random.below(n),
+                1..=3 => (self.scb(0) + n + self.random.below(32) - 22) % n,
+                _ if self.scene.pieces.is_empty() => self.random.below(n),
+                _ => {
+                    let near = self.random.below(self.scene.pieces.len());
+                    (self.scene.pieces[near] + n + self.random.below(40) - 22) % n
+                }
+            }
+        } else {
+            let scb = self.scb(0);
+            let ahead = (scb + n - self.scene.free) % n;
+            if ahead < length || ahead > n - 16 {
+                self.scene.free = (scb + 16) % n;
+            }
+            let at = self.scene.free;
+            self.scene.free = (at + length + self.random.below(6)) % n;
+            at
+        };
+        self.scene.pieces.push(at);
+        at
+    }
+
+    /// One of the offsets of a place.
+    fn offset(&mut self, at: usize) -> u16 {
+        let n = self.n();
+        let base = self.device().scb.map_or(0, |scb| scb.base) as usize % n;
+        let low = (at + n - base) % n;
+        let turns = self.random.below(65_536 / n);
+        let offset = (low + turns * n) as u16;
+        if offset == NONE { low as u16 } else { offset }
+    }
+
+    /// One of the real addresses of a place.
+    fn real(&mut self, at: usize) -> u32 {
+        let n = self.n();
+        match self.random.below(3) {
+            0 => at as u32,
+            1 => (at + n * self.random.below((1 << 24) / n)) as u32,
+            _ => (at + (1 << 24) - n) as u32,
+        }
+    }
+
+    fn piece_offset(&mut self) -> u16 {
+        if self.scene.pieces.is_empty() {
+            return self.random.word();
+        }
+        let at = self.random.below(self.scene.pieces.len());
+        let at = self.scene.pieces[at];
+        self.offset(at)
+    }
+
+    /// Four bytes: a real address and a byte that is not used.
+    fn real_bytes(&mut self, at: usize) -> [u8; 4] {
+        let real = self.real(at).to_le_bytes();
+        let spare = if self.random.chance(50) { 0 } else { self.random.byte() };
+        [real[0], real[1], real[2], spare]
+    }
+
+    // ---- A scene ----
+
+    /// Calls before the first reset.
+    fn before_reset(&mut self) -> io::Result<()> {
+        self.line("interrupt".into())?;
+        for _ in 0..self.random.below(3) {
+            let at = self.random.below(MEMORY - 64);
+            let bytes: Vec<u8> = (0..64).map(|_| self.random.byte()).collect();
+            self.put(at, &bytes)?;
+        }
+        for _ in 0..20 {
+            if self.random.chance(25) {
+                self.size()?;
+            }
+            match self.random.below(4) {
+                0 => self.line("attention".into())?,
+                1 => self.turn_line(1)?,
+                2 => self.overlong()?,
+                _ => self.arrival()?,
+            }
+        }
+        self.line("interrupt".into())
+    }
+
+    /// Any size, allowed or not.
+    fn size(&mut self) -> io::Result<()> {
+        let any = self.random.below(65_537);
+        let n = self.random.pick(&[8192, 16_384, 32_768, 65_536, 8192, 0, 1, 2, 8191, 8193, 4096, 12_288, 49_152, 65_535, any]);
+        self.line(format!("size {n}"))
+    }
+
+    fn allowed_size(&mut self) -> io::Result<()> {
+        let n = self.random.pick(&[8192, 8192, 8192, 16_384, 32_768, 65_536]);
+        let n = self.number(n);
+        self.line(format!("size {n}"))
+    }
+
+    fn play(&mut self, calls: u64) -> io::Result<()> {
+        let hostile = self.random.below(10);
+        self.scene = Scene {
+            overlap: [0, 0, 0, 0, 0, 0, 4, 10, 30, 70][hostile],
+            alter: [0, 1, 2, 4, 8, 3, 3, 8, 15, 20][hostile],
+            wild: self.random.pick(&[10, 20, 20, 40, 70]),
+            free: self.random.below(8192),
+            pieces: Vec::new(),
+            stale: 0,
+        };
+        if self.random.chance(75) || !self.device().scb.is_some() {
+            self.allowed_size()?;
+            self.line("reset".into())?;
+        }
+        self.garnish()?;
+        let end = self.calls + calls;
+        let odd = if self.random.chance(40) { self.calls + self.random.below(calls as usize) as u64 } else { u64::MAX };
+        let mut odd_done = false;
+        while self.calls < end {
+            if self.calls >= odd && !odd_done {
+                odd_done = true;
+                self.odd_size()?;
+            }
+            self.step()?;
+        }
+        if self.random.chance(20) {
+            let n = self.n();
+            self.line(format!("show memory 0 {n}"))?;
+        }
+        if self.random.chance(10) {
+            self.line("show holding 0 2048".into())?;
+        }
+        if self.random.chance(10) {
+            self.line("show outgoing 0 2048".into())?;
+        }
+        Ok(())
+    }
+
+    /// Something other than zeros in memory, and lines that do nothing.
+    fn garnish(&mut self) -> io::Result<()> {
+        let n = self.n();
+        match self.random.below(6) {
+            0 => {
+                let (count, byte) = (n / 2 + self.random.below(n / 2), self.random.byte());
+                let at = self.random.below(n - count + 1);
+                self.line(format!("bytes memory {at} {count}x{byte:02X}"))?;
+            }
+            1 => self.line("bytes memory 0 65536x00".into())?,
+            _ => {}
+        }
+        for _ in 0..2 {
+            let at = self.random.below(n);
+            let count = 40 + self.random.below(300);
+            let bytes: Vec<u8> = (0..count).map(|_| self.random.byte()).collect();
+            self.put(at, &bytes)?;
+        }
+        match self.random.below(8) {
+            0 => self.line(String::new()),
+            1 => self.line("\t # nothing but a comment".into()),
+            2 => self.line("  say\ta scene begins # here".into()),
+            3 => self.line("turn 0".into()),
+            4 => self.line("show holding 2047 0".into()),
+            _ => Ok(()),
+        }
+    }
+
+    /// One call, and what goes with it.
+    fn step(&mut self) -> io::Result<()> {
+        if self.random.chance(self.scene.alter) {
+            self.alter()?;
+        }
+        if self.device().scb.is_none() {
+            return match self.random.below(10) {
+                0 => self.turn(),
+                1 | 2 => self.arrival(),
+                _ => self.initialise(),
+            };
+        }
+        if self.random.below(300) == 0 {
+            self.line("reset".into())?;
+            return self.observe();
+        }
+        if self.random.below(250) == 0 {
+            self.note("size altered under a running chip");
+            self.allowed_size()?;
+        }
+        match self.random.below(270) {
+            0 => return self.long_send(),
+            1 => return self.long_store(),
+            2..=6 => return self.small_store(),
+            7..=12 => return self.small_send(),
+            13..=15 => return self.over_scb(),
+            16..=19 => return self.crossing(),
+            _ => {}
+        }
+        let device = self.device();
+        let works = device.cu_works() || device.ru_works();
+        let held = device.ru_works();
+        let ready = matches!(device.ru, Ru::Ready { .. });
+        let no_resources = matches!(device.ru, Ru::NoResources);
+        let waiting = device.cu_name().contains("waits") || device.ru_name().contains("waits");
+        let begun = device.begun().is_some_and(|begun| matches!(begun.step, Send::End { .. }));
+        let failing = fails(device) || out(device);
+        let fresh = device.ru_name() == "Ready, held";
+        let roll = self.random.below(100);
+        let (arrivals, attentions) = match (works, ready) {
+            (true, true) if !held => (32, 18),
+            (true, _) if waiting => (5, 35),
+            (true, _) if fresh => (6, 40),
+            (true, _) if failing => (4, 45),
+            (true, _) if begun => (4, 32),
+            (true, _) => (if held { 7 } else if no_resources { 12 } else { 3 }, if self.scene.stale > 60 { 40 } else { 20 }),
+            (false, true) => (72, 25),
+            (false, false) => (if no_resources { 40 } else { 7 }, if no_resources { 57 } else { 90 }),
+        };
+        if roll < arrivals {
+            self.arrival()
+        } else if roll < arrivals + attentions {
+            self.attention()
+        } else {
+            self.turn()
+        }
+    }
+
+    // ---- One frame, closely watched ----
+
+    /// Starts a list of one Configure.
+    fn start_configure(&mut self, save_bad: bool, minimum: u8) -> io::Result<()> {
+        let block = self.piece(24);
+        let offset = self.offset(block);
+        self.put(block, &[0, 0, 2, 0x80, 0, 0, 12, 0, if save_bad { 0x80 } else { 0 }, 6, 0, 0, 0, 0, 0, 0, minimum, 0])?;
+        self.put_words(self.scb(4), &[offset])?;
+        self.command(0x0100)
+    }
+
+    /// A frame, good or bad, into few buffers, with SUSPEND, S and other settings on its way.
+    fn small_store(&mut self) -> io::Result<()> {
+        self.command(0xF440)?;
+        let save_bad = self.random.chance(85);
+        let minimum = self.random.pick(&[64, 64, 64, 40, 18]);
+        self.start_configure(save_bad, minimum)?;
+        self.line("turn 2".into())?;
+        let descriptors = [self.piece(22), self.piece(22), self.piece(10), self.piece(10)];
+        let offsets = descriptors.map(|at| self.offset(at));
+        let bits = self.random.pick(&[0, 0, 0x4000, 0x4000, 0x8000, 0xC000]);
+        let first = if self.random.chance(25) { NONE } else { offsets[2] };
+        self.put_words(descriptors[0], &[0, bits, offsets[1], first])?;
+        for (i, next) in [(2, offsets[3]), (3, NONE)] {
+            let size = self.random.pick(&[0, 1, 20, 30, 50]);
+            let el = if self.random.chance(20) { 0x8000 } else { 0 };
+            let data = self.piece(size);
+            let real = self.real(data);
+            self.put_words(descriptors[i], &[0, next, real as u16, (real >> 16) as u16, size as u16 | el])?;
+        }
+        self.put_words(self.scb(6), &[offsets[0]])?;
+        self.command(0x0010)?;
+        let length = 14 + self.random.below(60);
+        let to = self.sure();
+        self.frame(to, length)?;
+        for _ in 0..9 {
+            match self.random.below(14) {
+                0 | 1 => self.command(0x0030)?,
+                2 => self.attention()?,
+                3 | 4 if !self.device().cu_works() => self.start_configure(!save_bad, minimum)?,
+                _ if self.device().ru_works() => self.turn()?,
+                _ => break,
+            }
+        }
+        self.show_scb()?;
+        self.show(descriptors[0], 22)?;
+        self.show(descriptors[1], 8)
+    }
+
+    /// One command, mostly a short Transmit, with SUSPEND on its way.
+    fn small_send(&mut self) -> io::Result<()> {
+        self.command(0xF400)?;
+        let descriptor = self.piece(8);
+        let size = self.random.below(30);
+        let data = self.piece(size);
+        let real = self.real_bytes(data);
+        let first = if self.random.chance(50) { NONE } else { self.offset(descriptor) };
+        self.put_words(descriptor, &[0x8000 | size as u16, NONE])?;
+        self.put(descriptor + 4, &real)?;
+        let (block, kind) = (self.piece(18), self.random.pick(&[4, 4, 4, 4, 4, 4, 0, 1, 5, 6, 7]));
+        let bits = self.random.pick(&[0x8000, 0x4000, 0x4000, 0xE000, 0x6000, 0x2000, 0]);
+        let link = self.piece_offset();
+        self.put_words(block, &[self.calls as u16, bits | kind, link, first])?;
+        let to = self.address();
+        self.put(block + 8, &to)?;
+        let offset = self.offset(block);
+        self.put_words(self.scb(4), &[offset])?;
+        self.command(0x0100)?;
+        self.turn()?;
+        for _ in 0..5 {
+            if self.device().begun().is_none() {
+                break;
+            }
+            let waits = self.device().cu_name().contains("waits");
+            match self.random.below(10) {
+                0..=2 if !waits => self.command(0x0300)?,
+                0..=5 if waits => self.attention()?,
+                _ => self.turn()?,
+            }
+        }
+        self.show_scb()?;
+        self.show(block, 16)
+    }
+
+    // ---- Pieces over the SCB, where the order inside a call shows ----
+
+    /// A place over the SCB, often that one.
+    fn near_scb(&mut self, often: usize) -> usize {
+        let n = self.n();
+        if self.random.chance(35) {
+            return (self.scb(0) + n + often - 16) % n;
+        }
+        (self.scb(0) + n - 22 + 2 * self.random.below(19)) % n
+    }
+
+    fn over_scb(&mut self) -> io::Result<()> {
+        self.command(0xF440)?;
+        let (commands, frames) = self.random.pick(&[(true, false), (true, false), (false, true), (false, true), (true, true)]);
+        if commands {
+            // Its status over the RFA offset, or its link over the SCB's status.
+            let often = self.random.pick(&[16 + 6, 16 - 4]);
+            let at = self.near_scb(often);
+            let kind = self.random.pick(&[0, 0, 5, 1, 2, 4, 6]);
+            let word = kind | self.random.word() & self.random.pick(&[0x2000, 0x6000, 0xE000]);
+            let (link, parameter) = (self.piece_offset(), self.random.pick(&[NONE, 0x1234]));
+            self.put_words(at, &[0, word, link, parameter])?;
+            let offset = self.offset(at);
+            self.put_words(self.scb(4), &[offset])?;
+            self.command(0x0100)?;
+            self.show_scb()?;
+        }
+        if frames {
+            // Its status over the CBL offset or over RSCERRS; the next one's +6 over the SCB's status.
+            let often = self.random.pick(&[16 + 4, 16 + 12]);
+            let at = self.near_scb(often);
+            let offset = self.offset(at);
+            let next = self.near_scb(16 - 6);
+            let link = if self.random.chance(50) { self.offset(next) } else { self.piece_offset() };
+            let own = if self.random.chance(30) { self.buffer_over_itself()? } else { self.piece_offset() };
+            let first = if self.random.chance(50) { NONE } else { own };
+            let bits = self.random.pick(&[0, 0, 0x4000, 0x8000]);
+            self.put_words(at, &[0, bits, link, first])?;
+            self.put_words(self.scb(6), &[offset])?;
+            self.command(0x0010)?;
+            // The attention wrote over what lay at the SCB's first words.
+            self.put_words(at + 2, &[bits, link, first])?;
+            self.show_scb()?;
+            let length = self.random.pick(&[14, 60, 61, 80]);
+            let to = self.sure();
+            self.frame(to, length)?;
+        }
+        for _ in 0..8 {
+            let device = self.device();
+            if !device.cu_works() && !device.ru_works() {
+                break;
+            }
+            let begun = device.begun().is_some() || device.held().is_some_and(|held| held.begun.is_some());
+            if begun && self.random.chance(30) {
+                let ack = self.random.word() & 0xF000;
+                let code = self.random.pick(&[0x0400, 0x0410, 0x0410, 0x0410, 0x0040, 0x0140, 0x0140, 0x0140, 0x0440, 0x0330]);
+                self.command(ack | code)?;
+                self.show_scb()?;
+            } else {
+                self.turn()?;
+            }
+        }
+        // Where the units stand now shows in what they write next.
+        self.turn()?;
+        let held = self.sure();
+        self.frame(held, 60)?;
+        self.line("turn 2".into())?;
+        self.observe()
+    }
+
+    /// One of the places where two accesses of one call meet.
+    fn crossing(&mut self) -> io::Result<()> {
+        self.command(0xF440)?;
+        let n = self.n();
+        let scb = self.scb(0);
+        let ack = self.random.word() & 0xF000;
+        let kind = self.random.pick(&[0, 0, 1, 5, 6, 7]);
+        let buffer = self.piece(70);
+        let real = self.real(buffer);
+        let rbd = self.piece(10);
+        let rbd_offset = self.offset(rbd);
+        let next = self.piece_offset();
+        self.put_words(rbd, &[0, next, real as u16, (real >> 16) as u16, 70])?;
+        let to = self.sure();
+        match self.random.below(6) {
+            // A begun block's status over the RFA offset: abort, and START of the RU.
+            0 => {
+                let offset = self.offset((scb + 6) % n);
+                self.put_words(scb + 4, &[offset, 0, kind])?;
+                self.command(0x0100)?;
+                self.line("turn".into())?;
+                self.command(ack | 0x0410)?;
+            }
+            // A begun frame's descriptor over the CBL offset: abort, and START of the CU.
+            1 => {
+                let offset = self.offset((scb + 4) % n);
+                self.put_words(scb + 4, &[0, offset])?;
+                self.command(0x0010)?;
+                self.frame(to, 60)?;
+                self.line("turn".into())?;
+                self.command(ack | 0x0140)?;
+            }
+            // A block's link over the SCB's status.
+            2 => {
+                let at = (scb + n - 4) % n;
+                let offset = self.offset(at);
+                let bits = self.random.pick(&[0x2000, 0x4000, 0x6000]);
+                self.put_words(scb + 4, &[offset])?;
+                self.put_words(at, &[0, bits | kind])?;
+                self.command(0x0100)?;
+                self.line("turn 2".into())?;
+                self.show_scb()?;
+                self.command(0x0200)?;
+            }
+            // The next descriptor's +6 over the SCB's status, or over this one's status.
+            3 | 4 => {
+                let at = self.piece(22);
+                let near = if self.random.chance(50) { at } else { scb };
+                let link = self.offset((near + n - 6) % n);
+                let bits = self.random.pick(&[0, 0, 0x4000]);
+                self.put_words(at, &[0, bits, link, rbd_offset])?;
+                let offset = self.offset(at);
+                self.put_words(scb + 6, &[offset])?;
+                self.command(0x0010)?;
+                self.frame(to, 60 + 4 * usize::from(bits != 0))?;
+                self.line("turn 3".into())?;
+                self.show(at, 22)?;
+            }
+            // RSCERRS in the descriptor of a frame that runs out of buffers.
+            _ => {
+                let at = (scb + n + 12 - 2 * self.random.pick(&[0, 0, 4, 5, 6, 7, 8, 9, 10])) % n;
+                let offset = self.offset(at);
+                self.put_words(scb + 6, &[offset])?;
+                self.command(0x0010)?;
+                self.put_words(at + 2, &[0, 0, NONE])?;
+                let length = usize::from(self.device().minimum).max(15);
+                self.frame(to, length)?;
+                self.line("turn 2".into())?;
+            }
+        }
+        self.show_scb()?;
+        // Where the units stand now shows in what they write next.
+        self.frame(to, 64)?;
+        self.line("turn 2".into())?;
+        self.observe()
+    }
+
+    /// A receive buffer descriptor with its buffer over it.
+    fn buffer_over_itself(&mut self) -> io::Result<u16> {
+        let at = self.piece(10);
+        let offset = self.offset(at);
+        let n = self.n();
+        let near = (at + n + self.random.below(12) - 6) % n;
+        let real = self.real(near);
+        self.put_words(at, &[0, offset, real as u16, (real >> 16) as u16, 20])?;
+        Ok(offset)
+    }
+
+    // ---- Chains of about 64 ----
+
+    /// An attention with this command word.
+    fn command(&mut self, code: u16) -> io::Result<()> {
+        self.put_words(self.scb(2), &[code])?;
+        self.line("attention".into())
+    }
+
+    /// A Transmit of 63 to 66 descriptors, or of one that is its own next.
+    fn long_send(&mut self) -> io::Result<()> {
+        self.command(0xF400)?;
+        let count = self.random.pick(&[63, 64, 64, 64, 65, 65]);
+        let width = self.random.pick(&[7, 8]);
+        let size = self.random.below(32);
+        let first = self.piece(count * width);
+        let data = self.piece(size + 1);
+        let mut all = Vec::new();
+        for i in 0..count {
+            let last = i + 1 == count;
+            let next = self.offset((first + (i + 1) * width) % self.n());
+            let word = size as u16 | if last { 0x8000 } else { 0 };
+            let real = self.real_bytes(data + i % 7);
+            all.extend(word.to_le_bytes());
+            all.extend(next.to_le_bytes());
+            all.extend(&real[..width - 4]);
+        }
+        self.put(first, &all)?;
+        let offset = self.offset(first);
+        if self.random.chance(15) {
+            self.put_words(first + 2, &[offset])?;
+        }
+        let block = self.piece(16);
+        let word = 0x8004 | self.random.word() & 0x6000;
+        let to = self.address();
+        let mut bytes = Vec::new();
+        for word in [0, word, self.random.word(), offset] {
+            bytes.extend(word.to_le_bytes());
+        }
+        bytes.extend(to);
+        bytes.extend(self.random.word().to_le_bytes());
+        self.put(block, &bytes)?;
+        let block = self.offset(block);
+        self.put_words(self.scb(4), &[block])?;
+        self.put_words(self.scb(2), &[0x0100])?;
+        self.line("attention".into())?;
+        self.observe()?;
+        self.bundles()
+    }
+
+    /// A frame of about 64 bytes of data into buffers of one byte, as many or one that is its own next.
+    fn long_store(&mut self) -> io::Result<()> {
+        self.command(0xF040)?;
+        let count = self.random.pick(&[1, 1, 64, 65, 66]);
+        let first = self.piece(count * 10);
+        let data = self.piece(64);
+        let mut all = Vec::new();
+        for i in 0..count {
+            let next = if count == 1 { first } else { (first + 10 * i + 10) % self.n() };
+            let next = self.offset(next);
+            all.extend([0, 0]);
+            all.extend(next.to_le_bytes());
+            let n = self.n();
+            all.extend(self.real_bytes((data + i) % n));
+            all.extend([1, 0]);
+        }
+        self.put(first, &all)?;
+        let descriptors = [self.piece(22), self.piece(22)];
+        let link = self.offset(descriptors[1]);
+        let pointer = self.offset(first);
+        let bits = self.random.pick(&[0, 0, 0, 0x4000, 0x8000]);
+        self.put_words(descriptors[0], &[0, bits, link, pointer])?;
+        let descriptor = self.offset(descriptors[0]);
+        self.put_words(self.scb(6), &[descriptor])?;
+        self.put_words(self.scb(2), &[0x0010])?;
+        self.line("attention".into())?;
+        self.observe()?;
+        let length = 14 + self.random.pick(&[63, 64, 64, 64, 65, 65, 65]);
+        let to = self.sure();
+        self.frame(to, length)?;
+        self.bundles()?;
+        self.show(descriptors[1], 8)
+    }
+
+    /// Turns in bundles, until the chain that is worked on has ended.
+    fn bundles(&mut self) -> io::Result<()> {
+        for _ in 0..12 {
+            let device = self.device();
+            let units = usize::from(device.cu_works()) + usize::from(device.ru_works());
+            let sending = match device.begun().map(|begun| begun.step) {
+                Some(Send::Buffer { used, .. }) => 64 - usize::from(used),
+                _ => 0,
+            };
+            let storing = match device.held().and_then(|held| held.begun).map(|begun| begun.step) {
+                Some(Store::Buffer { used, .. }) => 64 - usize::from(used),
+                _ => 0,
+            };
+            let ahead = sending.max(storing);
+            if units == 0 {
+                break;
+            }
+            self.turn_line((ahead * 3 / 4).max(1))?;
+            self.observe()?;
+            if self.random.chance(3) {
+                self.attention()?;
+            }
+        }
+        Ok(())
+    }
+
+    // ---- The first attention ----
+
+    fn initialise(&mut self) -> io::Result<()> {
+        let n = self.n();
+        self.scene.pieces.clear();
+        let iscp = if self.random.chance(10) { n - 1 - self.random.below(12) } else { self.random.below(n - 16) };
+        let mut scb = match self.random.below(10) {
+            0 | 1 => (n - 18 + self.random.below(18)) % n,
+            _ => self.random.below(n),
+        };
+        if self.random.chance(self.scene.overlap / 2 + 2) {
+            scb = (iscp + n + self.random.below(24) - 16) % n;
+        }
+        let base = match self.random.below(6) {
+            0 | 1 => 0,
+            2 => self.random.below(1 << 24),
+            3 => (1 << 24) - 1 - self.random.below(70_000),
+            4 => n * self.random.below((1 << 24) / n),
+            _ => self.random.below(65_536),
+        };
+        let low = (scb + n - base % n) % n;
+        let offset = low + n * self.random.below(65_536 / n);
+        self.scene.free = (scb + 16 + self.random.below(n - 200)) % n;
+        if self.random.chance(60) {
+            let near = self.random.pick(&[0xFFFF, 0xFFFF, 0xFFFE]);
+            let words: Vec<u16> = (0..4).map(|_| if self.random.chance(50) { near } else { 0 }).collect();
+            self.put_words(scb + 8, &words)?;
+        }
+        let command = if self.random.chance(30) { self.random.word() } else { 0 };
+        self.put_words(scb + 2, &[command])?;
+        let busy = if self.random.chance(80) { 1 } else { self.random.word() };
+        let base = (base as u32).to_le_bytes();
+        let high = if self.random.chance(70) { 0 } else { self.random.byte() };
+        self.put_words(iscp, &[busy, offset as u16, u16::from_le_bytes([base[0], base[1]]), u16::from_le_bytes([base[2], high])])?;
+        let pointer = self.real_bytes(iscp);
+        self.put(n - 4, &pointer)?;
+        self.line("attention".into())?;
+        self.show(iscp, 8)?;
+        self.observe()?;
+        if self.random.chance(65) { self.settle() } else { Ok(()) }
+    }
+
+    /// Settings other than a reset's, mostly such that frames come in.
+    fn settle(&mut self) -> io::Result<()> {
+        let kinds = [1, 3, 2];
+        let places: Vec<usize> = kinds.iter().map(|kind| self.piece(if *kind == 3 { 106 } else { 24 })).collect();
+        let offsets: Vec<u16> = places.iter().map(|at| self.offset(*at)).collect();
+        for (i, kind) in kinds.iter().enumerate() {
+            let mut block = Vec::new();
+            for word in [0, kind | if i == 2 { 0x8000 } else { 0 }, offsets[(i + 1) % 3]] {
+                block.extend(word.to_le_bytes());
+            }
+            let mut parameters = self.parameters(*kind)?;
+            if *kind == 2 {
+                parameters[0] |= if self.random.chance(45) { 0x0C } else { 0 };
+                parameters[2] |= if self.random.chance(50) { 0x80 } else { 0 };
+                parameters[3] = 0x26;
+            }
+            if *kind == 1 && parameters[..6] == [0xFF; 6] {
+                parameters[0] = 0x02;
+            }
+            block.extend(parameters);
+            self.put(places[i], &block)?;
+        }
+        self.put_words(self.scb(4), &[offsets[0]])?;
+        self.put_words(self.scb(2), &[0xF100])?;
+        self.line("attention".into())?;
+        self.line("turn 6".into())?;
+        self.observe()
+    }
+
+    // ---- Attentions ----
+
+    fn attention(&mut self) -> io::Result<()> {
+        let status = self.device().status();
+        let ack = match self.random.below(10) {
+            0..=4 => status & 0xF000,
+            5 => 0xF000,
+            6 | 7 => 0,
+            _ => self.random.word() & 0xF000,
+        };
+        let (mut cuc, mut ruc) = (self.random.below(8), self.random.below(8));
+        let (cu, ru) = (self.device().cu_name(), self.device().ru_name());
+        let seldom = cu.contains("waits") || ru.contains("waits") || ru == "Ready, held" || ru == "Suspended";
+        if self.scene.stale > 60 && self.random.chance(60) {
+            // Lists and areas that lead nowhere are left.
+            self.scene.stale = 0;
+            (cuc, ruc) = (4, if self.random.chance(50) { 4 } else { ruc });
+        } else if !self.random.chance(if seldom { 75 } else { self.scene.wild }) {
+            cuc = match self.device().cu {
+                Cu::Idle => self.random.pick(&[1, 1, 1, 1, 0]),
+                Cu::Suspended { .. } => self.random.pick(&[2, 2, 1, 0, 4]),
+                Cu::Active { begun: Some(begun), .. } if begun.kind == 4 => self.random.pick(&[0, 0, 0, 0, 3, 3, 4]),
+                Cu::Active { begun: Some(_), .. } => self.random.pick(&[0, 3, 3, 4, 4, 4]),
+                Cu::Active { .. } => self.random.pick(&[0, 0, 0, 0, 0, 3, 4]),
+            };
+            ruc = match self.device().ru {
+                Ru::Idle => self.random.pick(&[1, 1, 1, 1, 0]),
+                Ru::Suspended { .. } => self.random.pick(&[2, 2, 1, 0, 0, 0]),
+                Ru::NoResources => self.random.pick(&[1, 1, 1, 0]),
+                Ru::Ready { held: Some(_), .. } => self.random.pick(&[0, 0, 0, 0, 3, 3, 4]),
+                Ru::Ready { .. } => self.random.pick(&[0, 0, 0, 0, 0, 0, 3, 4]),
+            };
+        }
+        if fails(self.device()) && self.random.chance(40) {
+            cuc = 4;
+        }
+        if out(self.device()) && self.random.chance(25) {
+            ruc = 4;
+        }
+        if cuc == 1 && self.random.chance(90) {
+            let first = self.command_list()?;
+            self.put_words(self.scb(4), &[first])?;
+        }
+        if ruc == 1 && self.random.chance(90) {
+            let first = self.receive_area()?;
+            self.put_words(self.scb(6), &[first])?;
+        }
+        let mut word = ack | (cuc as u16) << 8 | (ruc as u16) << 4;
+        if self.random.chance(20) {
+            word |= self.random.word() & 0x080F;
+        }
+        if cuc == 1 || ruc == 1 {
+            self.scene.stale /= 2;
+        }
+        if self.random.below(if seldom { 12 } else { 25 }) == 0 {
+            word |= 0x0080;
+        }
+        if !self.random.chance(3) {
+            self.put_words(self.scb(2), &[word])?;
+        }
+        self.line("attention".into())?;
+        self.observe()
+    }
+
+    // ---- Command lists ----
+
+    /// Lays a list; the offset of its first block comes back.
+    fn command_list(&mut self) -> io::Result<u16> {
+        let count = self.random.pick(&[1, 1, 1, 1, 2, 2, 3, 4, 6]);
+        let mut kinds: Vec<u16> = (0..count).map(|_| self.random.pick(&[0, 1, 2, 2, 2, 2, 3, 3, 4, 4, 4, 4, 4, 4, 4, 5, 5, 6, 6, 7, 7])).collect();
+        if count == 1 && self.random.chance(40) {
+            kinds[0] = 4;
+        }
+        // Settings that change under a held frame.
+        if self.device().ru_works() && self.random.chance(60) {
+            kinds[0] = 2;
+        }
+        let places: Vec<usize> = kinds.iter().map(|kind| self.piece(if *kind == 3 { 106 } else { 24 })).collect();
+        let offsets: Vec<u16> = places.iter().map(|at| self.offset(*at)).collect();
+        for (i, kind) in kinds.iter().enumerate() {
+            let last = i + 1 == count;
+            let link = match self.random.below(20) {
+                0 => 0xFFFF,
+                1 => self.random.word(),
+                2 => offsets[i],
+                3 | 4 => self.random.pick(&offsets),
+                _ if last => self.random.pick(&offsets),
+                _ => offsets[i + 1],
+            };
+            let mut word = *kind;
+            for (bit, percent) in [(0x8000, if last { 80 } else { 6 }), (0x4000, 14), (0x2000, 45)] {
+                if self.random.chance(percent) {
+                    word |= bit;
+                }
+            }
+            if self.random.chance(15) {
+                word |= self.random.word() & 0x1FF8;
+            }
+            let status = if self.random.chance(60) { 0 } else { self.random.word() };
+            let mut block = Vec::new();
+            for word in [status, word, link] {
+                block.extend(word.to_le_bytes());
+            }
+            block.extend(self.parameters(*kind)?);
+            self.put(places[i], &block)?;
+        }
+        Ok(offsets[0])
+    }
+
+    fn parameters(&mut self, kind: u16) -> io::Result<Vec<u8>> {
+        Ok(match kind {
+            1 => self.address().to_vec(),
+            2 => self.configure_bytes(),
+            3 => {
+                let odd = self.random.below(6);
+                let most = self.random.word();
+                let count = self.random.pick(&[0, 6, 12, 18, 36, 84, 90, 90 + odd, 96, 96 + odd, 102, 101, 102, 108, 5, odd, 30 + odd]);
+                let count = if self.random.chance(8) { most } else { count as u16 };
+                let high = if self.random.chance(15) { self.random.word() & 0xC000 } else { 0 };
+                let mut bytes = (count | high).to_le_bytes().to_vec();
+                for _ in 0..(count & 0x3FFF).min(102) / 6 {
+                    bytes.extend(self.address());
+                }
+                bytes
+            }
+            4 => {
+                let first = self.transmit_chain()?;
+                let mut bytes = first.to_le_bytes().to_vec();
+                bytes.extend(self.address());
+                bytes.extend(self.random.word().to_le_bytes());
+                bytes
+            }
+            _ => self.random.word().to_le_bytes().to_vec(),
+        })
+    }
+
+    fn configure_bytes(&mut self) -> Vec<u8> {
+        let count = self.random.below(16) as u8 | if self.random.chance(20) { self.random.byte() & 0xF0 } else { 0 };
+        let count = if self.random.chance(15) { self.random.pick(&[11, 12, 10, 9, 8]) } else { count };
+        let mut bytes: Vec<u8> = (0..14).map(|_| self.random.byte()).collect();
+        bytes[0] = count;
+        bytes[3] = match self.random.below(20) {
+            0 => self.random.byte(),
+            1 | 2 => 0x26 ^ 1 << self.random.below(3),
+            3 | 4 => 0x2E,
+            5 | 6 => 0x66,
+            7 | 8 => 0xA6,
+            _ => 0x06 | self.random.byte() & 0x30,
+        };
+        bytes[2] |= if self.random.chance(50) { 0x80 } else { 0 };
+        bytes[8] = bytes[8] & 0xFC | self.random.pick(&[0, 0, 0, 1, 2, 2, 3]);
+        bytes[10] = self.random.pick(&[64, 64, 64, 0, 18, 19, 20, 30, 255, bytes[10]]);
+        bytes
+    }
+
+    /// An address: one that is in use, one that is nearly, or any.
+    fn address(&mut self) -> [u8; 6] {
+        let few = [[0x02, 0, 0, 0, 0, 1], [0x01, 0, 0x5E, 0, 0, 1], [0x00, 0xAA, 0, 1, 2, 3], [0x03, 0, 0, 0, 0, 1]];
+        let mut address = match self.random.below(16) {
+            0 | 1 => [0xFF; 6],
+            2..=5 => self.device().own,
+            6..=8 if !self.device().list.is_empty() => {
+                let which = self.random.below(self.device().list.len());
+                self.device().list[which]
+            }
+            9..=11 => self.random.pick(&few),
+            _ => {
+                let mut bytes = [0; 6];
+                for byte in &mut bytes {
+                    *byte = self.random.byte();
+                }
+                bytes
+            }
+        };
+        if self.random.chance(8) {
+            address[self.random.below(6)] ^= 1 << self.random.below(8);
+        }
+        address
+    }
+
+    /// Lays a Transmit's descriptors; the offset of the first comes back.
+    fn transmit_chain(&mut self) -> io::Result<u16> {
+        let some = self.random.below(200);
+        let counts: Vec<usize> = match self.random.below(30) {
+            0..=2 | 20..=24 => return Ok(NONE),
+            // About 2,048 bytes.
+            3..=9 => {
+                let total = self.random.pick(&[2033, 2034, 2034, 2034, 2034, 2035, 2035]);
+                let parts = 1 + self.random.below(4);
+                let mut counts: Vec<usize> = (0..parts).map(|_| self.random.below(total / parts)).collect();
+                counts.push(total - counts.iter().sum::<usize>());
+                if self.random.chance(40) {
+                    counts = vec![total];
+                }
+                if self.random.chance(50) {
+                    counts.push(0);
+                }
+                counts
+            }
+            10 if some < 80 => vec![some, 2035 + self.random.below(14_349)],
+            _ => {
+                let most = self.random.pick(&[1, 2, 20, 60, 200, 700]);
+                (0..self.random.pick(&[1, 1, 1, 2, 2, 3, 5])).map(|_| self.random.below(most + 1)).collect()
+            }
+        };
+        let end = self.random.below(24);
+        let loops = self.random.chance(3);
+        let many = counts.len() > 12;
+        let width = if self.random.chance(50) { 8 } else { 7 };
+        let total: usize = counts.iter().sum();
+        let places: Vec<usize> = if many {
+            let first = self.piece(counts.len() * width);
+            (0..counts.len()).map(|i| first + i * width).collect()
+        } else {
+            counts.iter().map(|_| self.piece(8)).collect()
+        };
+        let offsets: Vec<u16> = places.iter().map(|at| self.offset(*at % self.n())).collect();
+        let mut all = Vec::new();
+        let mut data = self.piece(total.min(2048).max(1));
+        if self.random.chance(10) {
+            data = self.n() - 1 - self.random.below(30);
+        }
+        let start = data;
+        for (i, count) in counts.iter().enumerate() {
+            let last = i + 1 == counts.len();
+            let mut word = *count as u16 & 0x3FFF;
+            let mut next = if last { NONE } else { offsets[i + 1] };
+            if last {
+                match end {
+                    0 | 1 => {}
+                    2 => next = self.random.pick(&offsets),
+                    3 => next = self.piece_offset(),
+                    4..=11 => word |= 0x8000,
+                    _ => {
+                        word |= 0x8000;
+                        next = self.random.word();
+                    }
+                }
+                if loops {
+                    word &= 0x3FFF;
+                    next = self.random.pick(&offsets);
+                }
+            } else if self.random.chance(if many { 0 } else { 3 }) {
+                next = NONE;
+            }
+            if self.random.chance(15) {
+                word |= 0x4000;
+            }
+            if self.random.chance(10) && !many {
+                data = self.piece(*count.min(&2048));
+            }
+            let mut bytes = Vec::new();
+            bytes.extend(word.to_le_bytes());
+            bytes.extend(next.to_le_bytes());
+            bytes.extend(self.real_bytes(data % self.n()));
+            bytes.truncate(if many { width } else { 8 });
+            data += count;
+            if many {
+                all.extend(bytes);
+            } else {
+                self.put(places[i], &bytes)?;
+            }
+        }
+        if many {
+            self.put(places[0], &all)?;
+        }
+        if self.random.chance(60) && total > 0 {
+            let bytes: Vec<u8> = (0..total.min(40)).map(|_| self.random.byte()).collect();
+            self.put(start, &bytes)?;
+        }
+        Ok(offsets[0])
+    }
+
+    // ---- Receive areas ----
+
+    /// Lays frame descriptors, buffer descriptors and buffers; the offset of the first frame descriptor comes back.
+    fn receive_area(&mut self) -> io::Result<u16> {
+        let count = self.random.pick(&[1, 2, 2, 3, 4]);
+        let places: Vec<usize> = (0..count).map(|_| self.piece(22)).collect();
+        let offsets: Vec<u16> = places.iter().map(|at| self.offset(*at)).collect();
+        let first = self.buffers()?;
+        for i in 0..count {
+            let last = i + 1 == count;
+            let link = match self.random.below(20) {
+                0..=2 => 0xFFFF,
+                3 => offsets[i],
+                4 => self.random.word(),
+                5 if self.scene.overlap > 0 => offsets[i].wrapping_add(2 * self.random.below(22) as u16).wrapping_sub(22),
+                _ if last => self.random.pick(&offsets),
+                _ => offsets[i + 1],
+            };
+            let mut word = 0;
+            for (bit, percent) in [(0x8000, if last { 40 } else { 6 }), (0x4000, 20)] {
+                if self.random.chance(percent) {
+                    word |= bit;
+                }
+            }
+            if self.random.chance(20) {
+                word |= self.random.word() & 0x3FFF;
+            }
+            let pointer = if i == 0 { first } else { self.random.pick(&[NONE, first, 0]) };
+            let status = if self.random.chance(60) { 0 } else { self.random.word() };
+            self.put_words(places[i], &[status, word, link, pointer])?;
+        }
+        Ok(offsets[0])
+    }
+
+    fn buffers(&mut self) -> io::Result<u16> {
+        let sizes: Vec<usize> = match self.random.below(32) {
+            0..=2 => return Ok(NONE),
+            3..=5 => vec![self.random.pick(&[0, 1, 1, 2, 16_383])],
+            6..=8 => vec![2034, self.random.below(300)],
+            9 => vec![self.random.below(16_384)],
+            _ => {
+                let most = self.random.pick(&[2, 20, 46, 60, 60, 200, 200, 700]);
+                let same = self.random.chance(40);
+                let count = self.random.pick(&[1, 1, 2, 2, 3, 4, 6]);
+                (0..count).map(|_| if same { most } else { self.random.below(most + 1) }).collect()
+            }
+        };
+        let many = sizes.len() > 12;
+        let places: Vec<usize> = if many {
+            let first = self.piece(sizes.len() * 10);
+            (0..sizes.len()).map(|i| first + i * 10).collect()
+        } else {
+            sizes.iter().map(|_| self.piece(10)).collect()
+        };
+        let offsets: Vec<u16> = places.iter().map(|at| self.offset(*at % self.n())).collect();
+        let total: usize = sizes.iter().map(|size| size.min(&2034)).sum();
+        let mut data = self.piece(total.clamp(1, 2100));
+        if self.random.chance(5) {
+            data = self.n() - 1 - self.random.below(30);
+        }
+        let mut all = Vec::new();
+        for (i, size) in sizes.iter().enumerate() {
+            let last = i + 1 == sizes.len();
+            let mut word = *size as u16 & 0x3FFF;
+            if self.random.chance(15) {
+                word |= 0x4000;
+            }
+            let mut next = if last { NONE } else { offsets[i + 1] };
+            if last {
+                match self.random.below(10) {
+                    0..=2 => word |= 0x8000,
+                    3 => {
+                        word |= 0x8000;
+                        next = self.random.word();
+                    }
+                    4..=6 => next = self.random.pick(&offsets),
+                    7 => next = self.piece_offset(),
+                    _ => {}
+                }
+            } else if self.random.chance(if many { 0 } else { 4 }) {
+                word |= 0x8000;
+            }
+            if self.random.chance(10) && !many {
+                data = self.piece(*size.min(&2034));
+            }
+            let mut bytes = Vec::new();
+            let status = if many || self.random.chance(60) { 0 } else { self.random.word() };
+            bytes.extend(status.to_le_bytes());
+            bytes.extend(next.to_le_bytes());
+            bytes.extend(self.real_bytes(data % self.n()));
+            bytes.extend(word.to_le_bytes());
+            data += size.min(&2034);
+            if many {
+                all.extend(bytes);
+            } else {
+                self.put(places[i], &bytes)?;
+            }
+        }
+        if many {
+            self.put(places[0], &all)?;
+        }
+        Ok(offsets[0])
+    }
+
+    /// How many data bytes the buffers take that the next frame meets, and in how many descriptors.
+    fn room(&self) -> (usize, usize) {
+        let chip = &self.replay.chip;
+        let Ru::Ready { descriptor, .. } = chip.device.ru else {
+            return (0, 0);
+        };
+        let mut next = chip.word(chip.at(descriptor, 6));
+        let (mut room, mut used) = (0, 0);
+        while next != NONE && used < 64 && room < 2034 {
+            let word = chip.word(chip.at(next, 8));
+            room += usize::from(word & 0x3FFF);
+            used += 1;
+            next = if word & 0x8000 != 0 { NONE } else { chip.word(chip.at(next, 2)) };
+        }
+        (room, used)
+    }
+
+    // ---- Arrivals ----
+
+    fn arrival(&mut self) -> io::Result<()> {
+        if self.random.below(80) == 0 {
+            return self.overlong();
+        }
+        let minimum = usize::from(self.device().minimum);
+        let (room, used) = if self.allowed() && self.device().scb.is_some() { self.room() } else { (0, 0) };
+        let any = self.random.below(2049);
+        let small = 14 + self.random.below(100);
+        let short = 14 + self.random.below(minimum.max(19) - 18);
+        let fits = (13 + room + self.random.below(3)).min(2048);
+        let out = 15 + room;
+        let length = match self.random.below(24) {
+            8..=16 if self.device().save_bad && out + 4 < minimum => out + self.random.below(minimum - 4 - out),
+            0 => self.random.pick(&[0, 1, 5, 6, 12, 13, 13, 13]),
+            1 => 14,
+            2 => self.random.pick(&[13, 14, 15]),
+            3 | 4 => (minimum.max(6) - 6 + self.random.below(4)).min(2048),
+            5 => 57 + self.random.below(5),
+            6 => self.random.pick(&[2048, 2047, 2048]),
+            7 => any,
+            8..=11 => fits,
+            12..=16 => short,
+            _ if used == 64 => fits,
+            _ => small.max(minimum),
+        };
+        let to = self.destination();
+        self.frame(to, length)
+    }
+
+    /// A frame of this length to this address.
+    fn frame(&mut self, to: [u8; 6], length: usize) -> io::Result<()> {
+        let verdict = match self.random.below(20) {
+            0..=6 => 0,
+            7..=9 if !self.device().save_bad => 0,
+            7..=13 => 1,
+            14..=16 => 2,
+            17 => self.random.pick(&[3, 255, 256, 257, 65_536, 65_537, 1 << 31, (1 << 31) + 1, 0xFFFF_FFFF]),
+            _ => self.random.next() as u32 as usize,
+        };
+        let verdict = self.number(verdict);
+        let mut frame = to.to_vec();
+        for _ in 0..8 + self.random.below(40) {
+            frame.push(self.random.byte());
+        }
+        let mut text = format!("arrival {verdict}");
+        if length <= frame.len() {
+            let whole = hex(&frame[..length]);
+            if !whole.is_empty() {
+                text += &format!(" {whole}");
+            }
+        } else {
+            let byte = self.random.byte();
+            let rest = length - frame.len();
+            let tail = rest.min(self.random.below(24));
+            text += &format!(" {} {} {}x{byte:02X}", hex(&frame[..6]), hex(&frame[6..]), rest - tail);
+            let tail: Vec<u8> = (0..tail).map(|_| self.random.byte()).collect();
+            if !tail.is_empty() {
+                text += &format!(" {}", hex(&tail));
+            }
+        }
+        self.line(text)?;
+        if self.allowed() { self.observe() } else { Ok(()) }
+    }
+
+    fn allowed(&self) -> bool {
+        self.n() >= 8192 && self.n().is_power_of_two()
+    }
+
+    /// An address that the chip takes, if there is a plain one.
+    fn sure(&self) -> [u8; 6] {
+        if self.device().no_broadcast { self.device().own } else { [0xFF; 6] }
+    }
+
+    /// A frame's destination: mostly one that the chip takes.
+    fn destination(&mut self) -> [u8; 6] {
+        let device = self.device();
+        let (own, all, any) = (device.own, [0xFF; 6], device.promiscuous);
+        match self.random.below(12) {
+            0..=2 => own,
+            3..=6 => self.sure(),
+            7 | 8 => all,
+            9 if !self.device().list.is_empty() => {
+                let which = self.random.below(self.device().list.len());
+                self.device().list[which]
+            }
+            10 if any => std::array::from_fn(|_| self.random.byte()),
+            _ => self.address(),
+        }
+    }
+
+    /// A frame of more than 2,048 bytes.
+    fn overlong(&mut self) -> io::Result<()> {
+        let more = self.random.below(70_000);
+        let count = self.random.pick(&[2049, 2049, 2049, 2050, 4096, 2049 + more]);
+        let verdict = self.random.below(3);
+        if self.random.chance(50) {
+            self.line(format!("arrival {verdict} {}xFF", count))
+        } else {
+            self.line(format!("arrival {verdict} FFFFFFFFFFFF {}x00", count - 6))
+        }
+    }
+
+    /// Calls with a size that is not allowed.
+    fn odd_size(&mut self) -> io::Result<()> {
+        let n = self.n();
+        self.size()?;
+        if self.n() == n || self.allowed() {
+            let odd = self.random.pick(&[0, 4096, 8191, 24_576, 65_535]);
+            self.line(format!("size {odd}"))?;
+        }
+        for _ in 0..1 + self.random.below(4) {
+            match self.random.below(8) {
+                0 | 1 => self.line("attention".into())?,
+                2 | 3 => self.turn_line(1)?,
+                4 => self.overlong()?,
+                _ => self.arrival()?,
+            }
+        }
+        if self.random.chance(25) {
+            self.line("reset".into())?;
+        }
+        self.line(format!("size {n}"))?;
+        self.line("interrupt".into())?;
+        self.show_scb()
+    }
+
+    // ---- Turns ----
+
+    fn report(&mut self) -> usize {
+        let sends = self.device().begun().is_some_and(|begun| begun.kind == 4 && matches!(begun.step, Send::End { .. }));
+        match self.random.below(12) + if sends { 4 } else { 0 } {
+            0..=5 => 0,
+            6..=7 => 1 << self.random.below(16),
+            9..=15 if sends => 1 << self.random.below(16),
+            8 => self.random.pick(&[0x0003, 0x0020, 0x0100, 0xFFFF, 0x00CF, 0x0200, 0x0400, 0xF910]),
+            _ => usize::from(self.random.word()),
+        }
+    }
+
+    fn turn_line(&mut self, count: usize) -> io::Result<()> {
+        let report = self.report();
+        let (times, report_text) = (self.number(count), self.number(report));
+        let text = match self.random.below(3) {
+            0 if report == 0 && count == 1 => "turn".into(),
+            1 if report == 0 => format!("turn {times}"),
+            _ => format!("turn {times} {report_text}"),
+        };
+        self.line(text)
+    }
+
+    fn turn(&mut self) -> io::Result<()> {
+        let works = self.device().cu_works() || self.device().ru_works();
+        let count = if works && self.random.chance(5) { 1 + self.random.below(6) } else { 1 };
+        self.scene.stale += count;
+        let cu = self.device().cu;
+        let ru = self.device().ru;
+        self.turn_line(count)?;
+        self.observe()?;
+        // What the turn was about, and what it left alone.
+        if self.random.chance(35) {
+            if let Cu::Active { block, begun } = cu {
+                self.show(self.replay.chip.at(block, 0) as usize, 16)?;
+                if let Some(Send::End { length, .. }) = begun.map(|begun| begun.step) {
+                    if length > 0 && (length < 100 || self.random.chance(20)) {
+                        self.line(format!("show outgoing 0 {length}"))?;
+                    }
+                }
+            }
+        }
+        if self.random.chance(35) {
+            if let Ru::Ready { descriptor, held: Some(_), .. } = ru {
+                self.show(self.replay.chip.at(descriptor, 0) as usize, 22)?;
+            }
+        }
+        Ok(())
+    }
+
+    // ---- What is shown ----
+
+    fn show_scb(&mut self) -> io::Result<()> {
+        if self.device().scb.is_some() {
+            let scb = self.scb(0);
+            self.show(scb, 16)?;
+        }
+        Ok(())
+    }
+
+    /// Shows the SCB, what the last call wrote, sometimes the interrupt and a stretch of anything.
+    fn observe(&mut self) -> io::Result<()> {
+        if self.random.chance(92) {
+            self.show_scb()?;
+        }
+        for wrote in self.replay.chip.wrote.clone() {
+            if !self.random.chance(85) {
+                continue;
+            }
+            match wrote {
+                Wrote::Memory(at, count) => {
+                    if self.in_scb(at) {
+                        continue;
+                    }
+                    let n = self.n();
+                    if count <= 48 || self.random.chance(25) {
+                        self.show((at + n - 1) % n, count + 2)?;
+                    } else {
+                        self.show((at + n - 1) % n, 17)?;
+                        self.show(at + count - 16, 18)?;
+                    }
+                }
+                Wrote::Holding(at, count) => self.show_area("holding", at, count)?,
+                Wrote::Outgoing(at, count) => self.show_area("outgoing", at, count)?,
+            }
+        }
+        if self.random.chance(25) {
+            self.line("interrupt".into())?;
+        }
+        if self.random.chance(2) {
+            let (at, count) = (self.random.below(self.n()), 16 + self.random.below(200));
+            self.show(at, count)?;
+        }
+        Ok(())
+    }
+
+    fn in_scb(&self, at: usize) -> bool {
+        self.device().scb.is_some() && (at + self.n() - self.scb(0)) % self.n() < 16
+    }
+
+    fn show_area(&mut self, area: &str, at: usize, count: usize) -> io::Result<()> {
+        if at == 2048 {
+            return Ok(());
+        }
+        let end = (at + count + 2).min(2048);
+        if count <= 64 || self.random.chance(12) {
+            self.line(format!("show {area} {at} {}", end - at))
+        } else {
+            self.line(format!("show {area} {at:X}h 16"))?;
+            self.line(format!("show {area} {} 16", end - 16))
+        }
+    }
+
+    // ---- Alterations by the host ----
+
+    fn alter(&mut self) -> io::Result<()> {
+        let device = self.device().clone();
+        let n = self.n();
+        let value = match self.random.below(8) {
+            0 => 0xFFFF,
+            1 => 0,
+            2 | 3 => self.piece_offset(),
+            4 => self.random.word() & 0x00FF,
+            _ => self.random.word(),
+        };
+        if device.ru_works() && self.random.chance(25) {
+            self.note("holding area altered while a frame is held");
+            let at = self.random.pick(&[0, 1, 6, 12, 13, 14, 20, 59, 200, 2046]);
+            return self.line(format!("words holding {at} {value}"));
+        }
+        if device.begun().is_some_and(|begun| begun.kind == 4) && self.random.chance(35) {
+            self.note("outgoing area altered while a Transmit is begun");
+            let at = self.random.pick(&[0, 1, 6, 12, 13, 14, 20, 59, 200, 2046]);
+            return self.line(format!("bytes outgoing {at} {value:04x}"));
+        }
+        if device.scb.is_none() {
+            let at = self.random.below(n);
+            return self.put_words(at, &[value]);
+        }
+        let (at, length) = self.target(&device);
+        let field = 2 * self.random.below(length / 2);
+        let odd = usize::from(self.random.chance(10));
+        let value = if field >= 8 && at == self.scb(0) && self.random.chance(60) { 0xFFFF } else { value };
+        self.put_words(at + field + odd, &[value])
+    }
+
+    /// A place that matters now, and its length.
+    fn target(&mut self, device: &Device) -> (usize, usize) {
+        let chip = &self.replay.chip;
+        let mut targets = vec![(chip.scb(0), 16), (chip.scb(0), 16)];
+        if let Cu::Active { block, .. } | Cu::Suspended { next: block } = device.cu {
+            targets.push((chip.at(block, 0), 18));
+            targets.push((chip.at(block, 2), 6));
+            if device.begun().is_some() {
+                self.note("block altered while its command is begun");
+            }
+        }
+        if let Some(Send::Buffer { descriptor, .. }) = device.begun().map(|begun| begun.step) {
+            targets.push((chip.at(descriptor, 0), 8));
+        }
+        if let Ru::Ready { descriptor, .. } | Ru::Suspended { next: descriptor } = device.ru {
+            targets.push((chip.at(descriptor, 0), 22));
+            targets.push((chip.at(descriptor, 2), 6));
+            if device.ru_works() {
+                self.note("frame descriptor altered while a frame is held");
+            }
+        }
+        if let Some(Store::Buffer { descriptor, .. }) = device.held().and_then(|held| held.begun).map(|begun| begun.step) {
+            targets.push((chip.at(descriptor, 0), 10));
+        }
+        let (at, length) = self.random.pick(&targets);
+        let at = if self.random.chance(8) { self.random.below(self.n()) } else { at as usize };
+        (at % self.n(), length)
+    }
+}
