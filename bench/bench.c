@@ -1,0 +1,223 @@
+/*
+ * What the chip costs, in x86-64 instructions per item. Every call of the archive stands between two marks, which icount.c counts; what the
+ * host does between calls is not counted. An item is a command, a frame sent, a frame received, an arrival or an attention, and its cost is
+ * that of all calls it takes.
+ *
+ *     bench ROW N ITEMS    runs a row with a memory of N bytes and so many items, and prints how many
+ */
+#include "lentoquist.h"
+#include "mark.h"
+
+#include <stdio.h>
+#include <stdlib.h>
+#include <string.h>
+
+/* ---- the board: all structures below 8,192 but a long list's, the SCB base 0 ---- */
+
+enum {
+    ISCP_AT = 0x0100,
+    SCB_AT = 0x0110,
+    BLOCK_AT = 0x0200,       /* a block for a Transmit */
+    TBD_AT = 0x0400,         /* transmit buffer descriptors, 8 bytes each */
+    SENT_AT = 0x0500,        /* what is sent */
+    FD_AT = 0x0B00,          /* two frame descriptors, 32 bytes from one to the next, linked to each other */
+    RBD_AT = 0x0C00,         /* receive buffer descriptors, 16 bytes from one to the next, in a ring */
+    RECEIVED_AT = 0x0E00,    /* what they point to */
+    LIST_AT = 0x1400,        /* NOPs, 6 bytes each */
+    MARK = 1
+};
+
+static uint8_t memory[LQ_MEMORY_MAX];
+static size_t size;
+static uint8_t holding[LQ_HOLDING_SIZE];
+static uint8_t outgoing[LQ_OUTGOING_SIZE];
+static uint8_t record[LQ_RECORD_SIZE];
+
+#define AREAS memory, size, holding, sizeof holding, outgoing, sizeof outgoing, record, sizeof record
+
+static void put_word(uint32_t at, unsigned word)
+{
+    memory[at % size] = (uint8_t)word;
+    memory[(at + 1) % size] = (uint8_t)(word >> 8);
+}
+
+static unsigned get_word(uint32_t at)
+{
+    return memory[at % size] + 256u * memory[(at + 1) % size];
+}
+
+static void must(int so, const char *what)
+{
+    if (so) return;
+    fprintf(stderr, "bench: %s\n", what);
+    exit(1);
+}
+
+/* ---- counted calls ---- */
+
+static void attention(void)
+{
+    MARK_BEGIN(MARK);
+    uint64_t answer = lq_attention(AREAS);
+    MARK_END(MARK);
+    must(lq_number(answer) == LQ_ACCEPTED, "an attention was refused");
+}
+
+static size_t turn(void)
+{
+    MARK_BEGIN(MARK);
+    uint64_t answer = lq_turn(AREAS, 0);
+    MARK_END(MARK);
+    must(lq_number(answer) == LQ_ACCEPTED, "a turn was refused");
+    return lq_length(answer);
+}
+
+static void arrival(const uint8_t *frame, size_t length)
+{
+    MARK_BEGIN(MARK);
+    uint64_t answer = lq_arrival(AREAS, frame, length, LQ_VERDICT_GOOD);
+    MARK_END(MARK);
+    must(lq_number(answer) == LQ_ACCEPTED, "an arrival was refused");
+}
+
+/* ---- what comes before a row, uncounted ---- */
+
+static void command(unsigned word)
+{
+    put_word(SCB_AT + LQ_SCB_COMMAND, word);
+    must(lq_number(lq_attention(AREAS)) == LQ_ACCEPTED, "an attention was refused");
+}
+
+static void initialise(size_t n)
+{
+    size = n;
+    must(lq_number(lq_reset(record, sizeof record)) == LQ_ACCEPTED, "a reset was refused");
+    put_word(LQ_SCP_ISCP, ISCP_AT);
+    put_word(ISCP_AT + LQ_ISCP_SCB, SCB_AT);
+    command(0);
+    command(LQ_EVENTS);
+}
+
+static void fill_frame(uint8_t *frame, size_t length, uint8_t to)
+{
+    memset(frame, to, 6);
+    for (size_t i = 6; i < length; i++) frame[i] = (uint8_t)(i * 7);
+}
+
+/* ---- rows ---- */
+
+/* A list of NOPs. */
+static void nops(unsigned items)
+{
+    for (unsigned i = 0; i < items; i++) {
+        uint32_t at = LIST_AT + 6 * i;
+        put_word(at + LQ_CB_COMMAND, LQ_CMD_NOP | (i + 1 == items ? LQ_EL : 0));
+        put_word(at + LQ_CB_LINK, at + 6);
+    }
+    put_word(SCB_AT + LQ_SCB_CBL, LIST_AT);
+    command(LQ_CUC(LQ_START));
+    for (unsigned i = 0; i < 2 * items; i++) turn();
+    must(get_word(LIST_AT + 6 * (items - 1)) == (LQ_C | LQ_OK), "the last NOP is not done");
+}
+
+/* The same Transmit again and again: length bytes of data in so many buffers. */
+static void sends(unsigned items, unsigned length, unsigned buffers)
+{
+    unsigned each = (length + buffers - 1) / buffers;
+    for (unsigned i = 0; i < buffers; i++) {
+        uint32_t at = TBD_AT + 8 * i;
+        unsigned count = i + 1 == buffers ? length - each * i : each;
+        put_word(at + LQ_TBD_COUNT, count | (i + 1 == buffers ? LQ_EOF : 0));
+        put_word(at + LQ_TBD_NEXT, at + 8);
+        put_word(at + LQ_TBD_BUFFER, SENT_AT + each * i);
+        put_word(at + LQ_TBD_BUFFER + 2, 0);
+    }
+    put_word(BLOCK_AT + LQ_CB_COMMAND, LQ_CMD_TRANSMIT);
+    put_word(BLOCK_AT + LQ_CB_LINK, BLOCK_AT);
+    put_word(BLOCK_AT + LQ_TRANSMIT_BUFFER, TBD_AT);
+    put_word(SCB_AT + LQ_SCB_CBL, BLOCK_AT);
+    command(LQ_CUC(LQ_START));
+    for (unsigned i = 0; i < items; i++) {
+        size_t sent = 0;
+        for (unsigned k = 0; k < 2 + buffers; k++) sent += turn();
+        must(sent == LQ_FRAME_HEADER + length, "a frame was not sent");
+    }
+}
+
+/* Frames to everyone: length bytes of data into buffers of a size that takes so many of them. */
+static void receives(unsigned items, unsigned length, unsigned buffers)
+{
+    static uint8_t frame[LQ_FRAME_MAX];
+    unsigned each = (length + buffers - 1) / buffers;
+    for (unsigned i = 0; i < buffers; i++) {
+        uint32_t at = RBD_AT + 16 * i;
+        put_word(at + LQ_RBD_NEXT, RBD_AT + 16 * ((i + 1) % buffers));
+        put_word(at + LQ_RBD_BUFFER, RECEIVED_AT + each * i);
+        put_word(at + LQ_RBD_BUFFER + 2, 0);
+        put_word(at + LQ_RBD_SIZE, each);
+    }
+    for (unsigned i = 0; i < 2; i++) {
+        put_word(FD_AT + 32 * i + LQ_FD_COMMAND, 0);
+        put_word(FD_AT + 32 * i + LQ_FD_LINK, FD_AT + 32 * (1 - i));
+        put_word(FD_AT + 32 * i + LQ_FD_BUFFER, RBD_AT);
+    }
+    put_word(SCB_AT + LQ_SCB_RFA, FD_AT);
+    command(LQ_RUC(LQ_START));
+    fill_frame(frame, LQ_FRAME_HEADER + length, 0xFF);
+    for (unsigned i = 0; i < items; i++) {
+        arrival(frame, LQ_FRAME_HEADER + length);
+        for (unsigned k = 0; k < 2 + buffers; k++) turn();
+        must(get_word(FD_AT + 32 * (i % 2)) == (LQ_C | LQ_OK), "a frame was not stored");
+    }
+}
+
+/* Frames to another station. */
+static void not_for_us(unsigned items)
+{
+    static uint8_t frame[64];
+    put_word(SCB_AT + LQ_SCB_RFA, FD_AT);
+    command(LQ_RUC(LQ_START));
+    fill_frame(frame, 60, 0x02);
+    for (unsigned i = 0; i < items; i++) arrival(frame, 60);
+}
+
+static void attentions(unsigned items)
+{
+    for (unsigned i = 0; i < items; i++) attention();
+}
+
+static void idle_turns(unsigned items)
+{
+    for (unsigned i = 0; i < items; i++) turn();
+}
+
+static const struct row {
+    const char *name;
+    void (*run)(unsigned items);
+} PLAIN[] = {{"nop", nops}, {"other", not_for_us}, {"attention", attentions}, {"idle", idle_turns}};
+
+/* tx46, tx1500/6, rx46, rx46/3 ..: bytes of data, then buffers if more than one */
+static void framed(const char *row, unsigned items)
+{
+    char *end;
+    unsigned length = (unsigned)strtoul(row + 2, &end, 10);
+    unsigned buffers = *end == '/' ? (unsigned)strtoul(end + 1, NULL, 10) : 1;
+    must(length > 0 && length <= 1500 && buffers > 0 && buffers <= 32, "there is no such row");
+    if (row[0] == 't') sends(items, length, buffers);
+    else receives(items, length, buffers);
+}
+
+int main(int argc, char **argv)
+{
+    must(argc == 4, "usage: bench ROW N ITEMS");
+    unsigned items = (unsigned)strtoul(argv[3], NULL, 10);
+    initialise(strtoul(argv[2], NULL, 10));
+    for (size_t i = 0; i < sizeof PLAIN / sizeof PLAIN[0]; i++) {
+        if (strcmp(argv[1], PLAIN[i].name) != 0) continue;
+        PLAIN[i].run(items);
+        return 0;
+    }
+    must(argv[1][0] == 't' || argv[1][0] == 'r', "there is no such row");
+    framed(argv[1], items);
+    return 0;
+}

@@ -1,0 +1,2 @@
+-- What the bench's own calls say.
+pub mod Yardstick
