@@ -1,1 +1,3 @@
--- No laws yet.
+-- The inspector's list.
+pub mod Equal
+pub mod Accepted

@@ -1,1 +1,3 @@
--- No definitions yet.
+-- An arbitrary chip, the demands on it, and the wrong kinds of it.
+pub mod Chips
+pub mod Demands
