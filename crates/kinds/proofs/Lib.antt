@@ -1,3 +1,4 @@
 -- The inspector's list.
 pub mod Equal
 pub mod Accepted
+pub mod Ours

@@ -62,13 +62,16 @@ RecordOk attention a = ImageIn (a .kept)
 RecordOk (arrive f v) a = ImageIn (a .kept)
 RecordOk (turn report) a = ImageIn (a .kept)
 
--- the lowest number that applies is given
+-- the lowest number that applies is given, 0 if none does
+abbrev pub Lowest : (size areas frame image : Type 0) → Refusal → Type 0
+Lowest size areas frame image refusal.Memory = size → ⊥
+Lowest size areas frame image refusal.Area = size × (areas → ⊥)
+Lowest size areas frame image refusal.Overlong = size × areas × (frame → ⊥)
+Lowest size areas frame image refusal.Foreign = size × areas × frame × (image → ⊥)
+Lowest size areas frame image refusal.Accepted = size × areas × frame × image
+
 abbrev pub Applies : Refusal → Call → Areas → Type 0
-Applies refusal.Memory c a = SizeOk c a → ⊥
-Applies refusal.Area c a = SizeOk c a × (AreasOk c a → ⊥)
-Applies refusal.Overlong c a = SizeOk c a × AreasOk c a × (FrameOk c → ⊥)
-Applies refusal.Foreign c a = SizeOk c a × AreasOk c a × FrameOk c × (RecordOk c a → ⊥)
-Applies refusal.Accepted c a = SizeOk c a × AreasOk c a × FrameOk c × RecordOk c a
+Applies k c a = Lowest (SizeOk c a) (AreasOk c a) (FrameOk c) (RecordOk c a) k
 
 -- ---- demand 1
 
