@@ -2,3 +2,5 @@
 pub mod Equal
 pub mod Accepted
 pub mod Ours
+pub mod Witness
+pub mod Excluded

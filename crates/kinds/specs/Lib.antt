@@ -1,3 +1,5 @@
 -- An arbitrary chip, the demands on it, and the wrong kinds of it.
 pub mod Chips
 pub mod Demands
+pub mod Lists
+pub mod Kinds

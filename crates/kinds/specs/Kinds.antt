@@ -1,0 +1,121 @@
+-- The wrong kinds of chip: 01, "The inspector's list". Each is a property of an arbitrary chip, as wide as its sentence allows. Assumes nothing.
+use mathlib.Core.Path.{_≡_}
+use mathlib.Core.Bool.{true, false}
+use mathlib.Core.List.{List, _∷_, _++_}
+use mathlib.Core.Logic.{_⊎_}
+use Prim.Native.Nat.{ℕ, _<_}
+use Rattle.memory.specs.Address.{place}
+use Rattle.memory.specs.Memory.{wordAt}
+use Rattle.memory.specs.declared.Offset.{Offset}
+use Rattle.scb.specs.Words.{bit}
+use Rattle.device.specs.Answers.{isCounter}
+use Rattle.device.specs.Numbers.{counterPlace}
+use Rattle.device.specs.declared.Action.the-variants as action
+use Rattle.device.specs.declared.Begun.{Begun}
+use Rattle.device.specs.declared.Counter.{Counter}
+use Rattle.device.specs.declared.Cu.{Cu}
+use Rattle.device.specs.declared.Cu.the-variants as cu
+use Rattle.device.specs.declared.Device.{Device}
+use Rattle.device.specs.declared.Units.{Units}
+use Rattle.words.specs.Places.{bytesFrom}
+use Rattle.actions.specs.Block.{statusAt, argumentAt}
+use Rattle.control.specs.Obey.{ofScb}
+use Rattle.image.specs.Image.{imageOf}
+use Rattle.chip.specs.World.{Ran, worldOf}
+use Rattle.chip.specs.Call.{Call, attention, turn, ran}
+use Rattle.lentoquist.specs.Calls.{Areas, Called, packed}
+use Rattle.traces.specs.Bytes.{number, sentLength, edge}
+use Rattle.kinds.specs.Chips.{Chip, Lent}
+use Rattle.kinds.specs.Demands.{Sound, lentOf}
+use Rattle.kinds.specs.Lists.{All, Starting, AllReports, started}
+
+-- ---- a chip that refuses everything: it answers a number above 0 to every call
+pub record RefusesAll (chip : Chip) : Type 0 where
+  pub each : (s : chip .Inner) (c : Call) (a : Areas) → Lent c a → 0 < number (chip .calls s c a .answer)
+
+-- ---- one with a constant answer: one answer, whichever, to every call that is not to be refused
+pub record OneAnswer (chip : Chip) : Type 0 where
+  pub answer : ℕ
+  pub each : (s : chip .Inner) (c : Call) (d : Device) (m h out : List ℕ) → Sound c d m h out → Lent c (lentOf d m h out)
+      → chip .calls s c (lentOf d m h out) .answer ≡ answer
+
+-- ---- one that leaves memory untouched
+pub record MemoryAsLent (chip : Chip) : Type 0 where
+  pub each : (s : chip .Inner) (c : Call) (a : Areas) → Lent c a → chip .calls s c a .areas .memory ≡ a .memory
+
+-- ---- one that marks commands complete without acting
+
+-- the block of a begun command
+abbrev pub InWork : Cu → Offset → Type 0
+InWork cu.Idle o = ⊥
+InWork (cu.Suspended next) o = ⊥
+InWork (cu.Waiting next) o = ⊥
+InWork (cu.Acting b a) o = b .block ≡ o
+InWork (cu.Sending b w) o = b .block ≡ o
+InWork (cu.Ending b n) o = b .block ≡ o
+InWork (cu.Failing b) o = b .block ≡ o
+
+-- a turn sets C in the block of the begun command
+pub record Completes (d : Device) (m : List ℕ) (r : Called) (o : Offset) : Type 0 where
+  pub begun : InWork (d .units .cu) o
+  pub before : bit (wordAt m (place (d .units .base) o statusAt)) 15 ≡ false
+  pub after : bit (wordAt (r .areas .memory) (place (d .units .base) o statusAt)) 15 ≡ true
+
+-- at every such turn, something is so
+abbrev pub AtCompletion : (chip : Chip) → (Device → List ℕ → Offset → Called → Type 0) → Type 0
+AtCompletion chip p =
+    (s : chip .Inner) (report : ℕ) (d : Device) (m h out : List ℕ) (o : Offset) → Sound (turn report) d m h out
+    → Lent (turn report) (lentOf d m h out)
+    → Completes d m (chip .calls s (turn report) (lentOf d m h out)) o → p d m o (chip .calls s (turn report) (lentOf d m h out))
+
+-- every setting, in the record: bytes 14 and 15 what Configure sets, 40-45 the own address, 160-255 the listed ones
+abbrev pub settingsIn : List ℕ → List ℕ
+settingsIn r = bytesFrom r 14 2 ++ (bytesFrom r 40 6 ++ bytesFrom r 160 96)
+
+pub record SetsNothing (chip : Chip) : Type 0 where
+  pub each : AtCompletion chip (λ d m o r. settingsIn (r .areas .kept) ≡ settingsIn (imageOf d))
+
+-- TDR's word
+pub record MeasuresNothing (chip : Chip) : Type 0 where
+  pub each : AtCompletion chip (λ d m o r. (b : Begun) → d .units .cu ≡ cu.Acting b action.Tdr
+      → wordAt (r .areas .memory) (place (d .units .base) o argumentAt) ≡ wordAt m (place (d .units .base) o argumentAt))
+
+-- the sent length
+pub record SendsNothing (chip : Chip) : Type 0 where
+  pub each : AtCompletion chip (λ d m o r. sentLength (r .answer) ≡ 0)
+
+-- all three
+pub record MarksOnly (chip : Chip) : Type 0 where
+  pub settings : SetsNothing chip
+  pub tdr : MeasuresNothing chip
+  pub sending : SendsNothing chip
+
+-- ---- one that serves the first command only: whatever the turns after the start, the status of every block after the first stays as it was
+pub record FirstOnly (chip : Chip) : Type 0 where
+  pub each : (s : chip .Inner) (d : Device) (m h out : List ℕ) (b : Offset) (bs : List Offset) (reports : List ℕ)
+      → Sound attention d m h out → Lent attention (lentOf d m h out) → Starting d m b bs → AllReports reports
+      → All (λ o. wordAt (started chip s reports (lentOf d m h out) .memory) (place (d .units .base) o statusAt)
+      ≡ wordAt m (place (d .units .base) o statusAt)) bs
+
+-- ---- one that invents a counter or edge: at some call that is not to be refused
+
+-- the SCB before the call or after it
+abbrev pub ScbOf : Device → Ran → Units → Type 0
+ScbOf d said u = (u ≡ d .units) ⊎ (u ≡ said .outcome .device .units)
+
+-- a counter's word, or the edge, is not what the definitions leave
+pub data Invented (d : Device) (said : Ran) (r : Called) : Type 0 where
+  anotherCounter : (u : Units) → ScbOf d said u → (k : Counter) → isCounter k ≡ true
+      → (wordAt (r .areas .memory) (ofScb u (counterPlace k)) ≡ wordAt (said .memory) (ofScb u (counterPlace k)) → ⊥) → Invented d said r
+  anotherEdge : (edge (r .answer) ≡ edge (packed (said .outcome .answer)) → ⊥) → Invented d said r
+
+pub record Invents (chip : Chip) : Type 0 where
+  pub inner : chip .Inner
+  pub call : Call
+  pub device : Device
+  pub memory : List ℕ
+  pub holding : List ℕ
+  pub outgoing : List ℕ
+  pub sound : Sound call device memory holding outgoing
+  pub lent : Lent call (lentOf device memory holding outgoing)
+  pub invented : Invented device (ran call (worldOf device memory holding outgoing)) (chip .calls inner call (lentOf device memory holding outgoing))
