@@ -4,3 +4,4 @@ pub mod Accepted
 pub mod Ours
 pub mod Witness
 pub mod Excluded
+pub mod Two
