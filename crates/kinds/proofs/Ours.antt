@@ -37,7 +37,7 @@ use Rattle.lentoquist.proofs.Laws.{bad-size, bad-area, too-long, no-image, acce
 use Rattle.traces.specs.Bytes.{called, renewedIn, number, sentLength, edge}
 use Rattle.kinds.specs.Chips.{Chip, ours, Lent, Meets}
 use Rattle.kinds.specs.Demands.{SizeOk, AreasOk, FrameOk, RecordOk, Lengths, ImageIn, Lowest, Applies, Untouched, Tabled, Demand1, Sound, lentOf, AsDefined, Demand2}
-use Rattle.kinds.proofs.Equal.{ours-meets, as-called}
+use Rattle.kinds.proofs.Equal.{permits, ours-meets, as-called}
 use Rattle.kinds.proofs.Accepted.{lengths-right, accepted-call}
 
 -- ---- the table gives one number
@@ -84,6 +84,7 @@ tabled : (c : Call) (a : Areas) (r : Called) (j : Refusal) → Applies j c a →
     → (0 < number (r .answer) → Untouched a r) → Tabled c a r
 tabled c a r j p e u =
     record {
+      known = (j, e);
       given = λ k q. e ∙ ap refusalNumber (lowest-one (SizeOk c a) (AreasOk c a) (FrameOk c) (RecordOk c a) j k p q);
       only =
           λ k q.
@@ -254,3 +255,60 @@ ours-demand1 = has-demand1 ours ours-meets
 
 pub ours-demand2 : Demand2 ours
 ours-demand2 = has-demand2 ours ours-meets
+
+-- ---- and the other way: the two demands together are the promises
+
+same-answer : (x y : ℕ) → number x ≡ number y → sentLength x ≡ 0 → sentLength y ≡ 0 → edge x ≡ 0 → edge y ≡ 0 → x ≡ y
+same-answer x y n p q d e = omega arith
+
+both-untouched : (a : Areas) (x y : Called) → number (x .answer) ≡ number (y .answer) → Untouched a x → Untouched a y → x ≡ y
+both-untouched a x y n p q =
+    rw (same-answer (x .answer) (y .answer) n (p .length) (q .length) (p .edge) (q .edge), p .areas ∙ sym (q .areas))
+
+defined-kept : (x : Ran) (r : Called) → AsDefined x r → r ≡ keptBy x
+defined-kept x r p = rw (p .answer, p .memory, p .holding, p .outgoing, p .kept)
+
+module _ (chip : Chip) (one : Demand1 chip) (two : Demand2 chip) (s : chip .Inner) where
+  on-state : (c : Call) (a : Areas) → Lent c a → Allowed (length (a .memory)) → Lengths a → FrameOk c → ImageIn (a .kept) → chip .calls s c a ≡ called c a
+  on-state c a l n g f i =
+      let m = a .memory in
+      let k : Sound c (i .device) m (a .holding) (a .outgoing) =
+          record { size = n; holding = g .holding; outgoing = g .outgoing; frame = f; wide = i .wide; range = i .range }
+      in
+      let at = lentOf (i .device) m (a .holding) (a .outgoing) in
+      let same : a ≡ at = rw (i .image) in
+      let lent : Lent c at = rw (← same) l in
+      rw same
+      (defined-kept _ _ (two .each s c (i .device) m (a .holding) (a .outgoing) k lent)
+      ∙ sym (accepted-call (i .device) m (a .holding) (a .outgoing) c k))
+
+  accepting : (c : Call) (a : Areas) → Lent c a → Applies refusal.Accepted c a → chip .calls s c a ≡ called c a
+  accepting reset a l p = defined-kept _ _ (two .renewed s a l (p .1)) ∙ sym (reset-called a (p .1))
+  accepting attention a l p = on-state attention a l (p .0) (p .1) (p .2) (p .3)
+  accepting (arrive f v) a l p = on-state (arrive f v) a l (p .0) (p .1) (p .2) (p .3)
+  accepting (turn report) a l p = on-state (turn report) a l (p .0) (p .1) (p .2) (p .3)
+
+  refusing : (c : Call) (a : Areas) (k : Refusal) → Lent c a → Applies k c a → 0 < refusalNumber k → chip .calls s c a ≡ called c a
+  refusing c a k l p n =
+      let t = one .each s c a l in
+      let u = called-tabled c a l in
+      let x = t .given k p in
+      let y = u .given k p in
+      both-untouched a (chip .calls s c a) (called c a) (x ∙ sym y) (t .refused (rw x n)) (u .refused (rw y n))
+
+  either : (c : Call) (a : Areas) (k : Refusal) → Lent c a → Applies k c a → chip .calls s c a ≡ called c a
+  either c a refusal.Accepted l p = accepting c a l p
+  either c a refusal.Memory l p = refusing c a refusal.Memory l p (omega arith)
+  either c a refusal.Area l p = refusing c a refusal.Area l p (omega arith)
+  either c a refusal.Overlong l p = refusing c a refusal.Overlong l p (omega arith)
+  either c a refusal.Foreign l p = refusing c a refusal.Foreign l p (omega arith)
+
+pub demands-meet : (chip : Chip) → Demand1 chip → Demand2 chip → Meets chip
+demands-meet chip p q =
+    record {
+      each =
+          λ s c a l.
+          let t = p .each s c a l in
+          let k = t .known .0 in
+          rw (either chip p q s c a k l (t .only k (t .known .1))) (permits c a);
+    }

@@ -81,8 +81,9 @@ pub record Untouched (a : Areas) (r : Called) : Type 0 where
   pub edge : edge (r .answer) ≡ 0
   pub areas : r .areas ≡ a
 
--- each number is given exactly when the table says, 0 if none; a refused call leaves all as it was
+-- the number is 0 or one of the table, each given exactly when the table says; a refused call leaves all as it was
 pub record Tabled (c : Call) (a : Areas) (r : Called) : Type 0 where
+  pub known : (k : Refusal) × (number (r .answer) ≡ refusalNumber k)
   pub given : (k : Refusal) → Applies k c a → number (r .answer) ≡ refusalNumber k
   pub only : (k : Refusal) → number (r .answer) ≡ refusalNumber k → Applies k c a
   pub refused : 0 < number (r .answer) → Untouched a r
