@@ -5,3 +5,4 @@ pub mod Ours
 pub mod Witness
 pub mod Excluded
 pub mod Two
+pub mod Service
