@@ -6,3 +6,4 @@ pub mod Witness
 pub mod Excluded
 pub mod Two
 pub mod Service
+pub mod Step
