@@ -412,3 +412,50 @@ module _ (n : ℕ) (p : Part) (scb : ℕ) (whole : List Offset) (m : List ℕ) (
           ∙ ap cu.Waiting (s .listed .1)
       in
       moved n (p .base) scb whole m u fs b room c cs s all-writes (end p g a m .part .unit) end-own (end-done (s .size) (s .scb-rest .0)) e
+
+-- ---- any service
+
+module _ (n : ℕ) (p : Part) (scb : ℕ) (whole : List Offset) (m : List ℕ) (fs : List Offset) (b : Offset) (bs : List Offset) (room : 8 ≤ n) (x : Units) where
+  begin-next : (o : Offset) → At n (p .base) scb whole m (cu.Waiting o) fs b bs
+      → Next n (p .base) scb whole (apply (written (begin p o m .writes) (begin p o m .raised) x) m) (begin p o m .part .unit) (66 + 66 * length bs)
+  unfolding begin anyOf digits
+  begin-next o s =
+      let word = wordAt m (place (p .base) o 2) in
+      let ws = wordTo (place (p .base) o 0) 0x4000 ∷ [] in
+      let own : AllOwn (p .base) b scb ws = (record { spot = atStatus (ap (λ (c : Offset). place (p .base) c 0) (s .unit)); two = refl }, tt) in
+      let same : word ≡ wordAt (apply ws m) (place (p .base) b 2) =
+          ap (λ (c : Offset). wordAt m (place (p .base) c 2)) (s .unit) ∙ sym (command-kept n (p .base) scb whole m (cu.Waiting o) fs b bs room s ws own)
+      in
+      let k : BegunAt (p .base) (apply ws m) (begunBy o word) b =
+          record { block = begun-block o word ∙ s .unit; flags = begun-flags o word ∙ ap stops same }
+      in
+      let on = begin-onwards (eqb (cmd word) transmit) p (begunBy o word) word m (apply ws m) b (length bs) k in
+      goes fs b bs (stays n (p .base) scb whole m (cu.Waiting o) fs b bs room s ws (begin p o m .part .unit) own (on .unit)) (on .less)
+
+  buffer-next : (g : Begun) (w : Walk) → At n (p .base) scb whole m (cu.Sending g w) fs b bs
+      → Next n (p .base) scb whole (apply (written (buffer p g w m .writes) (buffer p g w m .raised) x) m) (buffer p g w m .part .unit)
+      (2 + (63 - w .used) + 66 * length bs)
+  unfolding buffer anyOf
+  buffer-next g w s =
+      let d = descriptorAt (p .base) (w .next) m in
+      let on =
+          buffer-onwards (p .base) m g b (length bs) (s .unit .0) (fits d w) (d .eof) (isNone (d .next)) (isLast (w .used)) (past d w) (w .used) refl
+          (s .unit .1) refl
+      in
+      goes fs b bs (stays n (p .base) scb whole m (cu.Sending g w) fs b bs room s [] (buffer p g w m .part .unit) tt (on .unit)) (on .less)
+
+  pub service-next : (u : Cu) (report : ℕ) → At n (p .base) scb whole m u fs b bs → place (x .base) (x .scb) 0 ≡ scb
+      → x .cu ≡ serviceBy u p m report .part .unit
+      → Next n (p .base) scb whole (apply (written (serviceBy u p m report .writes) (serviceBy u p m report .raised) x) m)
+      (serviceBy u p m report .part .unit) (rankOf u (length bs))
+  service-next cu.Idle report s to unit = absurd (s .unit)
+  service-next (cu.Suspended o) report s to unit = absurd (s .unit)
+  service-next (cu.Waiting o) report s to unit = begin-next o s
+  service-next (cu.Acting g a) report s to unit =
+      end-next n p scb whole m (cu.Acting g a) fs b room g (act a (p .base) (p .setup) (g .block) m) x to unit (s .unit)
+      (act-at (p .base) b scb a (p .setup) (g .block) m (s .unit .block)) bs s
+  service-next (cu.Sending g w) report s to unit = buffer-next g w s
+  service-next (cu.Ending g k) report s to unit =
+      end-next n p scb whole m (cu.Ending g k) fs b room g (sent (p .setup) k report) x to unit (s .unit) (sent-at (p .base) b scb (p .setup) k report) bs s
+  service-next (cu.Failing g) report s to unit =
+      end-next n p scb whole m (cu.Failing g) fs b room g (notSent (p .setup)) x to unit (s .unit) (not-sent-at (p .base) b scb (p .setup)) bs s
