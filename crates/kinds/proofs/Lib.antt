@@ -7,3 +7,4 @@ pub mod Excluded
 pub mod Two
 pub mod Service
 pub mod Step
+pub mod Runs
