@@ -8,3 +8,4 @@ pub mod Two
 pub mod Service
 pub mod Step
 pub mod Runs
+pub mod Start

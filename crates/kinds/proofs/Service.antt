@@ -19,11 +19,11 @@ use Rattle.kinds.specs.Lists.{stops, Listed, All, BlocksApart, isDone}
 
 -- ---- places
 
-place-add : (base : RealAddress) (b : Offset) (f : ℕ) → place base b 0 + f ≡ place base b f
+pub place-add : (base : RealAddress) (b : Offset) (f : ℕ) → place base b 0 + f ≡ place base b f
 unfolding place
 place-add base b f = omega arith
 
-apart-within : (n a j b k x j′ y k′ : ℕ) → x + j′ ≤ j → y + k′ ≤ k → Apart n a j b k → Apart n (a + x) j′ (b + y) k′
+pub apart-within : (n a j b k x j′ y k′ : ℕ) → x + j′ ≤ j → y + k′ ≤ k → Apart n a j b k → Apart n (a + x) j′ (b + y) k′
 apart-within n a j b k x j′ y k′ p q h s hs t ht e =
     let u : a + x + s ≡ a + (x + s) = omega arith in
     let v : b + y + t ≡ b + (y + t) = omega arith in
@@ -88,7 +88,7 @@ module _ (n : ℕ) (base : RealAddress) (scb : ℕ) where
   abbrev pub ScbApart : Offset → Type 0
   ScbApart b = Apart n scb 4 (place base b 0) 8
 
-  scb-word : (c : Offset) (g : ℕ) → g + 2 ≤ 8 → ScbApart c → Apart n scb 2 (place base c g) 2
+  pub scb-word : (c : Offset) (g : ℕ) → g + 2 ≤ 8 → ScbApart c → Apart n scb 2 (place base c g) 2
   scb-word c g q h =
       let z : scb + 0 ≡ scb = omega arith in
       rw z at (rw (place-add base c g) at (apart-within n scb 4 (place base c 0) 8 0 2 g 2 (omega arith) q h))
