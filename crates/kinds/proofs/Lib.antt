@@ -9,3 +9,4 @@ pub mod Service
 pub mod Step
 pub mod Runs
 pub mod Start
+pub mod Third

@@ -1,5 +1,6 @@
 -- An arbitrary chip, the demands on it, and the wrong kinds of it.
 pub mod Chips
 pub mod Demands
+pub mod Closed
 pub mod Lists
 pub mod Kinds
