@@ -1,7 +1,7 @@
 -- What bytes show of demand 3, of every chip that has demand 2, since every state that a call leaves is in range. Assumes nothing.
-use mathlib.Core.Path.{_≡_, refl, sym, ap, _∙_, subst}
+use mathlib.Core.Path.{_≡_, refl, sym, ap, ap₂, _∙_}
 use mathlib.Core.Bool.{true, false}
-use mathlib.Core.List.{List, [], _∷_}
+use mathlib.Core.List.{List, [], _∷_, map}
 use Prim.Native.Nat.{ℕ, _+_, _*_, _≤_, _<_}
 use native.Mathlib.Omega.{arith}
 use lib.ListN.{length}
@@ -10,6 +10,7 @@ use Rattle.memory.specs.declared.Offset.{Offset}
 use Rattle.scb.specs.Words.{field, cuNumber}
 use Rattle.scb.specs.declared.CuState.{CuState}
 use Rattle.scb.specs.declared.CuState.the-variants as cus
+use Rattle.device.specs.Numbers.{counterPlace}
 use Rattle.device.specs.State.{cuState, isActive}
 use Rattle.device.specs.declared.Device.{Device}
 use Rattle.image.specs.Image.{imageOf}
@@ -18,18 +19,16 @@ use Rattle.control.specs.Obey.{ofScb}
 use Rattle.chip.specs.World.{World, worldOf, afterwards}
 use Rattle.chip.specs.Attention.{attentionOf}
 use Rattle.chip.specs.Call.{Call, attention, turn, ran}
-use Rattle.lentoquist.specs.Calls.{Areas, areasOf}
+use Rattle.lentoquist.specs.Calls.{Areas, areasOf, packed}
+use Rattle.traces.specs.Bytes.{edge}
 use Rattle.kinds.specs.Chips.{Chip, ours, Given, Lent, Meets, run}
 use Rattle.kinds.specs.Demands.{FrameOk, Sound, lentOf, Demand2}
 use Rattle.kinds.specs.Closed.{Right, Closed}
-use Rattle.kinds.specs.Lists.{turnsOf, AllReports, Starting, Demand3}
+use Rattle.kinds.specs.Lists.{turnsOf, AllReports, ranThrough, answersOf, answersBy, shown, DoneAsIn2, Demand3}
+use Rattle.kinds.specs.Kinds.{InventedAlong, anotherCount, anotherEdges, InventsAlong}
 use Rattle.kinds.proofs.Ours.{has-demand2, ours-demand2}
 use Rattle.kinds.proofs.Runs.{runs}
 use Rattle.kinds.proofs.Start.{list-ends}
-
--- the areas that show a world
-abbrev pub shown : World → Areas
-shown w = lentOf (w .device) (w .memory) (w .holding) (w .outgoing)
 
 right-sound : (c : Call) (w : World) → FrameOk c → Right w → Sound c (w .device) (w .memory) (w .holding) (w .outgoing)
 right-sound c w f r =
@@ -74,12 +73,43 @@ module _ (closed : Closed) (chip : Chip) (q : Demand2 chip) where
       all-areas (chip .calls s c (shown w) .areas) (ran c w .memory) (ran c w .holding) (ran c w .outgoing) (imageOf (ran c w .outcome .device))
       (a .memory) (a .holding) (a .outgoing) (a .kept)
 
-  runs-along : (rs : List ℕ) (s : chip .Inner) (w : World) → AllReports rs → Right w → run chip s (turnsOf rs) (shown w) ≡ shown (runs rs w)
+  -- the turns of a run are those of the definitions' run
+  through-runs : (rs : List ℕ) (w : World) → ranThrough (turnsOf rs) w ≡ runs rs w
+  through-runs [] w = refl
+  through-runs (r ∷ rs) w = through-runs rs (afterwards (ran (turn r) w))
+
+  runs-along : (rs : List ℕ) (s : chip .Inner) (w : World) → AllReports rs → Right w → run chip s (turnsOf rs) (shown w) ≡ shown (ranThrough (turnsOf rs) w)
   runs-along [] s w p r = refl
   runs-along (x ∷ rs) s w p r =
       let s′ = chip .next s (turn x) (shown w) in
       ap (run chip s′ (turnsOf rs)) (goes-along s (turn x) w (p .0) tt r)
       ∙ runs-along rs s′ (afterwards (ran (turn x) w)) (p .1) (closed .each (turn x) w (p .0) tt r)
+
+  answers-alike : (s : chip .Inner) (c : Call) (w : World) → Given c → FrameOk c → Right w
+      → chip .calls s c (shown w) .answer ≡ packed (ran c w .outcome .answer)
+  answers-alike s c w g f r =
+      q .each s c (w .device) (w .memory) (w .holding) (w .outgoing) (right-sound c w f r) (right-lent c w g r) .answer
+
+  answers-along : (rs : List ℕ) (s : chip .Inner) (w : World) → AllReports rs → Right w → answersOf chip s (turnsOf rs) (shown w) ≡ answersBy (turnsOf rs) w
+  answers-along [] s w p r = refl
+  answers-along (x ∷ rs) s w p r =
+      let s′ = chip .next s (turn x) (shown w) in
+      ap₂ (λ (y : ℕ) (ys : List ℕ). y ∷ ys) (answers-alike s (turn x) w (p .0) tt r)
+      (ap (answersOf chip s′ (turnsOf rs)) (goes-along s (turn x) w (p .0) tt r)
+      ∙ answers-along rs s′ (afterwards (ran (turn x) w)) (p .1) (closed .each (turn x) w (p .0) tt r))
+
+  along : (rs : List ℕ) (s : chip .Inner) (w : World) → AllReports rs → Right w → DoneAsIn2 chip s (attention ∷ turnsOf rs) w
+  along rs s w p r =
+      let s′ = chip .next s attention (shown w) in
+      let v = afterwards (ran attention w) in
+      let e = goes-along s attention w tt tt r in
+      let r′ = closed .each attention w tt tt r in
+      record {
+        areas = ap (run chip s′ (turnsOf rs)) e ∙ runs-along rs s′ v p r′;
+        answers =
+            ap₂ (λ (y : ℕ) (ys : List ℕ). y ∷ ys) (answers-alike s attention w tt tt r)
+            (ap (answersOf chip s′ (turnsOf rs)) e ∙ answers-along rs s′ v p r′);
+      }
 
   pub has-demand3 : Demand3 chip
   has-demand3 =
@@ -87,15 +117,14 @@ module _ (closed : Closed) (chip : Chip) (q : Demand2 chip) where
         each =
             λ s d m h out b bs rs k l start p n.
             let w = worldOf d m h out in
-            let r = sound-right attention w k l in
-            let s′ = chip .next s attention (shown w) in
             let v = afterwards (attentionOf w) in
-            let e : run chip s (attention ∷ turnsOf rs) (shown w) ≡ shown (runs rs v) =
-                ap (run chip s′ (turnsOf rs)) (goes-along s attention w tt tt r) ∙ runs-along rs s′ v p (closed .each attention w tt tt r)
-            in
             let over = list-ends w b bs start rs (omega (arith, k .size .least)) (omega (arith, n)) in
-            let same = ap (λ (a : Areas). a .memory) e in
-            (rw same (over .done), λ z. not-active (cuState (runs rs v .device .units .cu)) (over .off) (sym (over .said) ∙ rw same at z));
+            let same = ap (λ (a : Areas). a .memory) (along rs s w p (sound-right attention w k l) .areas) ∙ ap (λ (x : World). x .memory) (through-runs rs v) in
+            record {
+              done = rw same (over .done);
+              inactive = λ z. not-active (cuState (runs rs v .device .units .cu)) (over .off) (sym (over .said) ∙ rw same at z);
+            };
+        as-in-2 = λ s d m h out b bs rs k l start p. along rs s (worldOf d m h out) p (sound-right attention (worldOf d m h out) k l);
       }
 
 pub meets-demand3 : Closed → (chip : Chip) → Meets chip → Demand3 chip
@@ -103,3 +132,16 @@ meets-demand3 closed chip p = has-demand3 closed chip (has-demand2 chip p)
 
 pub ours-demand3 : Closed → Demand3 ours
 ours-demand3 closed = has-demand3 closed ours ours-demand2
+
+-- ---- a counter or an edge that the definitions do not have, in the run of a list: demand 3, which means done as in 2
+module _ (chip : Chip) where
+  none-along : (d : Device) (after : Areas) (answers : List ℕ) (w : World) (said : List ℕ) → after ≡ shown w → answers ≡ said
+      → InventedAlong d after answers w said → ⊥
+  none-along d after answers w said p q (anotherCount k c differs) =
+      differs (ap (λ (a : Areas). wordAt (a .memory) (ofScb (d .units) (counterPlace k))) p)
+  none-along d after answers w said p q (anotherEdges differs) = differs (ap (map edge) q)
+
+  pub invents-along-lacks-3 : InventsAlong chip → Demand3 chip → ⊥
+  invents-along-lacks-3 k d =
+      let same = d .as-in-2 (k .inner) (k .device) (k .memory) (k .holding) (k .outgoing) (k .first) (k .rest) (k .reports) (k .sound) (k .lent) (k .start) (k .sized) in
+      none-along (k .device) _ _ _ _ (same .areas) (same .answers) (k .invented)

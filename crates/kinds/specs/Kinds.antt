@@ -1,7 +1,7 @@
 -- The wrong kinds of chip: 01, "The inspector's list". Each is a property of an arbitrary chip, as wide as its sentence allows. Assumes nothing.
 use mathlib.Core.Path.{_≡_}
 use mathlib.Core.Bool.{true, false}
-use mathlib.Core.List.{List, _∷_, _++_}
+use mathlib.Core.List.{List, _∷_, _++_, map}
 use mathlib.Core.Logic.{_⊎_}
 use Prim.Native.Nat.{ℕ, _<_}
 use Rattle.memory.specs.Address.{place}
@@ -21,13 +21,13 @@ use Rattle.words.specs.Places.{bytesFrom}
 use Rattle.actions.specs.Block.{statusAt, argumentAt}
 use Rattle.control.specs.Obey.{ofScb}
 use Rattle.image.specs.Image.{imageOf}
-use Rattle.chip.specs.World.{Ran, worldOf}
+use Rattle.chip.specs.World.{World, Ran, worldOf}
 use Rattle.chip.specs.Call.{Call, attention, turn, ran}
 use Rattle.lentoquist.specs.Calls.{Areas, Called, packed}
 use Rattle.traces.specs.Bytes.{number, sentLength, edge}
 use Rattle.kinds.specs.Chips.{Chip, Lent}
 use Rattle.kinds.specs.Demands.{Sound, lentOf}
-use Rattle.kinds.specs.Lists.{All, Starting, AllReports, started}
+use Rattle.kinds.specs.Lists.{All, Starting, turnsOf, AllReports, started, ranThrough, answersOf, answersBy}
 
 -- ---- a chip that refuses everything: it answers a number above 0 to every call
 pub record RefusesAll (chip : Chip) : Type 0 where
@@ -119,3 +119,28 @@ pub record Invents (chip : Chip) : Type 0 where
   pub sound : Sound call device memory holding outgoing
   pub lent : Lent call (lentOf device memory holding outgoing)
   pub invented : Invented device (ran call (worldOf device memory holding outgoing)) (chip .calls inner call (lentOf device memory holding outgoing))
+
+-- the same in the run of a list: after it a counter, or along it an edge, is not what the definitions leave
+pub data InventedAlong (d : Device) (after : Areas) (answers : List ℕ) (w : World) (said : List ℕ) : Type 0 where
+  anotherCount : (k : Counter) → isCounter k ≡ true
+      → (wordAt (after .memory) (ofScb (d .units) (counterPlace k)) ≡ wordAt (w .memory) (ofScb (d .units) (counterPlace k)) → ⊥)
+      → InventedAlong d after answers w said
+  anotherEdges : (map edge answers ≡ map edge said → ⊥) → InventedAlong d after answers w said
+
+pub record InventsAlong (chip : Chip) : Type 0 where
+  pub inner : chip .Inner
+  pub device : Device
+  pub memory : List ℕ
+  pub holding : List ℕ
+  pub outgoing : List ℕ
+  pub first : Offset
+  pub rest : List Offset
+  pub reports : List ℕ
+  pub sound : Sound attention device memory holding outgoing
+  pub lent : Lent attention (lentOf device memory holding outgoing)
+  pub start : Starting device memory first rest
+  pub sized : AllReports reports
+  pub invented : InventedAlong device (started chip inner reports (lentOf device memory holding outgoing))
+      (answersOf chip inner (attention ∷ turnsOf reports) (lentOf device memory holding outgoing))
+      (ranThrough (attention ∷ turnsOf reports) (worldOf device memory holding outgoing))
+      (answersBy (attention ∷ turnsOf reports) (worldOf device memory holding outgoing))

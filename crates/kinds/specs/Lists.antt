@@ -16,8 +16,9 @@ use Rattle.device.specs.State.{cuState, isActive, isHolding}
 use Rattle.device.specs.declared.Device.{Device}
 use Rattle.actions.specs.Block.{statusAt, commandAt, linkAt}
 use Rattle.control.specs.Obey.{ofScb}
-use Rattle.chip.specs.Call.{Call, attention, turn}
-use Rattle.lentoquist.specs.Calls.{Areas}
+use Rattle.chip.specs.World.{World, worldOf, afterwards}
+use Rattle.chip.specs.Call.{Call, attention, turn, ran}
+use Rattle.lentoquist.specs.Calls.{Areas, packed}
 use Rattle.kinds.specs.Chips.{Chip, Lent, run}
 use Rattle.kinds.specs.Demands.{Sound, lentOf}
 
@@ -72,11 +73,42 @@ started chip s reports a = run chip s (attention ∷ turnsOf reports) a
 abbrev pub isDone : RealAddress → List ℕ → Offset → Type 0
 isDone base m b = bit (wordAt m (place base b statusAt)) 15 ≡ true
 
--- ---- what bytes show of demand 3: within 132 times n turns every block of the list has C, and the SCB's status does not say Active. It is asked
--- where no frame is held and none arrives and the blocks are apart, which is less than demand 3 asks
+-- ---- what the definitions make of the same run
+
+abbrev pub ranThrough : List Call → World → World
+ranThrough [] w = w
+ranThrough (c ∷ cs) w = ranThrough cs (afterwards (ran c w))
+
+-- the answers along a run: the chip's, and the definitions'
+abbrev pub answersOf : (chip : Chip) → chip .Inner → List Call → Areas → List ℕ
+answersOf chip s [] a = []
+answersOf chip s (c ∷ cs) a = chip .calls s c a .answer ∷ answersOf chip (chip .next s c a) cs (chip .calls s c a .areas)
+
+abbrev pub answersBy : List Call → World → List ℕ
+answersBy [] w = []
+answersBy (c ∷ cs) w = packed (ran c w .outcome .answer) ∷ answersBy cs (afterwards (ran c w))
+
+-- the areas that show a world
+abbrev pub shown : World → Areas
+shown w = lentOf (w .device) (w .memory) (w .holding) (w .outgoing)
+
+-- ---- what bytes show of demand 3. It is asked where no frame is held and none arrives, the host writes nothing, and the blocks and the SCB are
+-- apart: less than demand 3 asks, so a chip that lacks it lacks demand 3
+
+-- within 132 times n turns every block of the list has C, and the SCB's status does not say Active
+pub record Completed (d : Device) (bs : List Offset) (m : List ℕ) : Type 0 where
+  pub done : All (isDone (d .units .base) m) bs
+  pub inactive : field (wordAt m (ofScb (d .units) scb.statusAt)) 8 3 ≡ cuNumber cus.Active → ⊥
+
+-- done as in 2: at every moment of the run, all bytes are as the definitions leave them, and the answers were the definitions'
+pub record DoneAsIn2 (chip : Chip) (s : chip .Inner) (cs : List Call) (w : World) : Type 0 where
+  pub areas : run chip s cs (shown w) ≡ shown (ranThrough cs w)
+  pub answers : answersOf chip s cs (shown w) ≡ answersBy cs w
+
 pub record Demand3 (chip : Chip) : Type 0 where
   pub each : (s : chip .Inner) (d : Device) (m h out : List ℕ) (b : Offset) (bs : List Offset) (reports : List ℕ)
       → Sound attention d m h out → Lent attention (lentOf d m h out) → Starting d m b bs → AllReports reports
-      → 132 * length (b ∷ bs) ≤ length reports
-      → All (isDone (d .units .base) (started chip s reports (lentOf d m h out) .memory)) (b ∷ bs)
-      × (field (wordAt (started chip s reports (lentOf d m h out) .memory) (ofScb (d .units) scb.statusAt)) 8 3 ≡ cuNumber cus.Active → ⊥)
+      → 132 * length (b ∷ bs) ≤ length reports → Completed d (b ∷ bs) (started chip s reports (lentOf d m h out) .memory)
+  pub as-in-2 : (s : chip .Inner) (d : Device) (m h out : List ℕ) (b : Offset) (bs : List Offset) (reports : List ℕ)
+      → Sound attention d m h out → Lent attention (lentOf d m h out) → Starting d m b bs → AllReports reports
+      → DoneAsIn2 chip s (attention ∷ turnsOf reports) (worldOf d m h out)
