@@ -35,7 +35,7 @@ module _ (chip : Chip) where
       let a = lentOf fresh zeros area area in
       let l = lent-on (turn 0) fresh (omega arith) fresh-wide in
       let s = sound-on (turn 0) fresh tt fresh-wide fresh-range in
-      let more : 0 < number (chip .calls (chip .first) (turn 0) a .answer) = k .each (chip .first) (turn 0) a l in
+      let more : 0 < number (chip .calls (chip .first) (turn 0) a .answer) = k .each (chip .first) (turn 0) fresh zeros area area s l in
       let none : number (chip .calls (chip .first) (turn 0) a .answer) ≡ 0 =
           d .each (chip .first) (turn 0) a l .given refusal.Accepted
           (s .size,
@@ -81,7 +81,10 @@ module _ (chip : Chip) where
 
   pub as-lent-lacks-2 : MemoryAsLent chip → Demand2 chip → ⊥
   as-lent-lacks-2 k d =
-      let x = k .each (chip .first) attention (lentOf fresh zeros area area) (lent-on attention fresh tt fresh-wide) in
+      let x =
+          k .each (chip .first) attention fresh zeros area area (sound-on attention fresh tt fresh-wide fresh-range)
+          (lent-on attention fresh tt fresh-wide)
+      in
       let same : firstly .memory ≡ zeros = sym (at-first d .memory) ∙ x in
       let z : wordAt (firstly .memory) 0 ≡ wordAt zeros 0 = ap (λ (m : List ℕ). wordAt m 0) same in
       omega (arith, z, first-status, zero-status)

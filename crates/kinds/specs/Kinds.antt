@@ -29,19 +29,24 @@ use Rattle.kinds.specs.Chips.{Chip, Lent}
 use Rattle.kinds.specs.Demands.{Sound, lentOf}
 use Rattle.kinds.specs.Lists.{All, Starting, turnsOf, AllReports, started, ranThrough, answersOf, answersBy}
 
--- ---- a chip that refuses everything: it answers a number above 0 to every call
-pub record RefusesAll (chip : Chip) : Type 0 where
-  pub each : (s : chip .Inner) (c : Call) (a : Areas) → Lent c a → 0 < number (chip .calls s c a .answer)
+-- at every call that is not to be refused, something is so of what is lent and what is left; a chip of which it is so at every call is of the kind too
+abbrev pub AtAccepted : (chip : Chip) → (Areas → Called → Type 0) → Type 0
+AtAccepted chip p =
+    (s : chip .Inner) (c : Call) (d : Device) (m h out : List ℕ) → Sound c d m h out → Lent c (lentOf d m h out)
+    → p (lentOf d m h out) (chip .calls s c (lentOf d m h out))
 
--- ---- one with a constant answer: one answer, whichever, to every call that is not to be refused
+-- ---- a chip that refuses everything: it answers a number above 0
+pub record RefusesAll (chip : Chip) : Type 0 where
+  pub each : AtAccepted chip (λ a r. 0 < number (r .answer))
+
+-- ---- one with a constant answer, whichever
 pub record OneAnswer (chip : Chip) : Type 0 where
   pub answer : ℕ
-  pub each : (s : chip .Inner) (c : Call) (d : Device) (m h out : List ℕ) → Sound c d m h out → Lent c (lentOf d m h out)
-      → chip .calls s c (lentOf d m h out) .answer ≡ answer
+  pub each : AtAccepted chip (λ a r. r .answer ≡ answer)
 
 -- ---- one that leaves memory untouched
 pub record MemoryAsLent (chip : Chip) : Type 0 where
-  pub each : (s : chip .Inner) (c : Call) (a : Areas) → Lent c a → chip .calls s c a .areas .memory ≡ a .memory
+  pub each : AtAccepted chip (λ a r. r .areas .memory ≡ a .memory)
 
 -- ---- one that marks commands complete without acting
 
