@@ -21,10 +21,11 @@ use Rattle.chip.specs.Attention.{attentionOf}
 use Rattle.chip.specs.Call.{Call, attention, turn, ran}
 use Rattle.lentoquist.specs.Calls.{Areas, areasOf, packed}
 use Rattle.traces.specs.Bytes.{edge}
-use Rattle.kinds.specs.Chips.{Chip, ours, Given, Lent, Meets, run}
+use Rattle.traces.specs.Event.{Event, call, host}
+use Rattle.kinds.specs.Chips.{Chip, ours, Given, Lent, Meets, run, answersOf, ranThrough}
 use Rattle.kinds.specs.Demands.{FrameOk, Sound, lentOf, Demand2}
 use Rattle.kinds.specs.Closed.{Right, Closed}
-use Rattle.kinds.specs.Lists.{turnsOf, AllReports, ranThrough, answersOf, answersBy, shown, DoneAsIn2, Demand3}
+use Rattle.kinds.specs.Lists.{turnsOf, AllReports, Hosted, Fair, shown, DoneAsIn2, Demand3}
 use Rattle.kinds.specs.Kinds.{InventedAlong, anotherCount, anotherEdges, InventsAlong}
 use Rattle.kinds.proofs.Ours.{has-demand2, ours-demand2}
 use Rattle.kinds.proofs.Runs.{runs}
@@ -65,6 +66,29 @@ not-active cus.Idle a e = omega (arith, e)
 not-active cus.Suspended a e = omega (arith, e)
 not-active cus.Active a e = let z : _≡_ {A = ℕ} 0 1 = cc in omega arith
 
+-- what the host leaves is right, with a device that is
+hosted : (w : World) (m h out : List ℕ) → Hosted m h out → Right w → Right (worldOf (w .device) m h out)
+hosted w m h out k r =
+    record {
+      size = k .size;
+      holding = k .holding;
+      outgoing = k .outgoing;
+      wide = r .wide;
+      range = r .range;
+      memory-bytes = k .memory-bytes;
+      holding-bytes = k .holding-bytes;
+      outgoing-bytes = k .outgoing-bytes;
+    }
+
+-- turns
+fair-turns : (rs : List ℕ) → AllReports rs → Fair (turnsOf rs)
+fair-turns [] p = tt
+fair-turns (r ∷ rs) p = (p .0, tt, fair-turns rs (p .1))
+
+through-runs : (rs : List ℕ) (w : World) → ranThrough (turnsOf rs) w ≡ runs rs w
+through-runs [] w = refl
+through-runs (r ∷ rs) w = through-runs rs (afterwards (ran (turn r) w))
+
 module _ (closed : Closed) (chip : Chip) (q : Demand2 chip) where
   -- a chip that has demand 2 leaves, call by call, what shows the world that the definitions leave
   goes-along : (s : chip .Inner) (c : Call) (w : World) → Given c → FrameOk c → Right w → chip .calls s c (shown w) .areas ≡ shown (afterwards (ran c w))
@@ -73,58 +97,41 @@ module _ (closed : Closed) (chip : Chip) (q : Demand2 chip) where
       all-areas (chip .calls s c (shown w) .areas) (ran c w .memory) (ran c w .holding) (ran c w .outgoing) (imageOf (ran c w .outcome .device))
       (a .memory) (a .holding) (a .outgoing) (a .kept)
 
-  -- the turns of a run are those of the definitions' run
-  through-runs : (rs : List ℕ) (w : World) → ranThrough (turnsOf rs) w ≡ runs rs w
-  through-runs [] w = refl
-  through-runs (r ∷ rs) w = through-runs rs (afterwards (ran (turn r) w))
-
-  runs-along : (rs : List ℕ) (s : chip .Inner) (w : World) → AllReports rs → Right w → run chip s (turnsOf rs) (shown w) ≡ shown (ranThrough (turnsOf rs) w)
-  runs-along [] s w p r = refl
-  runs-along (x ∷ rs) s w p r =
-      let s′ = chip .next s (turn x) (shown w) in
-      ap (run chip s′ (turnsOf rs)) (goes-along s (turn x) w (p .0) tt r)
-      ∙ runs-along rs s′ (afterwards (ran (turn x) w)) (p .1) (closed .each (turn x) w (p .0) tt r)
-
   answers-alike : (s : chip .Inner) (c : Call) (w : World) → Given c → FrameOk c → Right w
       → chip .calls s c (shown w) .answer ≡ packed (ran c w .outcome .answer)
   answers-alike s c w g f r =
       q .each s c (w .device) (w .memory) (w .holding) (w .outgoing) (right-sound c w f r) (right-lent c w g r) .answer
 
-  answers-along : (rs : List ℕ) (s : chip .Inner) (w : World) → AllReports rs → Right w → answersOf chip s (turnsOf rs) (shown w) ≡ answersBy (turnsOf rs) w
-  answers-along [] s w p r = refl
-  answers-along (x ∷ rs) s w p r =
-      let s′ = chip .next s (turn x) (shown w) in
-      ap₂ (λ (y : ℕ) (ys : List ℕ). y ∷ ys) (answers-alike s (turn x) w (p .0) tt r)
-      (ap (answersOf chip s′ (turnsOf rs)) (goes-along s (turn x) w (p .0) tt r)
-      ∙ answers-along rs s′ (afterwards (ran (turn x) w)) (p .1) (closed .each (turn x) w (p .0) tt r))
-
-  along : (rs : List ℕ) (s : chip .Inner) (w : World) → AllReports rs → Right w → DoneAsIn2 chip s (attention ∷ turnsOf rs) w
-  along rs s w p r =
-      let s′ = chip .next s attention (shown w) in
-      let v = afterwards (ran attention w) in
-      let e = goes-along s attention w tt tt r in
-      let r′ = closed .each attention w tt tt r in
+  -- so it is along every run, whatever happens: all that is shown of the definitions' runs holds of such a chip's
+  pub along : (es : List Event) (s : chip .Inner) (w : World) → Fair es → Right w → DoneAsIn2 chip s es w
+  along [] s w f r = record { areas = refl; answers = refl }
+  along (call c ∷ es) s w f r =
+      let s′ = chip .next s c (shown w) in
+      let e = goes-along s c w (f .0) (f .1) r in
+      let more = along es s′ (afterwards (ran c w)) (f .2) (closed .each c w (f .0) (f .1) r) in
       record {
-        areas = ap (run chip s′ (turnsOf rs)) e ∙ runs-along rs s′ v p r′;
-        answers =
-            ap₂ (λ (y : ℕ) (ys : List ℕ). y ∷ ys) (answers-alike s attention w tt tt r)
-            (ap (answersOf chip s′ (turnsOf rs)) e ∙ answers-along rs s′ v p r′);
+        areas = ap (run chip s′ es) e ∙ more .areas;
+        answers = ap₂ (λ (y : ℕ) (ys : List ℕ). y ∷ ys) (answers-alike s c w (f .0) (f .1) r) (ap (answersOf chip s′ es) e ∙ more .answers);
       }
+  along (host m h out ∷ es) s w f r =
+      let more = along es s (worldOf (w .device) m h out) (f .1) (hosted w m h out (f .0) r) in
+      record { areas = more .areas; answers = more .answers }
 
   pub has-demand3 : Demand3 chip
   has-demand3 =
       record {
-        each =
+        within =
             λ s d m h out b bs rs k l start p n.
             let w = worldOf d m h out in
             let v = afterwards (attentionOf w) in
             let over = list-ends w b bs start rs (omega (arith, k .size .least)) (omega (arith, n)) in
-            let same = ap (λ (a : Areas). a .memory) (along rs s w p (sound-right attention w k l) .areas) ∙ ap (λ (x : World). x .memory) (through-runs rs v) in
+            let run-is = along (call attention ∷ turnsOf rs) s w (tt, tt, fair-turns rs p) (sound-right attention w k l) .areas in
+            let same = ap (λ (a : Areas). a .memory) run-is ∙ ap (λ (x : World). x .memory) (through-runs rs v) in
             record {
               done = rw same (over .done);
               inactive = λ z. not-active (cuState (runs rs v .device .units .cu)) (over .off) (sym (over .said) ∙ rw same at z);
             };
-        as-in-2 = λ s d m h out b bs rs k l start p. along rs s (worldOf d m h out) p (sound-right attention (worldOf d m h out) k l);
+        as-in-2 = λ s d m h out b bs es k l start f. along (call attention ∷ es) s (worldOf d m h out) (tt, tt, f) (sound-right attention (worldOf d m h out) k l);
       }
 
 pub meets-demand3 : Closed → (chip : Chip) → Meets chip → Demand3 chip
@@ -143,5 +150,5 @@ module _ (chip : Chip) where
 
   pub invents-along-lacks-3 : InventsAlong chip → Demand3 chip → ⊥
   invents-along-lacks-3 k d =
-      let same = d .as-in-2 (k .inner) (k .device) (k .memory) (k .holding) (k .outgoing) (k .first) (k .rest) (k .reports) (k .sound) (k .lent) (k .start) (k .sized) in
+      let same = d .as-in-2 (k .inner) (k .device) (k .memory) (k .holding) (k .outgoing) (k .first) (k .rest) (k .events) (k .sound) (k .lent) (k .start) (k .fair) in
       none-along (k .device) _ _ _ _ (same .areas) (same .answers) (k .invented)

@@ -36,9 +36,10 @@ use Rattle.chip.specs.Attention.{attentionOf}
 use Rattle.chip.specs.Turn.{concluded, commandTurn, turnOf}
 use Rattle.chip.specs.Call.{Call, attention, turn, ran}
 use Rattle.lentoquist.specs.Calls.{Areas, areasOf}
+use Rattle.traces.specs.Event.{Event, call}
 use Rattle.kinds.specs.Chips.{Chip, Given, Lent, Meets, run}
 use Rattle.kinds.specs.Demands.{FrameOk, Sound, lentOf, Demand2}
-use Rattle.kinds.specs.Lists.{Starting, AllReports, started, Demand3}
+use Rattle.kinds.specs.Lists.{Starting, turnsOf, AllReports, started, Demand3}
 use Rattle.kinds.specs.Kinds.{FirstOnly}
 use Rattle.kinds.proofs.Ours.{has-demand2}
 use Rattle.kinds.proofs.Witness.{zeros, area, zero-bytes, smallest, withUnit, wide-with, range-with}
@@ -134,7 +135,7 @@ module _ (chip : Chip) where
       let l = lent-two attention idle two tt two-bytes idle-wide in
       let n : 132 * 2 ≤ length (replicate {A = ℕ} 264 0) = rw (length-replicate {A = ℕ} 264 0) (omega arith) in
       let same = k .each (chip .first) idle two area area one (other ∷ []) (replicate 264 0) s l starting (zero-reports 264) .0 in
-      let done = d .each (chip .first) idle two area area one (other ∷ []) (replicate 264 0) s l starting (zero-reports 264) n .done .1 .0 in
+      let done = d .within (chip .first) idle two area area one (other ∷ []) (replicate 264 0) s l starting (zero-reports 264) n .done .1 .0 in
       no-c (rw (same, other-clear) at done)
 
 -- ---- and demand 2: the third turn after the start begins the second command
@@ -220,31 +221,31 @@ size3 = length-apply (wordTo 0x40 0xA000 ∷ []) m2 ∙ size2
 
 module _ (chip : Chip) (q : Demand2 chip) where
   -- a chip that has demand 2 goes the same way
-  leads : (s : chip .Inner) (c : Call) (cs : List Call) (d : Device) (m : List ℕ) (d′ : Device) (m′ : List ℕ) → Goes c d m d′ m′ → Sound c d m area area
+  leads : (s : chip .Inner) (c : Call) (cs : List Event) (d : Device) (m : List ℕ) (d′ : Device) (m′ : List ℕ) → Goes c d m d′ m′ → Sound c d m area area
       → Lent c (lentOf d m area area)
-      → run chip s (c ∷ cs) (lentOf d m area area) ≡ run chip (chip .next s c (lentOf d m area area)) cs (lentOf d′ m′ area area)
+      → run chip s (call c ∷ cs) (lentOf d m area area) ≡ run chip (chip .next s c (lentOf d m area area)) cs (lentOf d′ m′ area area)
   leads s c cs d m d′ m′ g k l =
       let r = q .each s c d m area area k l in
       ap (run chip (chip .next s c (lentOf d m area area)) cs)
       (all-areas (chip .calls s c (lentOf d m area area) .areas) m′ area area (imageOf d′) (r .memory ∙ g .memory) (r .holding ∙ g .holding)
         (r .outgoing ∙ g .outgoing) (r .kept ∙ ap imageOf (g .device)))
 
-  first-three : (s : chip .Inner) → wordAt (started chip s (0 ∷ 0 ∷ 0 ∷ []) (lentOf idle two area area) .memory) (place (record { 0 = 0 }) other 0) ≡ 0x4000
+  first-three : (s : chip .Inner) → wordAt (started chip s (turnsOf (0 ∷ 0 ∷ 0 ∷ [])) (lentOf idle two area area) .memory) (place (record { 0 = 0 }) other 0) ≡ 0x4000
   first-three s =
       let e1 =
-          leads s attention (turn 0 ∷ turn 0 ∷ turn 0 ∷ []) idle two (withUnit (cu.Waiting one)) m1 starts
+          leads s attention (turnsOf (0 ∷ 0 ∷ 0 ∷ [])) idle two (withUnit (cu.Waiting one)) m1 starts
           (sound-two attention idle two tt two-size idle-wide idle-range) (lent-two attention idle two tt two-bytes idle-wide)
       in
       let s1 = chip .next s attention (lentOf idle two area area) in
       let w1 = waiting-wide one (omega arith) in
       let e2 =
-          leads s1 (turn 0) (turn 0 ∷ turn 0 ∷ []) (withUnit (cu.Waiting one)) m1 (withUnit nop) m2 begins
+          leads s1 (turn 0) (turnsOf (0 ∷ 0 ∷ [])) (withUnit (cu.Waiting one)) m1 (withUnit nop) m2 begins
           (sound-two (turn 0) (withUnit (cu.Waiting one)) m1 tt size1 w1 (waiting-range one))
           (lent-two (turn 0) (withUnit (cu.Waiting one)) m1 (omega arith) bytes1 w1)
       in
       let s2 = chip .next s1 (turn 0) (lentOf (withUnit (cu.Waiting one)) m1 area area) in
       let e3 =
-          leads s2 (turn 0) (turn 0 ∷ []) (withUnit nop) m2 (withUnit (cu.Waiting other)) m3 ends
+          leads s2 (turn 0) (turnsOf (0 ∷ [])) (withUnit nop) m2 (withUnit (cu.Waiting other)) m3 ends
           (sound-two (turn 0) (withUnit nop) m2 tt size2 nop-wide nop-range)
           (lent-two (turn 0) (withUnit nop) m2 (omega arith) bytes2 nop-wide)
       in
@@ -255,7 +256,7 @@ module _ (chip : Chip) (q : Demand2 chip) where
           (sound-two (turn 0) (withUnit (cu.Waiting other)) m3 tt size3 w3 (waiting-range other))
           (lent-two (turn 0) (withUnit (cu.Waiting other)) m3 (omega arith) bytes3 w3)
       in
-      let e : started chip s (0 ∷ 0 ∷ 0 ∷ []) (lentOf idle two area area) .memory ≡ m4 =
+      let e : started chip s (turnsOf (0 ∷ 0 ∷ 0 ∷ [])) (lentOf idle two area area) .memory ≡ m4 =
           ap (λ (a : Areas). a .memory) (e1 ∙ e2 ∙ e3) ∙ last .memory ∙ goes-on
       in
       ap (λ (m : List ℕ). wordAt m (place (record { 0 = 0 }) other 0)) e ∙ begun-other

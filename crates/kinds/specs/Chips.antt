@@ -3,9 +3,11 @@ use mathlib.Core.Path.{_≡_}
 use mathlib.Core.List.{List, [], _∷_}
 use Prim.Native.Nat.{ℕ, _<_}
 use Rattle.memory.proofs.Bytes.{Bytes}
-use Rattle.chip.specs.Call.{Call, reset, attention, arrive, turn}
-use Rattle.lentoquist.specs.Calls.{Areas, Called, Calls, Renews, attentionCall, arrivalCall, turnCall, resetCall}
+use Rattle.chip.specs.World.{World}
+use Rattle.chip.specs.Call.{Call, reset, attention, arrive, turn, ran}
+use Rattle.lentoquist.specs.Calls.{Areas, areasOf, Called, Calls, Renews, packed, attentionCall, arrivalCall, turnCall, resetCall}
 use Rattle.traces.specs.Bytes.{called}
+use Rattle.traces.specs.Event.{Event, call, host, step}
 
 -- anything with the four calls on bytes. Inner: all that its calls may depend on besides what is lent, be it kept from call to call or chance
 pub record Chip : Type 1 where
@@ -55,8 +57,26 @@ Permits (turn report) a r = Says (turnCall a report) r
 pub record Meets (chip : Chip) : Type 0 where
   pub each : (s : chip .Inner) (c : Call) (a : Areas) → Lent c a → Permits c a (chip .calls s c a)
 
--- ---- a run of calls: each is lent the areas that the one before it left
+-- ---- a run: each call is lent the areas that were left before it; between calls the host may leave memory, holding area and outgoing area
+-- otherwise, and keeps the record
 
-abbrev pub run : (chip : Chip) → chip .Inner → List Call → Areas → Areas
+abbrev pub run : (chip : Chip) → chip .Inner → List Event → Areas → Areas
 run chip s [] a = a
-run chip s (c ∷ cs) a = run chip (chip .next s c a) cs (chip .calls s c a .areas)
+run chip s (call c ∷ es) a = run chip (chip .next s c a) es (chip .calls s c a .areas)
+run chip s (host m h out ∷ es) a = run chip s es (areasOf m h out (a .kept))
+
+-- the answers along it
+abbrev pub answersOf : (chip : Chip) → chip .Inner → List Event → Areas → List ℕ
+answersOf chip s [] a = []
+answersOf chip s (call c ∷ es) a = chip .calls s c a .answer ∷ answersOf chip (chip .next s c a) es (chip .calls s c a .areas)
+answersOf chip s (host m h out ∷ es) a = answersOf chip s es (areasOf m h out (a .kept))
+
+-- what the definitions make of the same run, on states
+abbrev pub ranThrough : List Event → World → World
+ranThrough [] w = w
+ranThrough (e ∷ es) w = ranThrough es (step e w)
+
+abbrev pub answersBy : List Event → World → List ℕ
+answersBy [] w = []
+answersBy (call c ∷ es) w = packed (ran c w .outcome .answer) ∷ answersBy es (step (call c) w)
+answersBy (host m h out ∷ es) w = answersBy es (step (host m h out) w)

@@ -25,9 +25,10 @@ use Rattle.chip.specs.World.{World, Ran, worldOf}
 use Rattle.chip.specs.Call.{Call, attention, turn, ran}
 use Rattle.lentoquist.specs.Calls.{Areas, Called, packed}
 use Rattle.traces.specs.Bytes.{number, sentLength, edge}
-use Rattle.kinds.specs.Chips.{Chip, Lent}
+use Rattle.traces.specs.Event.{Event, call}
+use Rattle.kinds.specs.Chips.{Chip, Lent, answersOf, ranThrough, answersBy}
 use Rattle.kinds.specs.Demands.{Sound, lentOf}
-use Rattle.kinds.specs.Lists.{All, Starting, turnsOf, AllReports, started, ranThrough, answersOf, answersBy}
+use Rattle.kinds.specs.Lists.{All, Starting, turnsOf, AllReports, started, Fair}
 
 -- at every call that is not to be refused, something is so of what is lent and what is left; a chip of which it is so at every call is of the kind too
 abbrev pub AtAccepted : (chip : Chip) → (Areas → Called → Type 0) → Type 0
@@ -99,7 +100,7 @@ pub record MarksOnly (chip : Chip) : Type 0 where
 pub record FirstOnly (chip : Chip) : Type 0 where
   pub each : (s : chip .Inner) (d : Device) (m h out : List ℕ) (b : Offset) (bs : List Offset) (reports : List ℕ)
       → Sound attention d m h out → Lent attention (lentOf d m h out) → Starting d m b bs → AllReports reports
-      → All (λ o. wordAt (started chip s reports (lentOf d m h out) .memory) (place (d .units .base) o statusAt)
+      → All (λ o. wordAt (started chip s (turnsOf reports) (lentOf d m h out) .memory) (place (d .units .base) o statusAt)
       ≡ wordAt m (place (d .units .base) o statusAt)) bs
 
 -- ---- one that invents a counter or edge: at some call that is not to be refused
@@ -125,7 +126,7 @@ pub record Invents (chip : Chip) : Type 0 where
   pub lent : Lent call (lentOf device memory holding outgoing)
   pub invented : Invented device (ran call (worldOf device memory holding outgoing)) (chip .calls inner call (lentOf device memory holding outgoing))
 
--- the same in the run of a list: after it a counter, or along it an edge, is not what the definitions leave
+-- the same after the start of a list, whatever happens then: after it a counter, or along it an edge, is not what the definitions leave
 pub data InventedAlong (d : Device) (after : Areas) (answers : List ℕ) (w : World) (said : List ℕ) : Type 0 where
   anotherCount : (k : Counter) → isCounter k ≡ true
       → (wordAt (after .memory) (ofScb (d .units) (counterPlace k)) ≡ wordAt (w .memory) (ofScb (d .units) (counterPlace k)) → ⊥)
@@ -140,12 +141,12 @@ pub record InventsAlong (chip : Chip) : Type 0 where
   pub outgoing : List ℕ
   pub first : Offset
   pub rest : List Offset
-  pub reports : List ℕ
+  pub events : List Event
   pub sound : Sound attention device memory holding outgoing
   pub lent : Lent attention (lentOf device memory holding outgoing)
   pub start : Starting device memory first rest
-  pub sized : AllReports reports
-  pub invented : InventedAlong device (started chip inner reports (lentOf device memory holding outgoing))
-      (answersOf chip inner (attention ∷ turnsOf reports) (lentOf device memory holding outgoing))
-      (ranThrough (attention ∷ turnsOf reports) (worldOf device memory holding outgoing))
-      (answersBy (attention ∷ turnsOf reports) (worldOf device memory holding outgoing))
+  pub fair : Fair events
+  pub invented : InventedAlong device (started chip inner events (lentOf device memory holding outgoing))
+      (answersOf chip inner (call attention ∷ events) (lentOf device memory holding outgoing))
+      (ranThrough (call attention ∷ events) (worldOf device memory holding outgoing))
+      (answersBy (call attention ∷ events) (worldOf device memory holding outgoing))
