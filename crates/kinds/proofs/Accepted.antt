@@ -1,20 +1,17 @@
 -- A call on the image of a state in range comes to the definition on that state. Assumes nothing.
-use mathlib.Core.Path.{_≡_, refl, sym, ap, _∙_}
-use mathlib.Core.Bool.{Bool, true, false, _&&_}
+use mathlib.Core.Path.{_≡_, ap, _∙_}
+use mathlib.Core.Bool.{true}
 use mathlib.Core.List.{List, []}
 use Prim.Native.Nat.{ℕ, _≤_}
 use native.Mathlib.Omega.{arith}
 use borrow.Author.Tests.{le-leb, eq-eqb}
-use lib.Dec.{eqb, leb}
 use lib.ListN.{length}
-use Rattle.memory.specs.Size.{sizeAllowed, Allowed}
+use Rattle.memory.specs.Size.{Allowed}
 use Rattle.memory.proofs.Power.{size-allowed}
 use Rattle.device.specs.Limits.{areaSize, recordSize, longest}
 use Rattle.device.specs.declared.Device.{Device}
-use Rattle.device.specs.declared.Units.{Units}
-use Rattle.image.specs.Image.{imageOf, decodeOf, deviceAt}
+use Rattle.image.specs.Image.{imageOf}
 use Rattle.image.specs.Ranges.{inRange, Wide}
-use Rattle.image.specs.declared.Decoded.the-variants as is
 use Rattle.image.proofs.Exact.{decode-image, device-back}
 use Rattle.image.proofs.Steps.{length-image}
 use Rattle.chip.specs.World.{World, Ran, worldOf}
@@ -22,7 +19,7 @@ use Rattle.chip.specs.Attention.{attentionOf}
 use Rattle.chip.specs.Arrival.{arrivalOf}
 use Rattle.chip.specs.Turn.{turnOf}
 use Rattle.chip.specs.Call.{Call, reset, attention, arrive, turn, ran}
-use Rattle.lentoquist.specs.Calls.{Areas, Called, areasRight, refusalOf, keptBy, calledBy, attentionCall, arrivalCall, turnCall, resetCall}
+use Rattle.lentoquist.specs.Calls.{Areas, areasRight, refusalOf, keptBy, calledBy, attentionCall, arrivalCall, turnCall, resetCall}
 use Rattle.lentoquist.proofs.Laws.{accepted}
 use Rattle.traces.specs.Bytes.{called}
 use Rattle.kinds.specs.Demands.{Sound, lentOf}

@@ -6,24 +6,21 @@ use native.Mathlib.Omega.{arith}
 use lib.ListN.{getD}
 use Rattle.memory.specs.Memory.{wordAt}
 use Rattle.memory.specs.Address.{place}
-use Rattle.device.specs.Limits.{recordSize}
 use Rattle.device.specs.State.{fresh}
 use Rattle.device.specs.Numbers.{counterPlace}
-use Rattle.device.specs.declared.Counter.{Counter}
 use Rattle.device.specs.declared.Device.{Device}
 use Rattle.device.specs.declared.Refusal.the-variants as refusal
-use Rattle.device.specs.declared.Units.{Units}
 use Rattle.image.specs.Image.{imageOf}
 use Rattle.image.proofs.Exact.{fresh-range, fresh-wide}
 use Rattle.image.proofs.Steps.{length-image}
 use Rattle.control.specs.Obey.{ofScb}
-use Rattle.chip.specs.World.{Ran, worldOf}
-use Rattle.chip.specs.Call.{Call, reset, attention, turn, ran}
-use Rattle.lentoquist.specs.Calls.{Called, packed}
+use Rattle.chip.specs.World.{Ran}
+use Rattle.chip.specs.Call.{attention, turn}
+use Rattle.lentoquist.specs.Calls.{Called}
 use Rattle.traces.specs.Bytes.{number, sentLength, edge}
-use Rattle.kinds.specs.Chips.{Chip, Lent, Meets}
-use Rattle.kinds.specs.Demands.{Demand1, Sound, lentOf, AsDefined, Demand2}
-use Rattle.kinds.specs.Kinds.{RefusesAll, OneAnswer, MemoryAsLent, Completes, settingsIn, SetsNothing, MeasuresNothing, SendsNothing, MarksOnly, Invented, anotherCounter, anotherEdge, Invents}
+use Rattle.kinds.specs.Chips.{Chip, Meets}
+use Rattle.kinds.specs.Demands.{Demand1, lentOf, AsDefined, Demand2}
+use Rattle.kinds.specs.Kinds.{RefusesAll, OneAnswer, MemoryAsLent, settingsIn, SetsNothing, MeasuresNothing, SendsNothing, MarksOnly, Invented, anotherCounter, anotherEdge, Invents}
 use Rattle.kinds.proofs.Ours.{has-demand1, has-demand2}
 use Rattle.kinds.proofs.Witness.{zeros, area, sound-on, lent-on, firstly, idly, first-answer, idle-answer, first-status, zero-status, block, withUnit, turned, settingUp, setting-wide, setting-range, setting-done, was-set, is-set, measuring, measuring-wide, measuring-range, measuring-done, measured, begun, sending, sending-wide, sending-range, sending-done, sent-length, not-done, not-measured}
 
@@ -37,11 +34,12 @@ module _ (chip : Chip) where
       let s = sound-on (turn 0) fresh tt fresh-wide fresh-range in
       let more : 0 < number (chip .calls (chip .first) (turn 0) a .answer) = k .each (chip .first) (turn 0) fresh zeros area area s l in
       let none : number (chip .calls (chip .first) (turn 0) a .answer) ≡ 0 =
-          d .each (chip .first) (turn 0) a l .given refusal.Accepted
-          (s .size,
-            record { holding = s .holding; outgoing = s .outgoing; kept = length-image fresh (fresh-wide .own) (fresh-wide .listed) },
-            tt,
-            record { device = fresh; wide = fresh-wide; range = fresh-range; image = refl })
+      d .each (chip .first) (turn 0) a l .given refusal.Accepted (
+        s .size,
+        record { holding = s .holding; outgoing = s .outgoing; kept = length-image fresh (fresh-wide .own) (fresh-wide .listed) },
+        tt,
+        record { device = fresh; wide = fresh-wide; range = fresh-range; image = refl },
+      )
       in
       omega (arith, more, none)
 
@@ -63,12 +61,12 @@ module _ (chip : Chip) where
   pub one-answer-lacks-2 : OneAnswer chip → Demand2 chip → ⊥
   one-answer-lacks-2 k d =
       let x =
-          k .each (chip .first) attention fresh zeros area area (sound-on attention fresh tt fresh-wide fresh-range)
-          (lent-on attention fresh tt fresh-wide)
+      k .each (chip .first) attention fresh zeros area area (sound-on attention fresh tt fresh-wide fresh-range)
+      (lent-on attention fresh tt fresh-wide)
       in
       let y =
-          k .each (chip .first) (turn 0) fresh zeros area area (sound-on (turn 0) fresh tt fresh-wide fresh-range)
-          (lent-on (turn 0) fresh (omega arith) fresh-wide)
+      k .each (chip .first) (turn 0) fresh zeros area area (sound-on (turn 0) fresh tt fresh-wide fresh-range)
+      (lent-on (turn 0) fresh (omega arith) fresh-wide)
       in
       let p : k .answer ≡ 4294967296 = sym x ∙ at-first d .answer ∙ first-answer in
       let q : k .answer ≡ 0 = sym y ∙ at-turn d .answer ∙ idle-answer in
@@ -82,8 +80,8 @@ module _ (chip : Chip) where
   pub as-lent-lacks-2 : MemoryAsLent chip → Demand2 chip → ⊥
   as-lent-lacks-2 k d =
       let x =
-          k .each (chip .first) attention fresh zeros area area (sound-on attention fresh tt fresh-wide fresh-range)
-          (lent-on attention fresh tt fresh-wide)
+      k .each (chip .first) attention fresh zeros area area (sound-on attention fresh tt fresh-wide fresh-range)
+      (lent-on attention fresh tt fresh-wide)
       in
       let same : firstly .memory ≡ zeros = sym (at-first d .memory) ∙ x in
       let z : wordAt (firstly .memory) 0 ≡ wordAt zeros 0 = ap (λ (m : List ℕ). wordAt m 0) same in
@@ -100,8 +98,8 @@ module _ (chip : Chip) where
       let l = lent-on (turn 0) (withUnit settingUp) (omega arith) setting-wide in
       let r = d .each (chip .first) (turn 0) (withUnit settingUp) zeros area area s l in
       let x =
-          k .each (chip .first) 0 (withUnit settingUp) zeros area area block s l
-          (record { begun = refl; before = not-done; after = rw (r .memory) setting-done })
+      k .each (chip .first) 0 (withUnit settingUp) zeros area area block s l
+      (record { begun = refl; before = not-done; after = rw (r .memory) setting-done })
       in
       let e : settingsIn (imageOf (turned settingUp .outcome .device)) ≡ settingsIn (imageOf (withUnit settingUp)) = sym (ap settingsIn (r .kept)) ∙ x in
       let z = ap (λ (y : List ℕ). getD y 2 0) e in
@@ -113,8 +111,8 @@ module _ (chip : Chip) where
       let l = lent-on (turn 0) (withUnit measuring) (omega arith) measuring-wide in
       let r = d .each (chip .first) (turn 0) (withUnit measuring) zeros area area s l in
       let x =
-          k .each (chip .first) 0 (withUnit measuring) zeros area area block s l
-          (record { begun = refl; before = not-done; after = rw (r .memory) measuring-done }) begun refl
+      k .each (chip .first) 0 (withUnit measuring) zeros area area block s l
+      (record { begun = refl; before = not-done; after = rw (r .memory) measuring-done }) begun refl
       in
       let z = sym (ap (λ (m : List ℕ). wordAt m (place (record { 0 = 0 }) block 6)) (r .memory)) ∙ x in
       omega (arith, z, measured, not-measured)
@@ -125,8 +123,8 @@ module _ (chip : Chip) where
       let l = lent-on (turn 0) (withUnit sending) (omega arith) sending-wide in
       let r = d .each (chip .first) (turn 0) (withUnit sending) zeros area area s l in
       let x =
-          k .each (chip .first) 0 (withUnit sending) zeros area area block s l
-          (record { begun = refl; before = not-done; after = rw (r .memory) sending-done })
+      k .each (chip .first) 0 (withUnit sending) zeros area area block s l
+      (record { begun = refl; before = not-done; after = rw (r .memory) sending-done })
       in
       let z = sym (ap sentLength (r .answer)) ∙ x in
       omega (arith, z, sent-length)

@@ -2,7 +2,7 @@
 use mathlib.Core.Path.{_≡_, refl, sym, ap, _∙_}
 use mathlib.Core.Bool.{Bool, true, false, _&&_, cond}
 use mathlib.Core.List.{List, []}
-use Prim.Native.Nat.{ℕ, _+_, _*_, _/_, _%_, _^_, _≤_, _<_}
+use Prim.Native.Nat.{ℕ, _≤_, _<_}
 use native.Mathlib.Omega.{arith}
 use borrow.Author.Tests.{le-leb, leb-true, eq-eqb, eqb-true}
 use lib.Dec.{eqb, leb}
@@ -20,7 +20,7 @@ use Rattle.device.specs.declared.Device.{Device}
 use Rattle.device.specs.declared.Refusal.{Refusal}
 use Rattle.device.specs.declared.Refusal.the-variants as refusal
 use Rattle.device.specs.declared.Units.{Units}
-use Rattle.image.specs.Image.{imageOf, decodeOf, deviceAt}
+use Rattle.image.specs.Image.{decodeOf, deviceAt}
 use Rattle.image.specs.declared.Decoded.{Decoded}
 use Rattle.image.specs.declared.Decoded.the-variants as is
 use Rattle.image.proofs.Exact.{exact, foreign-exact, level}
@@ -34,7 +34,7 @@ use Rattle.chip.specs.Turn.{turnOf, turnBy, servedBy, commandTurn, receiveTurn,
 use Rattle.chip.specs.Call.{Call, reset, attention, arrive, turn, ran}
 use Rattle.lentoquist.specs.Calls.{Areas, Called, packed, areasRight, refusalOf, refused, refusedAnswer, keptBy, calledBy, renewed, attentionCall, arrivalCall, turnCall, resetCall}
 use Rattle.lentoquist.proofs.Laws.{bad-size, bad-area, too-long, no-image, accepted}
-use Rattle.traces.specs.Bytes.{called, renewedIn, number, sentLength, edge}
+use Rattle.traces.specs.Bytes.{called, number, sentLength, edge}
 use Rattle.kinds.specs.Chips.{Chip, ours, Lent, Meets}
 use Rattle.kinds.specs.Demands.{SizeOk, AreasOk, FrameOk, RecordOk, Lengths, ImageIn, Lowest, Applies, Untouched, Tabled, Demand1, Sound, lentOf, AsDefined, Demand2}
 use Rattle.kinds.proofs.Equal.{permits, ours-meets, as-called}
@@ -68,6 +68,7 @@ lowest-one S A F R refusal.Accepted refusal.Area p q = absurd ((q .1) (p .1))
 lowest-one S A F R refusal.Accepted refusal.Overlong p q = absurd ((q .2) (p .2))
 lowest-one S A F R refusal.Accepted refusal.Foreign p q = absurd ((q .3) (p .3))
 lowest-one S A F R refusal.Accepted refusal.Accepted p q = refl
+
 abbrev numbered : ℕ → Refusal
 numbered n =
     cond (eqb n 0) refusal.Accepted (cond (eqb n 1) refusal.Memory (cond (eqb n 2) refusal.Area (cond (eqb n 3) refusal.Overlong refusal.Foreign)))
@@ -170,11 +171,10 @@ lengths-of a e =
     record { holding = eqb-true _ _ (p .1); outgoing = eqb-true _ _ (p .2); kept = eqb-true _ _ (p .0) }
 
 module _ (c : Call) (a : Areas) (f : List ℕ) (go : World → Ran) (b : Bytes (a .kept)) (accept : (w : World) → go w .outcome .answer .number ≡ refusal.Accepted)
-  (size : SizeOk c a → Allowed (length (a .memory))) (size′ : Allowed (length (a .memory)) → SizeOk c a)
-  (areas : AreasOk c a → Lengths a) (areas′ : Lengths a → AreasOk c a)
-  (frame : FrameOk c → length f ≤ longest) (frame′ : length f ≤ longest → FrameOk c)
-  (image : RecordOk c a → ImageIn (a .kept)) (image′ : ImageIn (a .kept) → RecordOk c a) where
-
+    (size : SizeOk c a → Allowed (length (a .memory))) (size′ : Allowed (length (a .memory)) → SizeOk c a)
+    (areas : AreasOk c a → Lengths a) (areas′ : Lengths a → AreasOk c a)
+    (frame : FrameOk c → length f ≤ longest) (frame′ : length f ≤ longest → FrameOk c)
+    (image : RecordOk c a → ImageIn (a .kept)) (image′ : ImageIn (a .kept) → RecordOk c a) where
   abbrev said : Called
   said = calledBy (refusalOf a f) go a
 
@@ -183,13 +183,19 @@ module _ (c : Call) (a : Areas) (f : List ℕ) (go : World → Ran) (b : Bytes (
   on-image (is.Units u) e p q l =
       let k = exact (a .kept) (lengths-of a q .kept) b u e in
       let w = worldOf (deviceAt (a .kept) u) (a .memory) (a .holding) (a .outgoing) in
-      accepted-tabled c a said (go w) (accepted a f go u p q l e) (accept w)
-      (size′ (allowed _ p), areas′ (lengths-of a q), frame′ (leb-true _ _ l),
-        image′ (record { device = deviceAt (a .kept) u; wide = k .wide; range = k .range; image = k .same }))
+      accepted-tabled c a said (go w) (accepted a f go u p q l e) (accept w) (
+        size′ (allowed _ p),
+        areas′ (lengths-of a q),
+        frame′ (leb-true _ _ l),
+        image′ (record { device = deviceAt (a .kept) u; wide = k .wide; range = k .range; image = k .same }),
+      )
   on-image is.Foreign e p q l =
-      refused-tabled c a said refusal.Foreign (no-image a f go p q l e)
-      (size′ (allowed _ p), areas′ (lengths-of a q), frame′ (leb-true _ _ l),
-        λ i. foreign-exact (a .kept) e (image i .device) (image i .wide) (image i .range) (image i .image))
+      refused-tabled c a said refusal.Foreign (no-image a f go p q l e) (
+        size′ (allowed _ p),
+        areas′ (lengths-of a q),
+        frame′ (leb-true _ _ l),
+        λ i. foreign-exact (a .kept) e (image i .device) (image i .wide) (image i .range) (image i .image),
+      )
 
   on-frame : (x : Bool) → leb (length f) longest ≡ x → sizeAllowed (length (a .memory)) ≡ true → areasRight a ≡ true → Tabled c a said
   on-frame true l p q = on-image (decodeOf (a .kept)) refl p q l
@@ -273,7 +279,7 @@ module _ (chip : Chip) (one : Demand1 chip) (two : Demand2 chip) (s : chip .Inne
   on-state c a l n g f i =
       let m = a .memory in
       let k : Sound c (i .device) m (a .holding) (a .outgoing) =
-          record { size = n; holding = g .holding; outgoing = g .outgoing; frame = f; wide = i .wide; range = i .range }
+      record { size = n; holding = g .holding; outgoing = g .outgoing; frame = f; wide = i .wide; range = i .range }
       in
       let at = lentOf (i .device) m (a .holding) (a .outgoing) in
       let same : a ≡ at = rw (i .image) in

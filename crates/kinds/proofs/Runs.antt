@@ -1,38 +1,21 @@
 -- A list is done within 66 turns a command, while no frame is held: from the starting attention on, on states. Assumes nothing.
 use mathlib.Core.Path.{_≡_, refl, sym, ap, _∙_, subst}
-use mathlib.Core.Bool.{Bool, true, false, not, cond}
-use mathlib.Core.List.{List, [], _∷_, _++_}
-use Prim.Native.Nat.{ℕ, zero, suc, _+_, _*_, _≤_, _<_}
+use mathlib.Core.Bool.{Bool, true, false}
+use mathlib.Core.List.{List, [], _∷_}
+use Prim.Native.Nat.{ℕ, suc, _≤_, _<_}
 use native.Mathlib.Omega.{arith}
 use lib.ListN.{length}
-use Rattle.memory.specs.Address.{place, offsetAt}
-use Rattle.memory.specs.Memory.{digits, wordAt, Write, apply, wordTo}
 use Rattle.memory.specs.declared.Offset.{Offset}
 use Rattle.memory.specs.declared.RealAddress.{RealAddress}
-use Rattle.memory.proofs.Fields.{Apart, AllApart}
-use Rattle.memory.proofs.Laws.{length-apply}
-use Rattle.scb.specs.Control.{cuNext}
-use Rattle.scb.specs.Words as scb
-use Rattle.scb.specs.declared.RuState.{RuState}
-use Rattle.scb.specs.declared.RuState.the-variants as rus
-use Rattle.device.specs.State.{cuState, ruState, isActive, isHolding}
+use Rattle.device.specs.State.{cuState, isActive, isHolding}
 use Rattle.device.specs.declared.Cu.{Cu}
 use Rattle.device.specs.declared.Cu.the-variants as cu
-use Rattle.device.specs.declared.Device.{Device}
-use Rattle.device.specs.declared.Ru.{Ru}
 use Rattle.device.specs.declared.Ru.the-variants as ru
-use Rattle.device.specs.declared.Units.{Units}
 use Rattle.command.specs.Part.{partOf}
-use Rattle.command.specs.Service.{service, serviceBy}
-use Rattle.control.specs.Control.{cuGoes, cuWrites, ruGoes, ruWrites}
-use Rattle.control.specs.Obey.{ofScb, cuFirst, obeyCuc, obeyRuc}
-use Rattle.attention.specs.Attention as attentions
-use Rattle.attention.specs.Status.{statusTo}
-use Rattle.chip.specs.World.{World, Ran, worldOf, afterwards}
-use Rattle.chip.specs.Attention.{attentionOf}
+use Rattle.command.specs.Service.{service}
+use Rattle.control.specs.Obey.{ofScb}
+use Rattle.chip.specs.World.{World, Ran, afterwards}
 use Rattle.chip.specs.Turn.{turnBy, servedBy, concluded, commandUnits, commandTurn, turnOf}
-use Rattle.kinds.specs.Lists.{Listed, All, Starting}
-use Rattle.kinds.proofs.Service.{word-kept, words-apart, ScbApart}
 use Rattle.kinds.proofs.Step.{AtBlock, rankOf, At, Stopped, Next, goes, stopped, service-next}
 
 -- ---- turns, one after the other

@@ -1,21 +1,16 @@
 -- One service of the command unit at a block of a list: where it writes, and where the list stands afterwards. Assumes nothing.
-use mathlib.Core.Path.{_≡_, refl, sym, ap, _∙_}
-use mathlib.Core.Bool.{Bool, true, false, not, cond, _||_}
+use mathlib.Core.Path.{_≡_, sym, ap}
 use mathlib.Core.List.{List, [], _∷_, _++_}
-use Prim.Native.Nat.{ℕ, zero, suc, _+_, _-_, _*_, _/_, _%_, _^_, _≤_, _<_}
+use Prim.Native.Nat.{ℕ, _+_, _-_, _≤_}
 use native.Mathlib.Omega.{arith}
-use borrow.Author.Tests.{leb-true}
-use lib.Dec.{eqb, leb}
 use lib.ListN.{length}
-use Rattle.memory.specs.Address.{place, offsetAt, isNone}
-use Rattle.memory.specs.Memory.{bytesAt, value, digits, fieldAt, wordAt, Write, apply, wordTo, putBytes}
+use Rattle.memory.specs.Address.{place}
+use Rattle.memory.specs.Memory.{value, fieldAt, wordAt, Write, apply}
 use Rattle.memory.specs.declared.Offset.{Offset}
 use Rattle.memory.specs.declared.RealAddress.{RealAddress}
-use Rattle.memory.proofs.Fields.{Apart, AllApart, apply-other, word-same, length-digits}
-use Rattle.memory.proofs.Laws.{length-apply, apply-append}
+use Rattle.memory.proofs.Fields.{Apart, AllApart, apply-other}
 use Rattle.memory.proofs.Places.{place-up, place-down}
-use Rattle.scb.specs.Words.{field, bit}
-use Rattle.kinds.specs.Lists.{stops, Listed, All, BlocksApart, isDone}
+use Rattle.kinds.specs.Lists.{Listed, All, isDone}
 
 -- ---- places
 
@@ -135,9 +130,10 @@ module _ (base : RealAddress) (b : Offset) (scb : ℕ) (ws : List Write) (m : Li
   pub done-kept : (fs : List Offset) → All (λ f. Apart n (place base b 0) 8 (place base f 0) 8) fs → All (ScbApart n base scb) fs → All (isDone base m) fs
       → All (isDone base (apply ws m)) fs
   done-kept [] p q d = tt
-  done-kept (f ∷ fs) p q d =
-      (rw (own-kept base b scb (place base f 0) ws m (other-word n base scb b f 0 (omega arith) (p .0) (q .0)) own) (d .0),
-        done-kept fs (p .1) (q .1) (d .1))
+  done-kept (f ∷ fs) p q d = (
+    rw (own-kept base b scb (place base f 0) ws m (other-word n base scb b f 0 (omega arith) (p .0) (q .0)) own) (d .0),
+    done-kept fs (p .1) (q .1) (d .1),
+  )
 
   -- the list from the block itself on
   pub own-listed : (cs : List Offset) → 8 ≤ n → ScbApart n base scb b → All (λ c. Apart n (place base b 0) 8 (place base c 0) 8) cs

@@ -1,19 +1,18 @@
 -- The starting attention: the command unit is before the first block, the list stands as it stood, and no frame is held. Assumes nothing.
 use mathlib.Core.Path.{_≡_, refl, sym, ap, _∙_, subst}
-use mathlib.Core.Bool.{Bool, true, false, not, cond}
+use mathlib.Core.Bool.{Bool, true, false}
 use mathlib.Core.List.{List, [], _∷_, _++_}
-use Prim.Native.Nat.{ℕ, zero, suc, _+_, _*_, _≤_, _<_}
+use Prim.Native.Nat.{ℕ, _+_, _*_, _≤_}
 use native.Mathlib.Omega.{arith}
-use lib.Dec.{eqb}
 use lib.ListN.{length}
 use Rattle.memory.specs.Address.{place, offsetAt}
-use Rattle.memory.specs.Memory.{digits, wordAt, Write, apply, wordTo}
+use Rattle.memory.specs.Memory.{digits, wordAt, Write, apply}
 use Rattle.memory.specs.declared.Offset.{Offset}
 use Rattle.memory.specs.declared.RealAddress.{RealAddress}
 use Rattle.memory.proofs.Fields.{Apart, AllApart}
 use Rattle.memory.proofs.Laws.{length-apply}
 use Rattle.scb.specs.Control.{cuNext, ruNext}
-use Rattle.scb.specs.Words.{field, cuc, ruc, resets, commandAt, cblAt}
+use Rattle.scb.specs.Words.{cuc, ruc, resets, commandAt, cblAt}
 use Rattle.scb.specs.declared.RuState.{RuState}
 use Rattle.scb.specs.declared.RuState.the-variants as rus
 use Rattle.device.specs.State.{cuState, ruState, isActive, isHolding}
@@ -27,7 +26,7 @@ use Rattle.control.specs.Control.{cuGoes, cuWrites, ruGoes, ruWrites}
 use Rattle.control.specs.Obey.{ofScb, cuFirst, obeyCuc, ruFirst, obeyRuc}
 use Rattle.attention.specs.Attention.{Attended, attentionBy, attention, attend, attendBy, obey, unitsAfter, settledWrites}
 use Rattle.attention.specs.Status.{statusTo}
-use Rattle.chip.specs.World.{World, Ran, worldOf, writing, afterwards}
+use Rattle.chip.specs.World.{World, writing, afterwards}
 use Rattle.chip.specs.Attention.{attentionOf}
 use Rattle.kinds.specs.Lists.{Listed, All, BlocksApart, Starting}
 use Rattle.kinds.proofs.Service.{word-kept, ScbApart, scb-word, apart-within, place-add}
@@ -181,7 +180,7 @@ module _ (d : Device) (m : List ℕ) (b : Offset) (bs : List Offset) (s : Starti
       ap (λ (ws : List Write). (ws ++ obeyRuc (d .units) command (apply (obeyCuc (d .units) command m .writes) m) .writes)
       ++ settledWrites (obeyed .outcome .device .units))
       (start-writes (d .units .cu) (cuc command) (d .units .base) (s .start) (s .idle))
-      ∙ ap (λ (ws : List Write). ws ++ settledWrites (obeyed .outcome .device .units)) 
+      ∙ ap (λ (ws : List Write). ws ++ settledWrites (obeyed .outcome .device .units))
       (free-writes (ruNext (ruc command) (ruState (d .units .ru))) (d .units .base) (d .units .ru) (s .free))
 
   obeyed-at : At (length m) (d .units .base) (ofScb (d .units) 0) (b ∷ bs) (apply (obeyed .writes) m) (obeyed .outcome .device .units .cu) [] b bs

@@ -1,25 +1,23 @@
 -- The command unit at a list: each service takes it a step on, and the last one stops it. Assumes nothing.
 use mathlib.Core.Path.{_≡_, refl, sym, ap, _∙_}
-use mathlib.Core.Bool.{Bool, true, false, not, cond, _||_}
+use mathlib.Core.Bool.{Bool, true, false, cond, _||_}
 use mathlib.Core.List.{List, [], _∷_, _++_}
 use mathlib.Core.Logic.{_⊎_, inl, inr, ⊎-elim}
-use Prim.Native.Nat.{ℕ, zero, suc, _+_, _-_, _*_, _/_, _%_, _^_, _≤_, _<_}
+use Prim.Native.Nat.{ℕ, suc, _+_, _-_, _*_, _/_, _%_, _^_, _≤_, _<_}
 use native.Mathlib.Omega.{arith}
-use borrow.Author.Tests.{leb-true, le-leb, eq-eqb}
+use borrow.Author.Tests.{le-leb, eq-eqb}
 use lib.Dec.{eqb, leb}
 use lib.ListN.{length}
 use Rattle.memory.specs.Address.{place, offsetAt, isNone}
-use Rattle.memory.specs.Memory.{value, digits, fieldAt, wordAt, Write, apply, wordTo, putBytes}
+use Rattle.memory.specs.Memory.{digits, wordAt, Write, apply, wordTo}
 use Rattle.memory.specs.declared.Offset.{Offset}
 use Rattle.memory.specs.declared.RealAddress.{RealAddress}
-use Rattle.memory.proofs.Fields.{Apart, AllApart, word-same, length-digits}
+use Rattle.memory.proofs.Fields.{Apart, AllApart, word-same}
 use Rattle.memory.proofs.Laws.{length-apply, apply-append, below-or-not}
-use Rattle.scb.specs.Words.{field, bit, anyOf, noEvents, statusWord, cuNumber}
-use Rattle.scb.specs.declared.Events.{Events}
+use Rattle.scb.specs.Words.{field, bit, anyOf, statusWord, cuNumber}
 use Rattle.scb.proofs.Fields.{field-below}
 use Rattle.scb.proofs.Status.{status-below, status-cus}
-use Rattle.device.specs.Limits.{header}
-use Rattle.device.specs.Numbers.{transmit, actionOf}
+use Rattle.device.specs.Numbers.{transmit}
 use Rattle.device.specs.State.{cuState, ruState, isActive}
 use Rattle.device.specs.declared.Action.{Action}
 use Rattle.device.specs.declared.Action.the-variants as action
@@ -28,17 +26,17 @@ use Rattle.device.specs.declared.Cu.{Cu}
 use Rattle.device.specs.declared.Cu.the-variants as cu
 use Rattle.device.specs.declared.Units.{Units}
 use Rattle.device.specs.declared.Walk.{Walk}
-use Rattle.actions.specs.Actions.{Acted, done, failed, setting, act, reported, isSent, sent, notSent, acceptable, byteOf, groups}
+use Rattle.actions.specs.Actions.{Acted, done, failed, act, reported, isSent, sent, notSent, acceptable, byteOf, groups}
 use Rattle.actions.specs.Setup.{Setup}
-use Rattle.command.specs.Part.{Part, Service}
+use Rattle.command.specs.Part.{Part}
 use Rattle.command.specs.Begin.{cmd, begunBy, toFirst, toBegun, begin}
 use Rattle.command.specs.Buffer.{descriptorAt, afterBuffer, past, isLast, fits, buffer}
-use Rattle.command.specs.End.{afterEnd, raisedBy, statusTo, results, nextAfter, end}
+use Rattle.command.specs.End.{afterEnd, raisedBy, statusTo, nextAfter, end}
 use Rattle.command.specs.Service.{serviceBy}
 use Rattle.attention.specs.Status as status
 use Rattle.chip.specs.Turn.{raisedIn, statusBy, written}
 use Rattle.kinds.specs.Lists.{stops, Listed, All, BlocksApart, isDone}
-use Rattle.kinds.proofs.Service.{Spot, atStatus, atWord, atScb, Own, AllOwn, own-append, own-kept, word-kept, ScbApart, own-command, own-link, apart-turn, done-kept, own-listed, rest-listed}
+use Rattle.kinds.proofs.Service.{atStatus, atWord, atScb, Own, AllOwn, own-append, own-kept, word-kept, ScbApart, own-command, own-link, apart-turn, done-kept, own-listed, rest-listed}
 
 never : _≡_ {A = Bool} false true → ⊥
 never e = let z : _≡_ {A = ℕ} 0 1 = cc in omega arith
@@ -213,7 +211,7 @@ high-c : (v r : ℕ) → (v ≡ 0xA000) ⊎ (v ≡ 0x8000) → r < 2048 → bit 
 unfolding field
 high-c v r h l =
     let z : (v + r) % 65536 / 2 ^ 15 % 2 ^ 1 ≡ 1 =
-        ⊎-elim (λ (e : v ≡ 0xA000). omega (arith, e, l)) (λ (e : v ≡ 0x8000). omega (arith, e, l)) h
+    ⊎-elim (λ (e : v ≡ 0xA000). omega (arith, e, l)) (λ (e : v ≡ 0x8000). omega (arith, e, l)) h
     in
     eq-eqb (field ((v + r) % 65536) 15 1) 1 z
 
@@ -344,9 +342,8 @@ scb-status : (n : ℕ) (base : RealAddress) (scb : ℕ) (b : Offset) → ScbApar
 scb-status n base scb b h x p y q e = h x (omega arith) y (omega arith) e
 
 module _ (n : ℕ) (p : Part) (scb : ℕ) (whole : List Offset) (m : List ℕ) (u : Cu) (fs : List Offset) (b : Offset) (room : 8 ≤ n)
-  (g : Begun) (a : Acted) (x : Units) (to : place (x .base) (x .scb) 0 ≡ scb) (unit : x .cu ≡ end p g a m .part .unit)
-  (k : BegunAt (p .base) m g b) (y : ActedAt (p .base) b scb a) where
-
+    (g : Begun) (a : Acted) (x : Units) (to : place (x .base) (x .scb) 0 ≡ scb) (unit : x .cu ≡ end p g a m .part .unit)
+    (k : BegunAt (p .base) m g b) (y : ActedAt (p .base) b scb a) where
   abbrev own-writes : List Write
   own-writes = a .writes ++ (statusTo (p .base) g (a .status) ∷ [])
 
@@ -380,7 +377,7 @@ module _ (n : ℕ) (p : Part) (scb : ℕ) (whole : List Offset) (m : List ℕ) (
   end-unit bs s =
       let e = link-kept n (p .base) scb whole m u fs b bs room s own-writes writes-own in
       let f : apply (statusTo (p .base) g (a .status) ∷ []) (apply (a .writes) m) ≡ apply own-writes m =
-          sym (apply-append (a .writes) (statusTo (p .base) g (a .status) ∷ []) m)
+      sym (apply-append (a .writes) (statusTo (p .base) g (a .status) ∷ []) m)
       in
       ap (λ (v : ℕ). afterEnd (g .el) (g .suspend || g .pausing) (record { 0 = v }))
       (ap (λ (q : List ℕ). wordAt q (place (p .base) (g .block) 4)) f
@@ -403,13 +400,13 @@ module _ (n : ℕ) (p : Part) (scb : ℕ) (whole : List Offset) (m : List ℕ) (
       let next = end p g a m .part .unit in
       let link = offsetAt m (place (p .base) b 4) in
       let off : isActive (cuState next) ≡ false =
-          rw (end-unit [] s) (after-stops (g .el) (g .suspend || g .pausing) link (k .flags ∙ s .listed))
+      rw (end-unit [] s) (after-stops (g .el) (g .suspend || g .pausing) link (k .flags ∙ s .listed))
       in
       ended n (p .base) scb whole m u fs b room s all-writes next 1 end-own (end-done (s .size) (s .scb-rest .0)) off (end-said (s .size) off)
   end-next (c ∷ cs) s =
       let e : end p g a m .part .unit ≡ cu.Waiting c =
-          end-unit (c ∷ cs) s ∙ after-goes (g .el) (g .suspend || g .pausing) (offsetAt m (place (p .base) b 4)) (k .flags ∙ s .listed .0)
-          ∙ ap cu.Waiting (s .listed .1)
+      end-unit (c ∷ cs) s ∙ after-goes (g .el) (g .suspend || g .pausing) (offsetAt m (place (p .base) b 4)) (k .flags ∙ s .listed .0)
+      ∙ ap cu.Waiting (s .listed .1)
       in
       moved n (p .base) scb whole m u fs b room c cs s all-writes (end p g a m .part .unit) end-own (end-done (s .size) (s .scb-rest .0)) e
 
@@ -424,10 +421,10 @@ module _ (n : ℕ) (p : Part) (scb : ℕ) (whole : List Offset) (m : List ℕ) (
       let ws = wordTo (place (p .base) o 0) 0x4000 ∷ [] in
       let own : AllOwn (p .base) b scb ws = (record { spot = atStatus (ap (λ (c : Offset). place (p .base) c 0) (s .unit)); two = refl }, tt) in
       let same : word ≡ wordAt (apply ws m) (place (p .base) b 2) =
-          ap (λ (c : Offset). wordAt m (place (p .base) c 2)) (s .unit) ∙ sym (command-kept n (p .base) scb whole m (cu.Waiting o) fs b bs room s ws own)
+      ap (λ (c : Offset). wordAt m (place (p .base) c 2)) (s .unit) ∙ sym (command-kept n (p .base) scb whole m (cu.Waiting o) fs b bs room s ws own)
       in
       let k : BegunAt (p .base) (apply ws m) (begunBy o word) b =
-          record { block = begun-block o word ∙ s .unit; flags = begun-flags o word ∙ ap stops same }
+      record { block = begun-block o word ∙ s .unit; flags = begun-flags o word ∙ ap stops same }
       in
       let on = begin-onwards (eqb (cmd word) transmit) p (begunBy o word) word m (apply ws m) b (length bs) k in
       goes fs b bs (stays n (p .base) scb whole m (cu.Waiting o) fs b bs room s ws (begin p o m .part .unit) own (on .unit)) (on .less)
@@ -439,8 +436,8 @@ module _ (n : ℕ) (p : Part) (scb : ℕ) (whole : List Offset) (m : List ℕ) (
   buffer-next g w s =
       let d = descriptorAt (p .base) (w .next) m in
       let on =
-          buffer-onwards (p .base) m g b (length bs) (s .unit .0) (fits d w) (d .eof) (isNone (d .next)) (isLast (w .used)) (past d w) (w .used) refl
-          (s .unit .1) refl
+      buffer-onwards (p .base) m g b (length bs) (s .unit .0) (fits d w) (d .eof) (isNone (d .next)) (isLast (w .used)) (past d w) (w .used) refl
+      (s .unit .1) refl
       in
       goes fs b bs (stays n (p .base) scb whole m (cu.Sending g w) fs b bs room s [] (buffer p g w m .part .unit) tt (on .unit)) (on .less)
 

@@ -1,13 +1,11 @@
 -- What bytes show of demand 3, of every chip that has demand 2, since every state that a call leaves is in range. Assumes nothing.
 use mathlib.Core.Path.{_≡_, refl, sym, ap, ap₂, _∙_}
-use mathlib.Core.Bool.{true, false}
+use mathlib.Core.Bool.{false}
 use mathlib.Core.List.{List, [], _∷_, map}
-use Prim.Native.Nat.{ℕ, _+_, _*_, _≤_, _<_}
+use Prim.Native.Nat.{ℕ}
 use native.Mathlib.Omega.{arith}
-use lib.ListN.{length}
 use Rattle.memory.specs.Memory.{wordAt}
-use Rattle.memory.specs.declared.Offset.{Offset}
-use Rattle.scb.specs.Words.{field, cuNumber}
+use Rattle.scb.specs.Words.{cuNumber}
 use Rattle.scb.specs.declared.CuState.{CuState}
 use Rattle.scb.specs.declared.CuState.the-variants as cus
 use Rattle.device.specs.Numbers.{counterPlace}
@@ -23,7 +21,7 @@ use Rattle.lentoquist.specs.Calls.{Areas, areasOf, packed}
 use Rattle.traces.specs.Bytes.{edge}
 use Rattle.traces.specs.Event.{Event, call, host}
 use Rattle.kinds.specs.Chips.{Chip, ours, Given, Lent, Meets, run, answersOf, ranThrough}
-use Rattle.kinds.specs.Demands.{FrameOk, Sound, lentOf, Demand2}
+use Rattle.kinds.specs.Demands.{FrameOk, Sound, Demand2}
 use Rattle.kinds.specs.Closed.{Right, Closed}
 use Rattle.kinds.specs.Lists.{turnsOf, AllReports, Hosted, Fair, shown, DoneAsIn2, Demand3}
 use Rattle.kinds.specs.Kinds.{InventedAlong, anotherCount, anotherEdges, InventsAlong}

@@ -1,13 +1,12 @@
 -- A list of two NOPs: a chip that serves the first command only lacks demand 3. Assumes nothing.
-use mathlib.Core.Path.{_≡_, refl, sym, ap, _∙_}
-use mathlib.Core.Bool.{Bool, true, false, _||_}
+use mathlib.Core.Path.{_≡_, refl, ap, _∙_}
+use mathlib.Core.Bool.{true, false}
 use mathlib.Core.List.{List, [], _∷_}
 use Prim.Native.Nat.{ℕ, zero, suc, _+_, _*_, _≤_, _<_}
 use native.Mathlib.Omega.{arith}
 use lib.ListN.{length, replicate, length-replicate}
-use Rattle.memory.specs.Address.{place, offsetAt}
+use Rattle.memory.specs.Address.{place}
 use Rattle.memory.specs.Memory.{byteAt, putByte, bytesAt, putBytes, value, digits, fieldAt, wordAt, Write, apply, wordTo}
-use Rattle.memory.specs.Size.{Allowed}
 use Rattle.memory.specs.declared.Offset.{Offset}
 use Rattle.memory.proofs.Bytes.{Bytes, apply-bytes, digits-bytes}
 use Rattle.memory.proofs.Fields.{Apart, up}
@@ -228,36 +227,36 @@ module _ (chip : Chip) (q : Demand2 chip) where
       let r = q .each s c d m area area k l in
       ap (run chip (chip .next s c (lentOf d m area area)) cs)
       (all-areas (chip .calls s c (lentOf d m area area) .areas) m′ area area (imageOf d′) (r .memory ∙ g .memory) (r .holding ∙ g .holding)
-        (r .outgoing ∙ g .outgoing) (r .kept ∙ ap imageOf (g .device)))
+      (r .outgoing ∙ g .outgoing) (r .kept ∙ ap imageOf (g .device)))
 
   first-three : (s : chip .Inner) → wordAt (started chip s (turnsOf (0 ∷ 0 ∷ 0 ∷ [])) (lentOf idle two area area) .memory) (place (record { 0 = 0 }) other 0) ≡ 0x4000
   first-three s =
       let e1 =
-          leads s attention (turnsOf (0 ∷ 0 ∷ 0 ∷ [])) idle two (withUnit (cu.Waiting one)) m1 starts
-          (sound-two attention idle two tt two-size idle-wide idle-range) (lent-two attention idle two tt two-bytes idle-wide)
+      leads s attention (turnsOf (0 ∷ 0 ∷ 0 ∷ [])) idle two (withUnit (cu.Waiting one)) m1 starts
+      (sound-two attention idle two tt two-size idle-wide idle-range) (lent-two attention idle two tt two-bytes idle-wide)
       in
       let s1 = chip .next s attention (lentOf idle two area area) in
       let w1 = waiting-wide one (omega arith) in
       let e2 =
-          leads s1 (turn 0) (turnsOf (0 ∷ 0 ∷ [])) (withUnit (cu.Waiting one)) m1 (withUnit nop) m2 begins
-          (sound-two (turn 0) (withUnit (cu.Waiting one)) m1 tt size1 w1 (waiting-range one))
-          (lent-two (turn 0) (withUnit (cu.Waiting one)) m1 (omega arith) bytes1 w1)
+      leads s1 (turn 0) (turnsOf (0 ∷ 0 ∷ [])) (withUnit (cu.Waiting one)) m1 (withUnit nop) m2 begins
+      (sound-two (turn 0) (withUnit (cu.Waiting one)) m1 tt size1 w1 (waiting-range one))
+      (lent-two (turn 0) (withUnit (cu.Waiting one)) m1 (omega arith) bytes1 w1)
       in
       let s2 = chip .next s1 (turn 0) (lentOf (withUnit (cu.Waiting one)) m1 area area) in
       let e3 =
-          leads s2 (turn 0) (turnsOf (0 ∷ [])) (withUnit nop) m2 (withUnit (cu.Waiting other)) m3 ends
-          (sound-two (turn 0) (withUnit nop) m2 tt size2 nop-wide nop-range)
-          (lent-two (turn 0) (withUnit nop) m2 (omega arith) bytes2 nop-wide)
+      leads s2 (turn 0) (turnsOf (0 ∷ [])) (withUnit nop) m2 (withUnit (cu.Waiting other)) m3 ends
+      (sound-two (turn 0) (withUnit nop) m2 tt size2 nop-wide nop-range)
+      (lent-two (turn 0) (withUnit nop) m2 (omega arith) bytes2 nop-wide)
       in
       let s3 = chip .next s2 (turn 0) (lentOf (withUnit nop) m2 area area) in
       let w3 = waiting-wide other (omega arith) in
       let last =
-          q .each s3 (turn 0) (withUnit (cu.Waiting other)) m3 area area
-          (sound-two (turn 0) (withUnit (cu.Waiting other)) m3 tt size3 w3 (waiting-range other))
-          (lent-two (turn 0) (withUnit (cu.Waiting other)) m3 (omega arith) bytes3 w3)
+      q .each s3 (turn 0) (withUnit (cu.Waiting other)) m3 area area
+      (sound-two (turn 0) (withUnit (cu.Waiting other)) m3 tt size3 w3 (waiting-range other))
+      (lent-two (turn 0) (withUnit (cu.Waiting other)) m3 (omega arith) bytes3 w3)
       in
       let e : started chip s (turnsOf (0 ∷ 0 ∷ 0 ∷ [])) (lentOf idle two area area) .memory ≡ m4 =
-          ap (λ (a : Areas). a .memory) (e1 ∙ e2 ∙ e3) ∙ last .memory ∙ goes-on
+      ap (λ (a : Areas). a .memory) (e1 ∙ e2 ∙ e3) ∙ last .memory ∙ goes-on
       in
       ap (λ (m : List ℕ). wordAt m (place (record { 0 = 0 }) other 0)) e ∙ begun-other
 
@@ -265,9 +264,9 @@ module _ (chip : Chip) where
   pub first-only-lacks-2 : FirstOnly chip → Demand2 chip → ⊥
   first-only-lacks-2 k d =
       let same =
-          k .each (chip .first) idle two area area one (other ∷ []) (0 ∷ 0 ∷ 0 ∷ [])
-          (sound-two attention idle two tt two-size idle-wide idle-range)
-          (lent-two attention idle two tt two-bytes idle-wide) starting (zero-reports 3) .0
+      k .each (chip .first) idle two area area one (other ∷ []) (0 ∷ 0 ∷ 0 ∷ [])
+      (sound-two attention idle two tt two-size idle-wide idle-range)
+      (lent-two attention idle two tt two-bytes idle-wide) starting (zero-reports 3) .0
       in
       omega (arith, same, other-clear, first-three chip d (chip .first))
 

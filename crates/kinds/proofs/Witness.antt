@@ -1,8 +1,8 @@
 -- Calls that tell a wrong chip from a right one: 8,192 bytes of memory, all zero, and what the definitions make of it. Assumes nothing.
 use mathlib.Core.Path.{_≡_, refl}
-use mathlib.Core.Bool.{Bool, true, false, cond, _&&_}
-use mathlib.Core.List.{List, [], _∷_, _++_}
-use Prim.Native.Nat.{ℕ, zero, suc, _+_, _<_, _≤_}
+use mathlib.Core.Bool.{true, false}
+use mathlib.Core.List.{List}
+use Prim.Native.Nat.{ℕ, zero, suc, _<_}
 use native.Mathlib.Omega.{arith}
 use lib.ListN.{length, getD, replicate, length-replicate}
 use Rattle.memory.specs.Address.{place, beyond}
@@ -24,7 +24,7 @@ use Rattle.words.specs.Places.{bytesFrom}
 use Rattle.phases.specs.Words.{numberOf, cuWord, ruWord, ruRest, WordWide}
 use Rattle.image.specs.Ranges.{unitsFit, cuFits, ruFits, initialisedOrFresh, inRange, Wide}
 use Rattle.image.specs.Image.{front, tagBytes, baseBytes, wordBytes, headBytes, unitBytes, addressBytes, imageOf}
-use Rattle.image.proofs.Exact.{fresh-range, fresh-wide, image-bytes}
+use Rattle.image.proofs.Exact.{fresh-wide, image-bytes}
 use Rattle.actions.specs.Actions.{act, reported, isSent, sent}
 use Rattle.command.specs.End.{nextAfter, end}
 use Rattle.command.specs.Service.{service}
