@@ -10,3 +10,4 @@ pub mod Step
 pub mod Runs
 pub mod Start
 pub mod Third
+pub mod Inspected

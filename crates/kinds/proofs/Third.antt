@@ -129,7 +129,7 @@ module _ (closed : Closed) (chip : Chip) (q : Demand2 chip) where
               done = rw same (over .done);
               inactive = λ z. not-active (cuState (runs rs v .device .units .cu)) (over .off) (sym (over .said) ∙ rw same at z);
             };
-        as-in-2 = λ s d m h out b bs es k l start f. along (call attention ∷ es) s (worldOf d m h out) (tt, tt, f) (sound-right attention (worldOf d m h out) k l);
+        as-in-2 = λ s d m h out b bs es k l start f c. along (call attention ∷ es) s (worldOf d m h out) (tt, tt, f) (sound-right attention (worldOf d m h out) k l);
       }
 
 pub meets-demand3 : Closed → (chip : Chip) → Meets chip → Demand3 chip
@@ -148,5 +148,5 @@ module _ (chip : Chip) where
 
   pub invents-along-lacks-3 : InventsAlong chip → Demand3 chip → ⊥
   invents-along-lacks-3 k d =
-      let same = d .as-in-2 (k .inner) (k .device) (k .memory) (k .holding) (k .outgoing) (k .first) (k .rest) (k .events) (k .sound) (k .lent) (k .start) (k .fair) in
+      let same = d .as-in-2 (k .inner) (k .device) (k .memory) (k .holding) (k .outgoing) (k .first) (k .rest) (k .events) (k .sound) (k .lent) (k .start) (k .fair) (k .calm) in
       none-along (k .device) _ _ _ _ (same .areas) (same .answers) (k .invented)

@@ -1,4 +1,4 @@
--- Demands 1 and 2, and what bytes show of demand 3, of an arbitrary chip. Assumes nothing.
+-- Demands 1 and 2, of an arbitrary chip. Assumes nothing.
 use mathlib.Core.Path.{_≡_}
 use mathlib.Core.Bool.{true, not}
 use mathlib.Core.List.{List}

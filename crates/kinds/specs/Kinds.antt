@@ -27,8 +27,8 @@ use Rattle.lentoquist.specs.Calls.{Areas, Called, packed}
 use Rattle.traces.specs.Bytes.{number, sentLength, edge}
 use Rattle.traces.specs.Event.{Event, call}
 use Rattle.kinds.specs.Chips.{Chip, Lent, answersOf, ranThrough, answersBy}
-use Rattle.kinds.specs.Demands.{Sound, lentOf}
-use Rattle.kinds.specs.Lists.{All, Starting, turnsOf, AllReports, started, Fair}
+use Rattle.kinds.specs.Demands.{Demand1, Sound, lentOf, Demand2}
+use Rattle.kinds.specs.Lists.{All, Starting, turnsOf, AllReports, started, Fair, Calm, Demand3}
 
 -- at every call that is not to be refused, something is so of what is lent and what is left; a chip of which it is so at every call is of the kind too
 abbrev pub AtAccepted : (chip : Chip) → (Areas → Called → Type 0) → Type 0
@@ -126,7 +126,8 @@ pub record Invents (chip : Chip) : Type 0 where
   pub lent : Lent call (lentOf device memory holding outgoing)
   pub invented : Invented device (ran call (worldOf device memory holding outgoing)) (chip .calls inner call (lentOf device memory holding outgoing))
 
--- the same after the start of a list, whatever happens then: after it a counter, or along it an edge, is not what the definitions leave
+-- the same after the start of a list, amid turns, arriving frames and host writes: after them a counter, or along them an edge, is not what the
+-- definitions leave
 pub data InventedAlong (d : Device) (after : Areas) (answers : List ℕ) (w : World) (said : List ℕ) : Type 0 where
   anotherCount : (k : Counter) → isCounter k ≡ true
       → (wordAt (after .memory) (ofScb (d .units) (counterPlace k)) ≡ wordAt (w .memory) (ofScb (d .units) (counterPlace k)) → ⊥)
@@ -146,7 +147,29 @@ pub record InventsAlong (chip : Chip) : Type 0 where
   pub lent : Lent attention (lentOf device memory holding outgoing)
   pub start : Starting device memory first rest
   pub fair : Fair events
+  pub calm : Calm events
   pub invented : InventedAlong device (started chip inner events (lentOf device memory holding outgoing))
       (answersOf chip inner (call attention ∷ events) (lentOf device memory holding outgoing))
       (ranThrough (call attention ∷ events) (worldOf device memory holding outgoing))
       (answersBy (call attention ∷ events) (worldOf device memory holding outgoing))
+
+-- ---- the list: a chip of any of these kinds
+
+pub data Wrong (chip : Chip) : Type 0 where
+  refuses : RefusesAll chip → Wrong chip
+  constant : OneAnswer chip → Wrong chip
+  untouching : MemoryAsLent chip → Wrong chip
+  marking : MarksOnly chip → Wrong chip
+  firstOnly : FirstOnly chip → Wrong chip
+  inventing : Invents chip → Wrong chip
+  inventingAlong : InventsAlong chip → Wrong chip
+
+-- the demand that document 01 names with each
+abbrev pub LacksNamed : (chip : Chip) → Wrong chip → Type 0
+LacksNamed chip (refuses k) = Demand1 chip → ⊥
+LacksNamed chip (constant k) = Demand2 chip → ⊥
+LacksNamed chip (untouching k) = Demand2 chip → ⊥
+LacksNamed chip (marking k) = Demand2 chip → ⊥
+LacksNamed chip (firstOnly k) = (Demand2 chip → ⊥) × (Demand3 chip → ⊥)
+LacksNamed chip (inventing k) = Demand2 chip → ⊥
+LacksNamed chip (inventingAlong k) = Demand3 chip → ⊥

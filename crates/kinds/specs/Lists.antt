@@ -22,7 +22,7 @@ use Rattle.control.specs.Obey.{ofScb}
 use Rattle.chip.specs.World.{World, worldOf}
 use Rattle.chip.specs.Call.{attention, turn}
 use Rattle.lentoquist.specs.Calls.{Areas}
-use Rattle.traces.specs.Event.{Event, call, host}
+use Rattle.traces.specs.Event.{Event, call, host, isCalm}
 use Rattle.kinds.specs.Chips.{Chip, Given, Lent, run, answersOf, ranThrough, answersBy}
 use Rattle.kinds.specs.Demands.{FrameOk, Sound, lentOf}
 
@@ -88,6 +88,11 @@ Fair [] = Unit {0}
 Fair (call c ∷ es) = Given c × FrameOk c × Fair es
 Fair (host m h out ∷ es) = Hosted m h out × Fair es
 
+-- neither attentions nor resets
+abbrev pub Calm : List Event → Type 0
+Calm [] = Unit {0}
+Calm (e ∷ es) = (isCalm e ≡ true) × Calm es
+
 -- a block has C
 abbrev pub isDone : RealAddress → List ℕ → Offset → Type 0
 isDone base m b = bit (wordAt m (place base b statusAt)) 15 ≡ true
@@ -114,7 +119,7 @@ pub record Demand3 (chip : Chip) : Type 0 where
   pub within : (s : chip .Inner) (d : Device) (m h out : List ℕ) (b : Offset) (bs : List Offset) (reports : List ℕ)
       → Sound attention d m h out → Lent attention (lentOf d m h out) → Starting d m b bs → AllReports reports
       → 132 * length (b ∷ bs) ≤ length reports → Completed d (b ∷ bs) (started chip s (turnsOf reports) (lentOf d m h out) .memory)
-  -- and at every moment, whatever happens after the start
+  -- and at every moment after the start: turns, frames that arrive, whatever the host writes
   pub as-in-2 : (s : chip .Inner) (d : Device) (m h out : List ℕ) (b : Offset) (bs : List Offset) (es : List Event)
-      → Sound attention d m h out → Lent attention (lentOf d m h out) → Starting d m b bs → Fair es
+      → Sound attention d m h out → Lent attention (lentOf d m h out) → Starting d m b bs → Fair es → Calm es
       → DoneAsIn2 chip s (call attention ∷ es) (worldOf d m h out)
