@@ -11,3 +11,4 @@ pub mod Runs
 pub mod Start
 pub mod Third
 pub mod Inspected
+pub mod Stubs

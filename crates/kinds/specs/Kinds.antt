@@ -153,13 +153,16 @@ pub record InventsAlong (chip : Chip) : Type 0 where
       (ranThrough (call attention ∷ events) (worldOf device memory holding outgoing))
       (answersBy (call attention ∷ events) (worldOf device memory holding outgoing))
 
--- ---- the list: a chip of any of these kinds
+-- ---- the list: a chip of any of these kinds; of one that marks commands complete, a third is enough
 
 pub data Wrong (chip : Chip) : Type 0 where
   refuses : RefusesAll chip → Wrong chip
   constant : OneAnswer chip → Wrong chip
   untouching : MemoryAsLent chip → Wrong chip
   marking : MarksOnly chip → Wrong chip
+  settingNothing : SetsNothing chip → Wrong chip
+  measuringNothing : MeasuresNothing chip → Wrong chip
+  sendingNothing : SendsNothing chip → Wrong chip
   firstOnly : FirstOnly chip → Wrong chip
   inventing : Invents chip → Wrong chip
   inventingAlong : InventsAlong chip → Wrong chip
@@ -170,6 +173,9 @@ LacksNamed chip (refuses k) = Demand1 chip → ⊥
 LacksNamed chip (constant k) = Demand2 chip → ⊥
 LacksNamed chip (untouching k) = Demand2 chip → ⊥
 LacksNamed chip (marking k) = Demand2 chip → ⊥
+LacksNamed chip (settingNothing k) = Demand2 chip → ⊥
+LacksNamed chip (measuringNothing k) = Demand2 chip → ⊥
+LacksNamed chip (sendingNothing k) = Demand2 chip → ⊥
 LacksNamed chip (firstOnly k) = (Demand2 chip → ⊥) × (Demand3 chip → ⊥)
 LacksNamed chip (inventing k) = Demand2 chip → ⊥
 LacksNamed chip (inventingAlong k) = Demand3 chip → ⊥
