@@ -3,7 +3,7 @@ use mathlib.Core.Path.{_≡_, refl, sym, _∙_}
 use mathlib.Core.List.{List}
 use Prim.Native.Nat.{ℕ}
 use Rattle.chip.specs.Call.{Call, reset, attention, arrive, turn}
-use Rattle.lentoquist.specs.Calls.{Areas, Called, Calls, Renewed, Renews, attentionCall, arrivalCall, turnCall}
+use Rattle.lentoquist.specs.Calls.{Areas, areasOf, Called, Calls, Renewed, Renews, attentionCall, arrivalCall, turnCall}
 use Rattle.traces.specs.Bytes.{called}
 use Rattle.kinds.specs.Chips.{Chip, ours, Lent, Renewing, Says, Permits, Meets}
 
@@ -53,3 +53,7 @@ ours-meets = record { each = λ s c a l. permits c a }
 
 pub as-called : (chip : Chip) → Meets chip → (s : chip .Inner) (c : Call) (a : Areas) → Lent c a → chip .calls s c a ≡ called c a
 as-called chip p s c a l = permitted c a (chip .calls s c a) (p .each s c a l)
+
+-- areas, one by one
+pub all-areas : (x : Areas) (m h out r : List ℕ) → x .memory ≡ m → x .holding ≡ h → x .outgoing ≡ out → x .kept ≡ r → x ≡ areasOf m h out r
+all-areas x m h out r p q s t = rw (p, q, s, t)

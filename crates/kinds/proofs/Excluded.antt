@@ -51,7 +51,8 @@ module _ (chip : Chip) where
   module _ (d : Demand2 chip) where
     at-first : AsDefined firstly (chip .calls (chip .first) attention (lentOf fresh zeros area area))
     at-first =
-        d .each (chip .first) attention fresh zeros area area (sound-on attention fresh tt fresh-wide fresh-range) (lent-on attention fresh tt fresh-wide)
+        d .each (chip .first) attention fresh zeros area area (sound-on attention fresh tt fresh-wide fresh-range)
+        (lent-on attention fresh tt fresh-wide)
 
     at-turn : AsDefined idly (chip .calls (chip .first) (turn 0) (lentOf fresh zeros area area))
     at-turn =
@@ -101,7 +102,9 @@ module _ (chip : Chip) where
       k .each (chip .first) 0 (withUnit settingUp) zeros area area block s l
       (record { begun = refl; before = not-done; after = rw (r .memory) setting-done })
       in
-      let e : settingsIn (imageOf (turned settingUp .outcome .device)) ≡ settingsIn (imageOf (withUnit settingUp)) = sym (ap settingsIn (r .kept)) ∙ x in
+      let e : settingsIn (imageOf (turned settingUp .outcome .device)) ≡ settingsIn (imageOf (withUnit settingUp)) =
+      sym (ap settingsIn (r .kept)) ∙ x
+      in
       let z = ap (λ (y : List ℕ). getD y 2 0) e in
       omega (arith, z, was-set, is-set)
 
@@ -153,7 +156,8 @@ module _ (chip : Chip) where
 
   pub invents-lacks-2 : Invents chip → Demand2 chip → ⊥
   invents-lacks-2 k d =
-      nothing-invented (k .device) _ _ (d .each (k .inner) (k .call) (k .device) (k .memory) (k .holding) (k .outgoing) (k .sound) (k .lent)) (k .invented)
+      let r = d .each (k .inner) (k .call) (k .device) (k .memory) (k .holding) (k .outgoing) (k .sound) (k .lent) in
+      nothing-invented (k .device) _ _ r (k .invented)
 
   pub no-invents : Invents chip → Meets chip → ⊥
   no-invents k p = invents-lacks-2 k (has-demand2 chip p)

@@ -35,11 +35,13 @@ busy-by false y z w r a h = absurd (let e : _≡_ {A = ℕ} 0 1 = cc in omega ar
 busy-by true true z w r a h = absurd (let e : _≡_ {A = ℕ} 0 1 = cc in omega arith)
 busy-by true false z w r a h = refl
 
-idle-turn : (w : World) (r : ℕ) → isActive (cuState (w .device .units .cu)) ≡ false → isHolding (w .device .units .ru) ≡ false → afterwards (turnOf w r) ≡ w
+idle-turn : (w : World) (r : ℕ) → isActive (cuState (w .device .units .cu)) ≡ false → isHolding (w .device .units .ru) ≡ false
+    → afterwards (turnOf w r) ≡ w
 unfolding turnOf
 idle-turn w r a h = idle-by (isActive (cuState (w .device .units .cu))) (isHolding (w .device .units .ru)) (w .device .units .rulast) w r a h
 
-busy-turn : (w : World) (r : ℕ) → isActive (cuState (w .device .units .cu)) ≡ true → isHolding (w .device .units .ru) ≡ false → turnOf w r ≡ commandTurn w r
+busy-turn : (w : World) (r : ℕ) → isActive (cuState (w .device .units .cu)) ≡ true → isHolding (w .device .units .ru) ≡ false
+    → turnOf w r ≡ commandTurn w r
 unfolding turnOf
 busy-turn w r a h = busy-by (isActive (cuState (w .device .units .cu))) (isHolding (w .device .units .ru)) (w .device .units .rulast) w r a h
 

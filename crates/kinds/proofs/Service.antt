@@ -27,7 +27,8 @@ apart-within n a j b k x j′ y k′ p q h s hs t ht e =
 -- two blocks are apart, so are their words
 pub words-apart : (n : ℕ) (base : RealAddress) (b c : Offset) (f g : ℕ) → f + 2 ≤ 8 → g + 2 ≤ 8 → Apart n (place base b 0) 8 (place base c 0) 8
     → Apart n (place base b f) 2 (place base c g) 2
-words-apart n base b c f g p q h = rw (← place-add base b f, ← place-add base c g) (apart-within n (place base b 0) 8 (place base c 0) 8 f 2 g 2 p q h)
+words-apart n base b c f g p q h =
+    rw (← place-add base b f, ← place-add base c g) (apart-within n (place base b 0) 8 (place base c 0) 8 f 2 g 2 p q h)
 
 pub apart-turn : (n a j b k : ℕ) → Apart n a j b k → Apart n b k a j
 apart-turn n a j b k h x hx y hy e = h y hy x hx (sym e)
@@ -53,7 +54,8 @@ abbrev pub AllOwn : RealAddress → Offset → ℕ → List Write → Type 0
 AllOwn base b scb [] = Unit {0}
 AllOwn base b scb (w ∷ ws) = Own base b scb w × AllOwn base b scb ws
 
-pub own-append : (base : RealAddress) (b : Offset) (scb : ℕ) (xs ys : List Write) → AllOwn base b scb xs → AllOwn base b scb ys → AllOwn base b scb (xs ++ ys)
+pub own-append : (base : RealAddress) (b : Offset) (scb : ℕ) (xs ys : List Write) → AllOwn base b scb xs → AllOwn base b scb ys
+    → AllOwn base b scb (xs ++ ys)
 own-append base b scb [] ys p q = q
 own-append base b scb (x ∷ xs) ys p q = (p .0, own-append base b scb xs ys (p .1) q)
 
@@ -68,7 +70,8 @@ spot-apart n base b scb a to c (atStatus e) = rw e (c .status)
 spot-apart n base b scb a to c (atWord e) = rw e (c .word)
 spot-apart n base b scb a to c (atScb e) = rw e (c .scb)
 
-own-apart : (n : ℕ) (base : RealAddress) (b : Offset) (scb a : ℕ) → Clear n base b scb a → (ws : List Write) → AllOwn base b scb ws → AllApart n ws a 2
+own-apart : (n : ℕ) (base : RealAddress) (b : Offset) (scb a : ℕ) → Clear n base b scb a → (ws : List Write) → AllOwn base b scb ws
+    → AllApart n ws a 2
 own-apart n base b scb a c [] p = tt
 own-apart n base b scb a c (w ∷ ws) p = (rw (p .0 .two) (spot-apart n base b scb a (w .to) c (p .0 .spot)), own-apart n base b scb a c ws (p .1))
 
@@ -104,7 +107,8 @@ module _ (n : ℕ) (base : RealAddress) (scb : ℕ) where
         scb = scb-word b 4 (omega arith) h;
       }
 
-  pub other-word : (b c : Offset) (g : ℕ) → g + 2 ≤ 8 → Apart n (place base b 0) 8 (place base c 0) 8 → ScbApart c → Clear n base b scb (place base c g)
+  pub other-word : (b c : Offset) (g : ℕ) → g + 2 ≤ 8 → Apart n (place base b 0) 8 (place base c 0) 8 → ScbApart c
+      → Clear n base b scb (place base c g)
   other-word b c g q h s =
       record {
         status = words-apart n base b c 0 g (omega arith) q h;
@@ -127,8 +131,8 @@ module _ (base : RealAddress) (b : Offset) (scb : ℕ) (ws : List Write) (m : Li
       let f = own-kept base b scb (place base c 4) ws m (other-word n base scb b c 4 (omega arith) (p .0) (q .0)) own in
       (rw e (l .0), rw f (l .1), listed-kept (d ∷ ds) (p .1) (q .1) (l .2))
 
-  pub done-kept : (fs : List Offset) → All (λ f. Apart n (place base b 0) 8 (place base f 0) 8) fs → All (ScbApart n base scb) fs → All (isDone base m) fs
-      → All (isDone base (apply ws m)) fs
+  pub done-kept : (fs : List Offset) → All (λ f. Apart n (place base b 0) 8 (place base f 0) 8) fs → All (ScbApart n base scb) fs
+      → All (isDone base m) fs → All (isDone base (apply ws m)) fs
   done-kept [] p q d = tt
   done-kept (f ∷ fs) p q d = (
     rw (own-kept base b scb (place base f 0) ws m (other-word n base scb b f 0 (omega arith) (p .0) (q .0)) own) (d .0),

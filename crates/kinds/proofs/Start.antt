@@ -38,7 +38,8 @@ never e = let z : _≡_ {A = ℕ} 0 1 = cc in omega arith
 
 -- ---- the units: START leads to the block, and whatever RUC says, no frame is held and nothing is written
 
-start-unit : (c : Cu) (code : ℕ) (first : Offset) → code ≡ 1 → isActive (cuState c) ≡ false → cuGoes (cuNext code (cuState c)) first c ≡ cu.Waiting first
+start-unit : (c : Cu) (code : ℕ) (first : Offset) → code ≡ 1 → isActive (cuState c) ≡ false
+    → cuGoes (cuNext code (cuState c)) first c ≡ cu.Waiting first
 unfolding cuNext
 start-unit cu.Idle code first e a = rw e
 start-unit (cu.Suspended o) code first e a = rw e
@@ -171,8 +172,8 @@ module _ (d : Device) (m : List ℕ) (b : Offset) (bs : List Offset) (s : Starti
   obeyed-free : isHolding (obeyed .outcome .device .units .ru) ≡ false
   unfolding obey obeyRuc unitsAfter
   obeyed-free =
-      free-unit (ruNext (ruc command) (ruState (d .units .ru))) (ruFirst (d .units) command (apply (obeyCuc (d .units) command m .writes) m)) (d .units .ru)
-      (s .free)
+      free-unit (ruNext (ruc command) (ruState (d .units .ru))) (ruFirst (d .units) command (apply (obeyCuc (d .units) command m .writes) m))
+      (d .units .ru) (s .free)
 
   obeyed-writes : obeyed .writes ≡ settledWrites (obeyed .outcome .device .units)
   unfolding obey obeyCuc obeyRuc

@@ -124,7 +124,8 @@ module _ (n : ℕ) (base : RealAddress) (scb : ℕ) (whole : List Offset) where
           size = length-apply ws m ∙ s .size;
           unit = k;
           listed =
-              own-listed base b scb ws m p bs own-room (rw (s .size) (s .scb-rest .0)) (rw (s .size) (s .blocks .0)) (rw (s .size) (s .scb-rest .1)) (s .listed);
+              own-listed base b scb ws m p bs own-room (rw (s .size) (s .scb-rest .0)) (rw (s .size) (s .blocks .0))
+              (rw (s .size) (s .scb-rest .1)) (s .listed);
           done = done-kept base b scb ws m p fs (rw (s .size) (s .before .0)) (rw (s .size) (s .scb-done)) (s .done);
           scb-done = s .scb-done;
           scb-rest = s .scb-rest;
@@ -168,7 +169,8 @@ begin-onwards false p g word q m b k h = record { unit = h; less = omega arith }
 
 not-last : (used : ℕ) → isLast used ≡ false → used + 1 ≤ 63
 not-last used e =
-    ⊎-elim (λ (h : 63 < used + 1). absurd (never (sym e ∙ le-leb 64 (used + 1) (omega arith)))) (λ (h : used + 1 ≤ 63). h) (below-or-not 63 (used + 1))
+    ⊎-elim (λ (h : 63 < used + 1). absurd (never (sym e ∙ le-leb 64 (used + 1) (omega arith)))) (λ (h : used + 1 ≤ 63). h)
+    (below-or-not 63 (used + 1))
 
 module _ (base : RealAddress) (m : List ℕ) (g : Begun) (b : Offset) (k : ℕ) (p : BegunAt base m g b) where
   buffer-onwards : (fits eof none last : Bool) (w : Walk) (used : ℕ) → w .used ≡ used + 1 → used ≤ 63 → isLast used ≡ last
@@ -259,8 +261,8 @@ scb-apart true x scb a m e h = (rw e h, tt)
 scb-apart false x scb a m e h = tt
 
 -- what stands in the block's status after an end
-status-after : (base : RealAddress) (g : Begun) (v : ℕ) (b : Offset) (xs : List Write) (raises : Bool) (x : Units) (scb : ℕ) (m : List ℕ) → 2 ≤ length m
-    → g .block ≡ b → place (x .base) (x .scb) 0 ≡ scb → Apart (length m) scb 2 (place base b 0) 2
+status-after : (base : RealAddress) (g : Begun) (v : ℕ) (b : Offset) (xs : List Write) (raises : Bool) (x : Units) (scb : ℕ) (m : List ℕ)
+    → 2 ≤ length m → g .block ≡ b → place (x .base) (x .scb) 0 ≡ scb → Apart (length m) scb 2 (place base b 0) 2
     → wordAt (apply ((xs ++ (statusTo base g v ∷ [])) ++ statusBy raises x) m) (place base b 0) ≡ v % 65536
 status-after base g v b xs raises x scb m l e k h =
     let ws = xs ++ (statusTo base g v ∷ []) in
@@ -333,7 +335,8 @@ module _ (n : ℕ) (base : RealAddress) (scb : ℕ) (whole : List Offset) (m : L
       stopped (record {
         done =
             rw (← s .all)
-            (all-onto (isDone base (apply ws m)) (b ∷ fs) [] (d, done-kept base b scb ws m p fs (rw (s .size) (s .before .0)) (rw (s .size) (s .scb-done)) (s .done)) tt);
+            (all-onto (isDone base (apply ws m)) (b ∷ fs) []
+            (d, done-kept base b scb ws m p fs (rw (s .size) (s .before .0)) (rw (s .size) (s .scb-done)) (s .done)) tt);
         off = off;
         said = said;
       })
@@ -412,7 +415,8 @@ module _ (n : ℕ) (p : Part) (scb : ℕ) (whole : List Offset) (m : List ℕ) (
 
 -- ---- any service
 
-module _ (n : ℕ) (p : Part) (scb : ℕ) (whole : List Offset) (m : List ℕ) (fs : List Offset) (b : Offset) (bs : List Offset) (room : 8 ≤ n) (x : Units) where
+module _ (n : ℕ) (p : Part) (scb : ℕ) (whole : List Offset) (m : List ℕ) (fs : List Offset) (b : Offset) (bs : List Offset)
+    (room : 8 ≤ n) (x : Units) where
   begin-next : (o : Offset) → At n (p .base) scb whole m (cu.Waiting o) fs b bs
       → Next n (p .base) scb whole (apply (written (begin p o m .writes) (begin p o m .raised) x) m) (begin p o m .part .unit) (66 + 66 * length bs)
   unfolding begin anyOf digits
@@ -453,6 +457,7 @@ module _ (n : ℕ) (p : Part) (scb : ℕ) (whole : List Offset) (m : List ℕ) (
       (act-at (p .base) b scb a (p .setup) (g .block) m (s .unit .block)) bs s
   service-next (cu.Sending g w) report s to unit = buffer-next g w s
   service-next (cu.Ending g k) report s to unit =
-      end-next n p scb whole m (cu.Ending g k) fs b room g (sent (p .setup) k report) x to unit (s .unit) (sent-at (p .base) b scb (p .setup) k report) bs s
+      end-next n p scb whole m (cu.Ending g k) fs b room g (sent (p .setup) k report) x to unit (s .unit)
+      (sent-at (p .base) b scb (p .setup) k report) bs s
   service-next (cu.Failing g) report s to unit =
       end-next n p scb whole m (cu.Failing g) fs b room g (notSent (p .setup)) x to unit (s .unit) (not-sent-at (p .base) b scb (p .setup)) bs s

@@ -1,6 +1,5 @@
 -- The kinds are not empty: a chip that leaves all as lent, with one answer, is of several; one that always reports an edge invents. Assumes nothing.
-use mathlib.Core.Path.{_≡_, refl, sym, ap, _∙_}
-use mathlib.Core.Bool.{Bool, true, false}
+use mathlib.Core.Path.{_≡_, refl, ap}
 use mathlib.Core.List.{List, [], _∷_}
 use Prim.Native.Nat.{ℕ}
 use native.Mathlib.Omega.{arith}
@@ -14,7 +13,7 @@ use Rattle.lentoquist.specs.Calls.{Areas, packed}
 use Rattle.traces.specs.Bytes.{edge}
 use Rattle.kinds.specs.Chips.{Chip, run}
 use Rattle.kinds.specs.Lists.{All, turnsOf}
-use Rattle.kinds.specs.Kinds.{RefusesAll, OneAnswer, MemoryAsLent, SetsNothing, MeasuresNothing, SendsNothing, MarksOnly, FirstOnly, anotherEdge, Invents}
+use Rattle.kinds.specs.Kinds.{RefusesAll, OneAnswer, MemoryAsLent, MarksOnly, FirstOnly, anotherEdge, Invents}
 use Rattle.kinds.proofs.Witness.{zeros, area, sound-on, lent-on, idly, idle-answer}
 
 -- it leaves all as lent and answers n

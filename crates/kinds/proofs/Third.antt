@@ -17,7 +17,7 @@ use Rattle.control.specs.Obey.{ofScb}
 use Rattle.chip.specs.World.{World, worldOf, afterwards}
 use Rattle.chip.specs.Attention.{attentionOf}
 use Rattle.chip.specs.Call.{Call, attention, turn, ran}
-use Rattle.lentoquist.specs.Calls.{Areas, areasOf, packed}
+use Rattle.lentoquist.specs.Calls.{Areas, packed}
 use Rattle.traces.specs.Bytes.{edge}
 use Rattle.traces.specs.Event.{Event, call, host}
 use Rattle.kinds.specs.Chips.{Chip, ours, Given, Lent, Meets, run, answersOf, ranThrough}
@@ -25,6 +25,7 @@ use Rattle.kinds.specs.Demands.{FrameOk, Sound, Demand2}
 use Rattle.kinds.specs.Closed.{Right, Closed}
 use Rattle.kinds.specs.Lists.{turnsOf, AllReports, Hosted, Fair, shown, DoneAsIn2, Demand3}
 use Rattle.kinds.specs.Kinds.{InventedAlong, anotherCount, anotherEdges, InventsAlong}
+use Rattle.kinds.proofs.Equal.{all-areas}
 use Rattle.kinds.proofs.Ours.{has-demand2, ours-demand2}
 use Rattle.kinds.proofs.Runs.{runs}
 use Rattle.kinds.proofs.Start.{list-ends}
@@ -56,9 +57,6 @@ sound-right c w s l =
       outgoing-bytes = l .outgoing;
     }
 
-all-areas : (x : Areas) (m h out r : List ℕ) → x .memory ≡ m → x .holding ≡ h → x .outgoing ≡ out → x .kept ≡ r → x ≡ areasOf m h out r
-all-areas x m h out r p q s t = rw (p, q, s, t)
-
 not-active : (s : CuState) → isActive s ≡ false → cuNumber s ≡ cuNumber cus.Active → ⊥
 not-active cus.Idle a e = omega (arith, e)
 not-active cus.Suspended a e = omega (arith, e)
@@ -89,7 +87,8 @@ through-runs (r ∷ rs) w = through-runs rs (afterwards (ran (turn r) w))
 
 module _ (closed : Closed) (chip : Chip) (q : Demand2 chip) where
   -- a chip that has demand 2 leaves, call by call, what shows the world that the definitions leave
-  goes-along : (s : chip .Inner) (c : Call) (w : World) → Given c → FrameOk c → Right w → chip .calls s c (shown w) .areas ≡ shown (afterwards (ran c w))
+  goes-along : (s : chip .Inner) (c : Call) (w : World) → Given c → FrameOk c → Right w
+      → chip .calls s c (shown w) .areas ≡ shown (afterwards (ran c w))
   goes-along s c w g f r =
       let a = q .each s c (w .device) (w .memory) (w .holding) (w .outgoing) (right-sound c w f r) (right-lent c w g r) in
       all-areas (chip .calls s c (shown w) .areas) (ran c w .memory) (ran c w .holding) (ran c w .outgoing) (imageOf (ran c w .outcome .device))
@@ -129,7 +128,9 @@ module _ (closed : Closed) (chip : Chip) (q : Demand2 chip) where
               done = rw same (over .done);
               inactive = λ z. not-active (cuState (runs rs v .device .units .cu)) (over .off) (sym (over .said) ∙ rw same at z);
             };
-        as-in-2 = λ s d m h out b bs es k l start f c. along (call attention ∷ es) s (worldOf d m h out) (tt, tt, f) (sound-right attention (worldOf d m h out) k l);
+        as-in-2 =
+            λ s d m h out b bs es k l start f c.
+            let w = worldOf d m h out in along (call attention ∷ es) s w (tt, tt, f) (sound-right attention w k l);
       }
 
 pub meets-demand3 : Closed → (chip : Chip) → Meets chip → Demand3 chip
@@ -148,5 +149,8 @@ module _ (chip : Chip) where
 
   pub invents-along-lacks-3 : InventsAlong chip → Demand3 chip → ⊥
   invents-along-lacks-3 k d =
-      let same = d .as-in-2 (k .inner) (k .device) (k .memory) (k .holding) (k .outgoing) (k .first) (k .rest) (k .events) (k .sound) (k .lent) (k .start) (k .fair) (k .calm) in
+      let same =
+      d .as-in-2 (k .inner) (k .device) (k .memory) (k .holding) (k .outgoing) (k .first) (k .rest) (k .events) (k .sound) (k .lent) (k .start)
+      (k .fair) (k .calm)
+      in
       none-along (k .device) _ _ _ _ (same .areas) (same .answers) (k .invented)

@@ -34,12 +34,13 @@ use Rattle.chip.specs.World.{worldOf}
 use Rattle.chip.specs.Attention.{attentionOf}
 use Rattle.chip.specs.Turn.{concluded, commandTurn, turnOf}
 use Rattle.chip.specs.Call.{Call, attention, turn, ran}
-use Rattle.lentoquist.specs.Calls.{Areas, areasOf}
+use Rattle.lentoquist.specs.Calls.{Areas}
 use Rattle.traces.specs.Event.{Event, call}
 use Rattle.kinds.specs.Chips.{Chip, Given, Lent, Meets, run}
 use Rattle.kinds.specs.Demands.{FrameOk, Sound, lentOf, Demand2}
 use Rattle.kinds.specs.Lists.{Starting, turnsOf, AllReports, started, Demand3}
 use Rattle.kinds.specs.Kinds.{FirstOnly}
+use Rattle.kinds.proofs.Equal.{all-areas}
 use Rattle.kinds.proofs.Ours.{has-demand2}
 use Rattle.kinds.proofs.Witness.{zeros, area, zero-bytes, smallest, withUnit, wide-with, range-with}
 
@@ -181,9 +182,6 @@ begun-other : wordAt m4 (place (record { 0 = 0 }) other 0) ≡ 0x4000
 unfolding byteAt putByte bytesAt putBytes value digits fieldAt place
 begun-other = refl
 
-all-areas : (x : Areas) (m h out r : List ℕ) → x .memory ≡ m → x .holding ≡ h → x .outgoing ≡ out → x .kept ≡ r → x ≡ areasOf m h out r
-all-areas x m h out r p q s t = rw (p, q, s, t)
-
 waiting-wide : (o : Offset) → o .0 < 65536 → Wide (withUnit (cu.Waiting o))
 unfolding cuWord
 waiting-wide o p = wide-with (cu.Waiting o) (record { at = p; kind = omega arith; size = omega arith; next = omega arith })
@@ -220,8 +218,8 @@ size3 = length-apply (wordTo 0x40 0xA000 ∷ []) m2 ∙ size2
 
 module _ (chip : Chip) (q : Demand2 chip) where
   -- a chip that has demand 2 goes the same way
-  leads : (s : chip .Inner) (c : Call) (cs : List Event) (d : Device) (m : List ℕ) (d′ : Device) (m′ : List ℕ) → Goes c d m d′ m′ → Sound c d m area area
-      → Lent c (lentOf d m area area)
+  leads : (s : chip .Inner) (c : Call) (cs : List Event) (d : Device) (m : List ℕ) (d′ : Device) (m′ : List ℕ) → Goes c d m d′ m′
+      → Sound c d m area area → Lent c (lentOf d m area area)
       → run chip s (call c ∷ cs) (lentOf d m area area) ≡ run chip (chip .next s c (lentOf d m area area)) cs (lentOf d′ m′ area area)
   leads s c cs d m d′ m′ g k l =
       let r = q .each s c d m area area k l in
@@ -229,7 +227,8 @@ module _ (chip : Chip) (q : Demand2 chip) where
       (all-areas (chip .calls s c (lentOf d m area area) .areas) m′ area area (imageOf d′) (r .memory ∙ g .memory) (r .holding ∙ g .holding)
       (r .outgoing ∙ g .outgoing) (r .kept ∙ ap imageOf (g .device)))
 
-  first-three : (s : chip .Inner) → wordAt (started chip s (turnsOf (0 ∷ 0 ∷ 0 ∷ [])) (lentOf idle two area area) .memory) (place (record { 0 = 0 }) other 0) ≡ 0x4000
+  first-three : (s : chip .Inner)
+      → wordAt (started chip s (turnsOf (0 ∷ 0 ∷ 0 ∷ [])) (lentOf idle two area area) .memory) (place (record { 0 = 0 }) other 0) ≡ 0x4000
   first-three s =
       let e1 =
       leads s attention (turnsOf (0 ∷ 0 ∷ 0 ∷ [])) idle two (withUnit (cu.Waiting one)) m1 starts

@@ -66,7 +66,14 @@ zeros-allowed = rw (length-replicate {A = ℕ} 8192 0) smallest
 
 pub sound-on : (c : Call) (d : Device) → FrameOk c → Wide d → inRange d ≡ true → Sound c d zeros area area
 sound-on c d f w e =
-    record { size = zeros-allowed; holding = length-replicate {A = ℕ} areaSize 0; outgoing = length-replicate {A = ℕ} areaSize 0; frame = f; wide = w; range = e }
+    record {
+      size = zeros-allowed;
+      holding = length-replicate {A = ℕ} areaSize 0;
+      outgoing = length-replicate {A = ℕ} areaSize 0;
+      frame = f;
+      wide = w;
+      range = e;
+    }
 
 pub lent-on : (c : Call) (d : Device) → Given c → Wide d → Lent c (lentOf d zeros area area)
 lent-on c d g w =

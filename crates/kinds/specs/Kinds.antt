@@ -30,7 +30,8 @@ use Rattle.kinds.specs.Chips.{Chip, Lent, answersOf, ranThrough, answers
 use Rattle.kinds.specs.Demands.{Demand1, Sound, lentOf, Demand2}
 use Rattle.kinds.specs.Lists.{All, Starting, turnsOf, AllReports, started, Fair, Calm, Demand3}
 
--- at every call that is not to be refused, something is so of what is lent and what is left; a chip of which it is so at every call is of the kind too
+-- at every call that is not to be refused, something is so of what is lent and what is left; a chip of which it is so at every call is of the
+-- kind too
 abbrev pub AtAccepted : (chip : Chip) → (Areas → Called → Type 0) → Type 0
 AtAccepted chip p =
     (s : chip .Inner) (c : Call) (d : Device) (m h out : List ℕ) → Sound c d m h out → Lent c (lentOf d m h out)
