@@ -12,3 +12,4 @@ pub mod Start
 pub mod Third
 pub mod Inspected
 pub mod Stubs
+pub mod Marker

@@ -13,7 +13,7 @@ use Rattle.lentoquist.specs.Calls.{Areas, packed}
 use Rattle.traces.specs.Bytes.{edge}
 use Rattle.kinds.specs.Chips.{Chip, run}
 use Rattle.kinds.specs.Lists.{All, turnsOf}
-use Rattle.kinds.specs.Kinds.{RefusesAll, OneAnswer, MemoryAsLent, MarksOnly, FirstOnly, anotherEdge, Invents}
+use Rattle.kinds.specs.Kinds.{RefusesAll, OneAnswer, MemoryAsLent, FirstOnly, anotherEdge, Invents}
 use Rattle.kinds.proofs.Witness.{zeros, area, sound-on, lent-on, idly, idle-answer}
 
 -- it leaves all as lent and answers n
@@ -28,15 +28,6 @@ stub-constant n = record { answer = n; each = λ s c d m h out k l. refl }
 
 pub stub-as-lent : (n : ℕ) → MemoryAsLent (stub n)
 stub-as-lent n = record { each = λ s c d m h out k l. refl }
-
--- it sets no C, so that it is of this kind too
-pub stub-marks : MarksOnly (stub 0)
-stub-marks =
-    record {
-      settings = record { each = λ s report d m h out o k l c. refl };
-      tdr = record { each = λ s report d m h out o k l c b e. refl };
-      sending = record { each = λ s report d m h out o k l c. refl };
-    }
 
 stub-runs : (n : ℕ) (rs : List ℕ) (a : Areas) → run (stub n) tt (turnsOf rs) a ≡ a
 stub-runs n [] a = refl
