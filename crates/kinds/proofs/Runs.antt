@@ -49,46 +49,46 @@ idle-runs : (rs : List ℕ) (w : World) → isActive (cuState (w .device .units 
 idle-runs [] w a h = refl
 idle-runs (r ∷ rs) w a h = ap (runs rs) (idle-turn w r a h) ∙ idle-runs rs w a h
 
-at-active : (base : RealAddress) (m : List ℕ) (u : Cu) (b : Offset) → AtBlock base m u b → isActive (cuState u) ≡ true
-at-active base m cu.Idle b k = absurd k
-at-active base m (cu.Suspended o) b k = absurd k
-at-active base m (cu.Waiting o) b k = refl
-at-active base m (cu.Acting g a) b k = refl
-at-active base m (cu.Sending g w) b k = refl
-at-active base m (cu.Ending g n) b k = refl
-at-active base m (cu.Failing g) b k = refl
+at-active : (tdr : Offset → Type 0) (base : RealAddress) (m : List ℕ) (u : Cu) (b : Offset) → AtBlock tdr base m u b → isActive (cuState u) ≡ true
+at-active tdr base m cu.Idle b k = absurd k
+at-active tdr base m (cu.Suspended o) b k = absurd k
+at-active tdr base m (cu.Waiting o) b k = refl
+at-active tdr base m (cu.Acting g a) b k = refl
+at-active tdr base m (cu.Sending g w) b k = refl
+at-active tdr base m (cu.Ending g n) b k = refl
+at-active tdr base m (cu.Failing g) b k = refl
 
-at-some : (base : RealAddress) (m : List ℕ) (u : Cu) (b : Offset) (k : ℕ) → AtBlock base m u b → 0 < rankOf u k
-at-some base m cu.Idle b k p = absurd p
-at-some base m (cu.Suspended o) b k p = absurd p
-at-some base m (cu.Waiting o) b k p = omega arith
-at-some base m (cu.Acting g a) b k p = omega arith
-at-some base m (cu.Sending g w) b k p = omega arith
-at-some base m (cu.Ending g n) b k p = omega arith
-at-some base m (cu.Failing g) b k p = omega arith
+at-some : (tdr : Offset → Type 0) (base : RealAddress) (m : List ℕ) (u : Cu) (b : Offset) (k : ℕ) → AtBlock tdr base m u b → 0 < rankOf u k
+at-some tdr base m cu.Idle b k p = absurd p
+at-some tdr base m (cu.Suspended o) b k p = absurd p
+at-some tdr base m (cu.Waiting o) b k p = omega arith
+at-some tdr base m (cu.Acting g a) b k p = omega arith
+at-some tdr base m (cu.Sending g w) b k p = omega arith
+at-some tdr base m (cu.Ending g n) b k p = omega arith
+at-some tdr base m (cu.Failing g) b k p = omega arith
 
 -- ---- the list is done
 
-module _ (n : ℕ) (whole : List Offset) (room : 8 ≤ n) where
+module _ (n : ℕ) (tdr : Offset → Type 0) (whole : List Offset) (room : 8 ≤ n) where
   -- the world of a list
   abbrev pub Here : World → List Offset → Offset → List Offset → Type 0
-  Here w fs b bs = At n (w .device .units .base) (ofScb (w .device .units) 0) whole (w .memory) (w .device .units .cu) fs b bs
+  Here w fs b bs = At n tdr (w .device .units .base) (ofScb (w .device .units) 0) whole (w .memory) (w .device .units .cu) fs b bs
 
   abbrev pub Over : World → Type 0
-  Over w = Stopped n (w .device .units .base) (ofScb (w .device .units) 0) whole (w .memory) (w .device .units .cu)
+  Over w = Stopped n tdr (w .device .units .base) (ofScb (w .device .units) 0) whole (w .memory) (w .device .units .cu)
 
   -- over, in a world that has the base and the SCB of this one
   abbrev pub OverFrom : World → World → Type 0
-  OverFrom v w = Stopped n (v .device .units .base) (ofScb (v .device .units) 0) whole (w .memory) (w .device .units .cu)
+  OverFrom v w = Stopped n tdr (v .device .units .base) (ofScb (v .device .units) 0) whole (w .memory) (w .device .units .cu)
 
   turn-next : (w : World) (r : ℕ) (fs : List Offset) (b : Offset) (bs : List Offset) → Here w fs b bs
-      → Next n (w .device .units .base) (ofScb (w .device .units) 0) whole (afterwards (commandTurn w r) .memory)
+      → Next n tdr (w .device .units .base) (ofScb (w .device .units) 0) whole (afterwards (commandTurn w r) .memory)
       (afterwards (commandTurn w r) .device .units .cu) (rankOf (w .device .units .cu) (length bs))
   unfolding commandTurn concluded service
   turn-next w r fs b bs s =
       let p = partOf (w .device) (w .outgoing) in
       let x = commandUnits (w .device) (service p (w .memory) r) in
-      service-next n p (ofScb (w .device .units) 0) whole (w .memory) fs b bs room x (w .device .units .cu) r s refl refl
+      service-next n tdr p (ofScb (w .device .units) 0) whole (w .memory) fs b bs room x (w .device .units .cu) r s refl refl
 
   -- what remains to be shown of each shorter run
   abbrev Progress : List ℕ → Type 0
@@ -97,7 +97,7 @@ module _ (n : ℕ) (whole : List Offset) (room : 8 ≤ n) where
       → rankOf (w .device .units .cu) (length bs) ≤ length rs → OverFrom w (runs rs w)
 
   went : (rs : List ℕ) → Progress rs → (w : World) (r rank : ℕ) → isHolding (w .device .units .ru) ≡ false → rank ≤ suc (length rs)
-      → Next n (w .device .units .base) (ofScb (w .device .units) 0) whole (afterwards (commandTurn w r) .memory)
+      → Next n tdr (w .device .units .base) (ofScb (w .device .units) 0) whole (afterwards (commandTurn w r) .memory)
       (afterwards (commandTurn w r) .device .units .cu) rank
       → OverFrom w (runs rs (afterwards (commandTurn w r)))
   unfolding commandTurn concluded
@@ -106,8 +106,8 @@ module _ (n : ℕ) (whole : List Offset) (room : 8 ≤ n) where
 
   pub progress : (rs : List ℕ) → Progress rs
   progress [] w fs b bs h s l =
-      absurd (omega (arith, l, at-some (w .device .units .base) (w .memory) (w .device .units .cu) b (length bs) (s .unit)))
+      absurd (omega (arith, l, at-some tdr (w .device .units .base) (w .memory) (w .device .units .cu) b (length bs) (s .unit)))
   progress (r ∷ rs) w fs b bs h s l =
       subst (λ (x : Ran). OverFrom w (runs rs (afterwards x)))
-      (sym (busy-turn w r (at-active (w .device .units .base) (w .memory) (w .device .units .cu) b (s .unit)) h))
+      (sym (busy-turn w r (at-active tdr (w .device .units .base) (w .memory) (w .device .units .cu) b (s .unit)) h))
       (went rs (progress rs) w r (rankOf (w .device .units .cu) (length bs)) h l (turn-next w r fs b bs s))

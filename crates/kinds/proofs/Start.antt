@@ -16,19 +16,22 @@ use Rattle.scb.specs.Words.{cuc, ruc, resets, commandAt, cblAt}
 use Rattle.scb.specs.declared.RuState.{RuState}
 use Rattle.scb.specs.declared.RuState.the-variants as rus
 use Rattle.device.specs.State.{cuState, ruState, isActive, isHolding}
+use Rattle.device.specs.Numbers.{actionNumber}
+use Rattle.device.specs.declared.Action.the-variants as action
 use Rattle.device.specs.declared.Cu.{Cu}
 use Rattle.device.specs.declared.Cu.the-variants as cu
 use Rattle.device.specs.declared.Device.{Device}
 use Rattle.device.specs.declared.Ru.{Ru}
 use Rattle.device.specs.declared.Ru.the-variants as ru
 use Rattle.device.specs.declared.Units.{Units}
+use Rattle.command.specs.Begin.{cmd}
 use Rattle.control.specs.Control.{cuGoes, cuWrites, ruGoes, ruWrites}
 use Rattle.control.specs.Obey.{ofScb, cuFirst, obeyCuc, ruFirst, obeyRuc}
 use Rattle.attention.specs.Attention.{Attended, attentionBy, attention, attend, attendBy, obey, unitsAfter, settledWrites}
 use Rattle.attention.specs.Status.{statusTo}
 use Rattle.chip.specs.World.{World, writing, afterwards}
 use Rattle.chip.specs.Attention.{attentionOf}
-use Rattle.kinds.specs.Lists.{Listed, All, BlocksApart, Starting}
+use Rattle.kinds.specs.Lists.{Listed, All, isTdr, BlocksApart, Starting}
 use Rattle.kinds.proofs.Service.{word-kept, ScbApart, scb-word, apart-within, place-add}
 use Rattle.kinds.proofs.Step.{At, Stopped}
 use Rattle.kinds.proofs.Runs.{runs, progress}
@@ -115,22 +118,29 @@ attention-obeys d m i r =
 
 -- ---- what it writes: status and command of the SCB, four bytes
 
-settled-apart : (u : Units) (n : ℕ) (base : RealAddress) (c : Offset) (g : ℕ) → g + 2 ≤ 8 → ScbApart n base (ofScb u 0) c
+settled-apart : (u : Units) (n : ℕ) (tdr : Offset → Type 0) (base : RealAddress) (c : Offset) (g : ℕ) → g + 2 ≤ 6 → ScbApart n tdr base (ofScb u 0) c
     → AllApart n (settledWrites u) (place base c g) 2
 unfolding statusTo digits
-settled-apart u n base c g q h =
+settled-apart u n tdr base c g q h =
     let s = place (u .base) (u .scb) 0 in
-    let second : Apart n (s + 2) 2 (place base c 0 + g) 2 = apart-within n s 4 (place base c 0) 8 2 2 g 2 (omega arith) q h in
-    (scb-word n base s c g q h, (rw (place-add (u .base) (u .scb) 2, place-add base c g) at second, tt))
+    let second : Apart n (s + 2) 2 (place base c 0 + g) 2 = apart-within n s 4 (place base c 0) 6 2 2 g 2 (omega arith) q h in
+    (scb-word n tdr base s c g q h, (rw (place-add (u .base) (u .scb) 2, place-add base c g) at second, tt))
 
-module _ (base : RealAddress) (u : Units) (m : List ℕ) where
-  listed-stays : (cs : List Offset) → All (ScbApart (length m) base (ofScb u 0)) cs → Listed base m cs → Listed base (apply (settledWrites u) m) cs
+module _ (tdr : Offset → Type 0) (base : RealAddress) (u : Units) (m : List ℕ) where
+  listed-stays : (cs : List Offset) → All (ScbApart (length m) tdr base (ofScb u 0)) cs → Listed base m cs → Listed base (apply (settledWrites u) m) cs
   listed-stays [] p l = l
-  listed-stays (c ∷ []) p l = rw (word-kept (settledWrites u) m (place base c 2) (settled-apart u (length m) base c 2 (omega arith) (p .0))) l
+  listed-stays (c ∷ []) p l = rw (word-kept (settledWrites u) m (place base c 2) (settled-apart u (length m) tdr base c 2 (omega arith) (p .0))) l
   listed-stays (c ∷ d ∷ ds) p l =
-      let e = word-kept (settledWrites u) m (place base c 2) (settled-apart u (length m) base c 2 (omega arith) (p .0)) in
-      let f = word-kept (settledWrites u) m (place base c 4) (settled-apart u (length m) base c 4 (omega arith) (p .0)) in
+      let e = word-kept (settledWrites u) m (place base c 2) (settled-apart u (length m) tdr base c 2 (omega arith) (p .0)) in
+      let f = word-kept (settledWrites u) m (place base c 4) (settled-apart u (length m) tdr base c 4 (omega arith) (p .0)) in
       (rw e (l .0), rw f (l .1), listed-stays (d ∷ ds) (p .1) (l .2))
+
+  kinds-stay : (k : ℕ) (cs : List Offset) → All (ScbApart (length m) tdr base (ofScb u 0)) cs
+      → All (λ c. cmd (wordAt (apply (settledWrites u) m) (place base c 2)) ≡ k → cmd (wordAt m (place base c 2)) ≡ k) cs
+  kinds-stay k [] p = tt
+  kinds-stay k (c ∷ cs) p =
+      let e = word-kept (settledWrites u) m (place base c 2) (settled-apart u (length m) tdr base c 2 (omega arith) (p .0)) in
+      (λ h. ap cmd (sym e) ∙ h, kinds-stay k cs (p .1))
 
 nothing-before : (bs : List Offset) → All (λ c. Unit {0}) bs
 nothing-before [] = tt
@@ -138,17 +148,18 @@ nothing-before (b ∷ bs) = (tt, nothing-before bs)
 
 -- the start, in plain terms
 start-at : (u : Units) (ws : List Write) (m : List ℕ) (b : Offset) (bs : List Offset) (c : Cu) → ws ≡ settledWrites u → c ≡ cu.Waiting b
-    → All (ScbApart (length m) (u .base) (ofScb u 0)) (b ∷ bs) → BlocksApart (length m) (u .base) (b ∷ bs) → Listed (u .base) m (b ∷ bs)
-    → At (length m) (u .base) (ofScb u 0) (b ∷ bs) (apply ws m) c [] b bs
+    → All (ScbApart (length m) (isTdr (u .base) m) (u .base) (ofScb u 0)) (b ∷ bs) → BlocksApart (length m) (u .base) (isTdr (u .base) m) (b ∷ bs)
+    → Listed (u .base) m (b ∷ bs) → At (length m) (isTdr (u .base) m) (u .base) (ofScb u 0) (b ∷ bs) (apply ws m) c [] b bs
 start-at u ws m b bs c e f p q l =
     rw (e, f)
     (record {
       size = length-apply (settledWrites u) m;
       unit = refl;
-      listed = listed-stays (u .base) u m (b ∷ bs) p l;
+      listed = listed-stays (isTdr (u .base) m) (u .base) u m (b ∷ bs) p l;
       done = tt;
       scb-done = tt;
       scb-rest = p;
+      kinds = kinds-stay (isTdr (u .base) m) (u .base) u m (actionNumber action.Tdr) (b ∷ bs) p;
       blocks = q;
       before = nothing-before (b ∷ bs);
       all = refl;
@@ -184,7 +195,8 @@ module _ (d : Device) (m : List ℕ) (b : Offset) (bs : List Offset) (s : Starti
       ∙ ap (λ (ws : List Write). ws ++ settledWrites (obeyed .outcome .device .units))
       (free-writes (ruNext (ruc command) (ruState (d .units .ru))) (d .units .base) (d .units .ru) (s .free))
 
-  obeyed-at : At (length m) (d .units .base) (ofScb (d .units) 0) (b ∷ bs) (apply (obeyed .writes) m) (obeyed .outcome .device .units .cu) [] b bs
+  obeyed-at : At (length m) (isTdr (d .units .base) m) (d .units .base) (ofScb (d .units) 0) (b ∷ bs) (apply (obeyed .writes) m)
+      (obeyed .outcome .device .units .cu) [] b bs
   unfolding obey unitsAfter
   obeyed-at =
       let u = obeyed .outcome .device .units in
@@ -203,14 +215,15 @@ module _ (w : World) (b : Offset) (bs : List Offset) (s : Starting (w .device) (
   -- after the turns rs all blocks are done, and the SCB's status says where the unit went
   abbrev pub Ends : List ℕ → World → Type 0
   Ends rs v =
-      Stopped (length (w .memory)) (w .device .units .base) (ofScb (w .device .units) 0) (b ∷ bs) (runs rs v .memory) (runs rs v .device .units .cu)
+      Stopped (length (w .memory)) (isTdr (w .device .units .base) (w .memory)) (w .device .units .base) (ofScb (w .device .units) 0) (b ∷ bs)
+      (runs rs v .memory) (runs rs v .device .units .cu)
 
   obeyed-ends : (rs : List ℕ) → 8 ≤ length (w .memory) → 66 + 66 * length bs ≤ length rs
       → Ends rs (worldAfter (obey (w .device) (command (w .device) (w .memory) b bs s) (w .memory)))
   unfolding obey unitsAfter
   obeyed-ends rs room l =
       let v = worldAfter (obey (w .device) (command (w .device) (w .memory) b bs s) (w .memory)) in
-      progress (length (w .memory)) (b ∷ bs) room rs v [] b bs (obeyed-free (w .device) (w .memory) b bs s) (obeyed-at (w .device) (w .memory) b bs s)
+      progress (length (w .memory)) (isTdr (w .device .units .base) (w .memory)) (b ∷ bs) room rs v [] b bs (obeyed-free (w .device) (w .memory) b bs s) (obeyed-at (w .device) (w .memory) b bs s)
       (rw (obeyed-unit (w .device) (w .memory) b bs s) l)
 
   pub list-ends : (rs : List ℕ) → 8 ≤ length (w .memory) → 66 + 66 * length bs ≤ length rs → Ends rs (afterwards (attentionOf w))

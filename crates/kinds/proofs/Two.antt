@@ -2,14 +2,14 @@
 use mathlib.Core.Path.{_≡_, refl, ap, _∙_}
 use mathlib.Core.Bool.{true, false}
 use mathlib.Core.List.{List, [], _∷_}
-use Prim.Native.Nat.{ℕ, zero, suc, _+_, _*_, _≤_, _<_}
+use Prim.Native.Nat.{ℕ, zero, suc, _+_, _≤_, _<_}
 use native.Mathlib.Omega.{arith}
 use lib.ListN.{length, replicate, length-replicate}
 use Rattle.memory.specs.Address.{place}
 use Rattle.memory.specs.Memory.{byteAt, putByte, bytesAt, putBytes, value, digits, fieldAt, wordAt, Write, apply, wordTo}
 use Rattle.memory.specs.declared.Offset.{Offset}
 use Rattle.memory.proofs.Bytes.{Bytes, apply-bytes, digits-bytes}
-use Rattle.memory.proofs.Fields.{Apart, up}
+use Rattle.memory.proofs.Fields.{Apart, up, down}
 use Rattle.memory.proofs.Laws.{length-apply}
 use Rattle.scb.specs.Control.{cuNext, ruNext}
 use Rattle.scb.specs.Words.{field, bit, joined, acknowledged, anyOf, eventBits, statusWord}
@@ -98,6 +98,9 @@ idle-range = range-with cu.Idle refl
 apart-at : (a j b k : ℕ) → a + j ≤ b → b + k ≤ a + 8192 → Apart (length two) a j b k
 apart-at a j b k p q = rw two-size (up 8192 a j b k p q)
 
+apart-down : (a j b k : ℕ) → b + k ≤ a → a + j ≤ b + 8192 → Apart (length two) a j b k
+apart-down a j b k p q = rw two-size (down 8192 a j b k p q)
+
 pub starting : Starting idle two one (other ∷ [])
 unfolding byteAt putByte bytesAt putBytes value digits fieldAt place field
 starting =
@@ -109,8 +112,17 @@ starting =
       start = refl;
       at = refl;
       listed = (refl, refl, refl);
-      scb-apart = (apart-at 0x30 4 0x40 8 (omega arith) (omega arith), (apart-at 0x30 4 0x50 8 (omega arith) (omega arith), tt));
-      blocks-apart = ((apart-at 0x40 8 0x50 8 (omega arith) (omega arith), tt), (tt, tt));
+      scb-apart = (apart-at 0x30 4 0x40 6 (omega arith) (omega arith), (apart-at 0x30 4 0x50 6 (omega arith) (omega arith), tt));
+      blocks-apart = (
+        (
+          (
+            record { status = apart-at 0x40 2 0x50 6 (omega arith) (omega arith); word = λ t. apart-at 0x46 2 0x50 6 (omega arith) (omega arith) },
+            record { status = apart-down 0x50 2 0x40 6 (omega arith) (omega arith); word = λ t. apart-down 0x56 2 0x40 6 (omega arith) (omega arith) },
+          ),
+          tt,
+        ),
+        (tt, tt),
+      );
     }
 
 pub other-clear : wordAt two (place (record { 0 = 0 }) other 0) ≡ 0

@@ -15,9 +15,12 @@ use Rattle.scb.specs.Words as scb
 use Rattle.scb.specs.Words.{field, bit, cuc, resets, cuNumber}
 use Rattle.scb.specs.declared.CuState.the-variants as cus
 use Rattle.device.specs.Limits.{areaSize}
+use Rattle.device.specs.Numbers.{actionNumber}
 use Rattle.device.specs.State.{cuState, isActive, isHolding}
+use Rattle.device.specs.declared.Action.the-variants as action
 use Rattle.device.specs.declared.Device.{Device}
-use Rattle.actions.specs.Block.{statusAt, commandAt, linkAt}
+use Rattle.actions.specs.Block.{statusAt, commandAt, linkAt, argumentAt}
+use Rattle.command.specs.Begin.{cmd}
 use Rattle.control.specs.Obey.{ofScb}
 use Rattle.chip.specs.World.{World, worldOf}
 use Rattle.chip.specs.Call.{attention, turn}
@@ -42,10 +45,19 @@ abbrev pub All : (Offset → Type 0) → List Offset → Type 0
 All p [] = Unit {0}
 All p (b ∷ bs) = p b × All p bs
 
--- no two of the blocks have one of their first eight bytes in common: status, command, link, TDR's word
-abbrev pub BlocksApart : ℕ → RealAddress → List Offset → Type 0
-BlocksApart n base [] = Unit {0}
-BlocksApart n base (b ∷ bs) = All (λ c. Apart n (place base b statusAt) 8 (place base c statusAt) 8) bs × BlocksApart n base bs
+-- a block whose command is TDR, CMD 5
+abbrev pub isTdr : RealAddress → List ℕ → Offset → Type 0
+isTdr base m b = cmd (wordAt m (place base b commandAt)) ≡ actionNumber action.Tdr
+
+-- no result of the block b, its status or TDR's word, is one of the six bytes of the block c: status, command, link
+pub record NoResult (n : ℕ) (base : RealAddress) (tdr : Offset → Type 0) (b c : Offset) : Type 0 where
+  pub status : Apart n (place base b statusAt) 2 (place base c statusAt) 6
+  pub word : tdr b → Apart n (place base b argumentAt) 2 (place base c statusAt) 6
+
+-- 01, "Turns": no result may be another command's byte
+abbrev pub BlocksApart : ℕ → RealAddress → (Offset → Type 0) → List Offset → Type 0
+BlocksApart n base tdr [] = Unit {0}
+BlocksApart n base tdr (b ∷ bs) = All (λ c. NoResult n base tdr b c × NoResult n base tdr c b) bs × BlocksApart n base tdr bs
 
 -- ---- the start: an attention that is to start the command unit at the block b, where the list b, bs stands. No frame is held. The SCB's
 -- status and command words are no bytes of the blocks
@@ -57,8 +69,8 @@ pub record Starting (d : Device) (m : List ℕ) (b : Offset) (bs : List Offset) 
   pub start : cuc (wordAt m (ofScb (d .units) scb.commandAt)) ≡ 1
   pub at : offsetAt m (ofScb (d .units) scb.cblAt) ≡ b
   pub listed : Listed (d .units .base) m (b ∷ bs)
-  pub scb-apart : All (λ c. Apart (length m) (ofScb (d .units) scb.statusAt) 4 (place (d .units .base) c statusAt) 8) (b ∷ bs)
-  pub blocks-apart : BlocksApart (length m) (d .units .base) (b ∷ bs)
+  pub scb-apart : All (λ c. Apart (length m) (ofScb (d .units) scb.statusAt) 4 (place (d .units .base) c statusAt) 6) (b ∷ bs)
+  pub blocks-apart : BlocksApart (length m) (d .units .base) (isTdr (d .units .base) m) (b ∷ bs)
 
 -- ---- the run: the attention, and what happens after it
 
@@ -114,7 +126,7 @@ pub record DoneAsIn2 (chip : Chip) (s : chip .Inner) (es : List Event) (w : Worl
   pub answers : answersOf chip s es (shown w) ≡ answersBy es w
 
 pub record Demand3 (chip : Chip) : Type 0 where
-  -- within 132 times n turns. It is asked where no frame is held and none arrives, the host writes nothing, and the blocks and the SCB are apart:
+  -- within 132 times n turns. It is asked where no frame is held and none arrives, the host writes nothing, and the SCB and the blocks are apart:
   -- less than demand 3 asks, so a chip that lacks it lacks demand 3
   pub within : (s : chip .Inner) (d : Device) (m h out : List ℕ) (b : Offset) (bs : List Offset) (reports : List ℕ)
       → Sound attention d m h out → Lent attention (lentOf d m h out) → Starting d m b bs → AllReports reports
