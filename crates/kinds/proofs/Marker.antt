@@ -57,7 +57,9 @@ record-kept is.Foreign a = refl
 module _ (base : RealAddress) (o : Offset) (m : List ℕ) (room : 8 ≤ length m) where
   behind : (p : Offset) → p ≡ o → wordAt (apply (wordTo (place base p 0) 0xA000 ∷ []) m) (place base o 6) ≡ wordAt m (place base o 6)
   unfolding digits
-  behind p e = rw e (word-other m (place base o 0) (digits 2 0xA000) (place base o 6) (place-up base o (length m) 0 2 6 2 (omega arith) (omega (arith, room))))
+  behind p e =
+      let clear = place-up base o (length m) 0 2 6 2 (omega arith) (omega (arith, room)) in
+      rw e (word-other m (place base o 0) (digits 2 0xA000) (place base o 6) clear)
 
   word-stays : (c : Cu) → InWork c o → wordAt (apply (marks base c) m) (place base o 6) ≡ wordAt m (place base o 6)
   word-stays cu.Idle w = refl
@@ -93,4 +95,5 @@ marked-done = refl
 
 pub marker-completes : Completes (withUnit measuring) zeros (marker .calls tt (turn 0) (lentOf (withUnit measuring) zeros area area)) block
 marker-completes =
-    record { begun = refl; before = not-done; after = rw (marked-memory (withUnit measuring) zeros area area measuring-wide measuring-range) marked-done }
+    let e = marked-memory (withUnit measuring) zeros area area measuring-wide measuring-range in
+    record { begun = refl; before = not-done; after = rw e marked-done }

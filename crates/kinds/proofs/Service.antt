@@ -73,8 +73,8 @@ own-apart : (n : ℕ) (T : Type 0) (base : RealAddress) (b : Offset) (scb a : �
 own-apart n T base b scb a c [] p = tt
 own-apart n T base b scb a c (w ∷ ws) p = (rw (p .0 .two) (spot-apart n T base b scb a (w .to) c (p .0 .spot)), own-apart n T base b scb a c ws (p .1))
 
-pub own-kept : (T : Type 0) (base : RealAddress) (b : Offset) (scb a : ℕ) (ws : List Write) (m : List ℕ) → Clear (length m) T base b scb a → AllOwn T base b scb ws
-    → wordAt (apply ws m) a ≡ wordAt m a
+pub own-kept : (T : Type 0) (base : RealAddress) (b : Offset) (scb a : ℕ) (ws : List Write) (m : List ℕ) → Clear (length m) T base b scb a
+    → AllOwn T base b scb ws → wordAt (apply ws m) a ≡ wordAt m a
 own-kept T base b scb a ws m c p = word-kept ws m a (own-apart (length m) T base b scb a c ws p)
 
 -- ---- the words of the block itself, and of another

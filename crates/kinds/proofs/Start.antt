@@ -223,7 +223,8 @@ module _ (w : World) (b : Offset) (bs : List Offset) (s : Starting (w .device) (
   unfolding obey unitsAfter
   obeyed-ends rs room l =
       let v = worldAfter (obey (w .device) (command (w .device) (w .memory) b bs s) (w .memory)) in
-      progress (length (w .memory)) (isTdr (w .device .units .base) (w .memory)) (b ∷ bs) room rs v [] b bs (obeyed-free (w .device) (w .memory) b bs s) (obeyed-at (w .device) (w .memory) b bs s)
+      progress (length (w .memory)) (isTdr (w .device .units .base) (w .memory)) (b ∷ bs) room rs v [] b bs
+      (obeyed-free (w .device) (w .memory) b bs s) (obeyed-at (w .device) (w .memory) b bs s)
       (rw (obeyed-unit (w .device) (w .memory) b bs s) l)
 
   pub list-ends : (rs : List ℕ) → 8 ≤ length (w .memory) → 66 + 66 * length bs ≤ length rs → Ends rs (afterwards (attentionOf w))

@@ -135,8 +135,8 @@ module _ (n : ℕ) (tdr : Offset → Type 0) (base : RealAddress) (scb : ℕ) (w
           scb-done = s .scb-done;
           scb-rest = s .scb-rest;
           kinds =
-              own-kinds tdr base b scb ws m p (actionNumber action.Tdr) bs own-room (rw (s .size) (s .scb-rest .0)) (rw (s .size) (results-apart n base tdr b bs (s .blocks .0)))
-              (rw (s .size) (s .scb-rest .1)) (s .kinds);
+              own-kinds tdr base b scb ws m p (actionNumber action.Tdr) bs own-room (rw (s .size) (s .scb-rest .0))
+              (rw (s .size) (results-apart n base tdr b bs (s .blocks .0))) (rw (s .size) (s .scb-rest .1)) (s .kinds);
           blocks = s .blocks;
           before = s .before;
           all = s .all;
@@ -345,7 +345,9 @@ module _ (n : ℕ) (tdr : Offset → Type 0) (base : RealAddress) (scb : ℕ) (w
       (record {
         size = length-apply ws m ∙ s .size;
         unit = rw e refl;
-        listed = rest-listed tdr base b scb ws m p c cs (rw (s .size) (results-apart n base tdr b (c ∷ cs) (s .blocks .0))) (rw (s .size) (s .scb-rest .1)) (s .listed);
+        listed =
+            rest-listed tdr base b scb ws m p c cs (rw (s .size) (results-apart n base tdr b (c ∷ cs) (s .blocks .0)))
+            (rw (s .size) (s .scb-rest .1)) (s .listed);
         done = (d, done-kept tdr base b scb ws m p fs (rw (s .size) (s .before .0)) (rw (s .size) (s .scb-done)) (s .done));
         scb-done = (s .scb-rest .0, s .scb-done);
         scb-rest = s .scb-rest .1;
@@ -492,4 +494,5 @@ module _ (n : ℕ) (tdr : Offset → Type 0) (p : Part) (scb : ℕ) (whole : Lis
       end-next n tdr p scb whole m (cu.Ending g k) fs b room g (sent (p .setup) k report) x to unit (s .unit)
       (sent-at (tdr b) (p .base) b scb (p .setup) k report) bs s
   service-next (cu.Failing g) report s to unit =
-      end-next n tdr p scb whole m (cu.Failing g) fs b room g (notSent (p .setup)) x to unit (s .unit) (not-sent-at (tdr b) (p .base) b scb (p .setup)) bs s
+      end-next n tdr p scb whole m (cu.Failing g) fs b room g (notSent (p .setup)) x to unit (s .unit)
+      (not-sent-at (tdr b) (p .base) b scb (p .setup)) bs s

@@ -147,7 +147,9 @@ module _ (chip : Chip) where
       let l = lent-two attention idle two tt two-bytes idle-wide in
       let n = length-replicate {A = ℕ} 264 0 in
       let same = k .each (chip .first) idle two area area one (other ∷ []) (replicate 264 0) s l starting (zero-reports 264) .0 in
-      let done = d .within (chip .first) idle two area area one (other ∷ []) (replicate 264 0) s l starting (zero-reports 264) (omega (arith, n)) .done .1 .0 in
+      let done =
+      d .within (chip .first) idle two area area one (other ∷ []) (replicate 264 0) s l starting (zero-reports 264) (omega (arith, n)) .done .1 .0
+      in
       no-c (rw (same, other-clear) at done)
 
 -- ---- and demand 2: the third turn after the start begins the second command
