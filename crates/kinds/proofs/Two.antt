@@ -140,7 +140,8 @@ unfolding field
 no-c e = let z : _≡_ {A = ℕ} 0 1 = cc in omega arith
 
 module _ (chip : Chip) where
-  -- ---- serves the first command only: demand 3. The second block's status is 0 before, and has no C ever after
+  -- ---- serves the first command only: demand 3, in a list of two NOPs that no write but their own reaches. The second block's status is 0
+  -- before, and has no C ever after
   pub first-only-lacks-3 : FirstOnly chip → Demand3 chip → ⊥
   first-only-lacks-3 k d =
       let s = sound-two attention idle two tt two-size idle-wide idle-range in

@@ -126,8 +126,8 @@ pub record DoneAsIn2 (chip : Chip) (s : chip .Inner) (es : List Event) (w : Worl
   pub answers : answersOf chip s es (shown w) ≡ answersBy es w
 
 pub record Demand3 (chip : Chip) : Type 0 where
-  -- within 132 times n turns. It is asked where no frame is held and none arrives, the host writes nothing, and the SCB and the blocks are apart:
-  -- less than demand 3 asks, so a chip that lacks it lacks demand 3
+  -- within 132 times n turns. It is asked of runs of turns while no frame is held: nothing but the commands' results and the SCB's status is
+  -- written then. Arguments, descriptors and data may lie anywhere, since each block gets its C all the same
   pub within : (s : chip .Inner) (d : Device) (m h out : List ℕ) (b : Offset) (bs : List Offset) (reports : List ℕ)
       → Sound attention d m h out → Lent attention (lentOf d m h out) → Starting d m b bs → AllReports reports
       → 132 * length (b ∷ bs) ≤ length reports → Completed d (b ∷ bs) (started chip s (turnsOf reports) (lentOf d m h out) .memory)
