@@ -1,0 +1,163 @@
+-- The inspector's list: which demand a chip of each wrong kind lacks, and that none meets the promises. Assumes nothing.
+use mathlib.Core.Path.{_≡_, refl, sym, ap, _∙_}
+use mathlib.Core.List.{List}
+use Prim.Native.Nat.{ℕ, _<_}
+use native.Mathlib.Omega.{arith}
+use lib.ListN.{getD}
+use Rattle.memory.specs.Memory.{wordAt}
+use Rattle.memory.specs.Address.{place}
+use Rattle.device.specs.State.{fresh}
+use Rattle.device.specs.Numbers.{counterPlace}
+use Rattle.device.specs.declared.Device.{Device}
+use Rattle.device.specs.declared.Refusal.the-variants as refusal
+use Rattle.image.specs.Image.{imageOf}
+use Rattle.image.proofs.Exact.{fresh-range, fresh-wide}
+use Rattle.image.proofs.Steps.{length-image}
+use Rattle.control.specs.Obey.{ofScb}
+use Rattle.chip.specs.World.{Ran}
+use Rattle.chip.specs.Call.{attention, turn}
+use Rattle.lentoquist.specs.Calls.{Called}
+use Rattle.traces.specs.Bytes.{number, sentLength, edge}
+use Rattle.kinds.specs.Chips.{Chip, Meets}
+use Rattle.kinds.specs.Demands.{Demand1, lentOf, AsDefined, Demand2}
+use Rattle.kinds.specs.Kinds.{RefusesAll, OneAnswer, MemoryAsLent, settingsIn, SetsNothing, MeasuresNothing, SendsNothing, MarksOnly, Invented, anotherCounter, anotherEdge, Invents}
+use Rattle.kinds.proofs.Ours.{has-demand1, has-demand2}
+use Rattle.kinds.proofs.Witness.{zeros, area, sound-on, lent-on, firstly, idly, first-answer, idle-answer, first-status, zero-status, block, withUnit, turned, settingUp, setting-wide, setting-range, setting-done, was-set, is-set, measuring, measuring-wide, measuring-range, measuring-done, measured, begun, sending, sending-wide, sending-range, sending-done, sent-length, not-done, not-measured}
+
+module _ (chip : Chip) where
+  -- ---- refuses everything: table of refusals, demand 1. A fresh record is to be given 0 at a turn
+
+  pub refuses-lacks-1 : RefusesAll chip → Demand1 chip → ⊥
+  refuses-lacks-1 k d =
+      let a = lentOf fresh zeros area area in
+      let l = lent-on (turn 0) fresh (omega arith) fresh-wide in
+      let s = sound-on (turn 0) fresh tt fresh-wide fresh-range in
+      let more : 0 < number (chip .calls (chip .first) (turn 0) a .answer) = k .each (chip .first) (turn 0) fresh zeros area area s l in
+      let none : number (chip .calls (chip .first) (turn 0) a .answer) ≡ 0 =
+      d .each (chip .first) (turn 0) a l .given refusal.Accepted (
+        s .size,
+        record { holding = s .holding; outgoing = s .outgoing; kept = length-image fresh (fresh-wide .own) (fresh-wide .listed) },
+        tt,
+        record { device = fresh; wide = fresh-wide; range = fresh-range; image = refl },
+      )
+      in
+      omega (arith, more, none)
+
+  pub no-refuses-all : RefusesAll chip → Meets chip → ⊥
+  no-refuses-all k p = refuses-lacks-1 k (has-demand1 chip p)
+
+  -- ---- a constant answer: demand 2. The first attention reports an edge, a turn before it does not
+
+  module _ (d : Demand2 chip) where
+    at-first : AsDefined firstly (chip .calls (chip .first) attention (lentOf fresh zeros area area))
+    at-first =
+        d .each (chip .first) attention fresh zeros area area (sound-on attention fresh tt fresh-wide fresh-range)
+        (lent-on attention fresh tt fresh-wide)
+
+    at-turn : AsDefined idly (chip .calls (chip .first) (turn 0) (lentOf fresh zeros area area))
+    at-turn =
+        d .each (chip .first) (turn 0) fresh zeros area area (sound-on (turn 0) fresh tt fresh-wide fresh-range)
+        (lent-on (turn 0) fresh (omega arith) fresh-wide)
+
+  pub one-answer-lacks-2 : OneAnswer chip → Demand2 chip → ⊥
+  one-answer-lacks-2 k d =
+      let x =
+      k .each (chip .first) attention fresh zeros area area (sound-on attention fresh tt fresh-wide fresh-range)
+      (lent-on attention fresh tt fresh-wide)
+      in
+      let y =
+      k .each (chip .first) (turn 0) fresh zeros area area (sound-on (turn 0) fresh tt fresh-wide fresh-range)
+      (lent-on (turn 0) fresh (omega arith) fresh-wide)
+      in
+      let p : k .answer ≡ 4294967296 = sym x ∙ at-first d .answer ∙ first-answer in
+      let q : k .answer ≡ 0 = sym y ∙ at-turn d .answer ∙ idle-answer in
+      omega (arith, p, q)
+
+  pub no-one-answer : OneAnswer chip → Meets chip → ⊥
+  no-one-answer k p = one-answer-lacks-2 k (has-demand2 chip p)
+
+  -- ---- memory untouched: demand 2. The first attention writes the SCB's status
+
+  pub as-lent-lacks-2 : MemoryAsLent chip → Demand2 chip → ⊥
+  as-lent-lacks-2 k d =
+      let x =
+      k .each (chip .first) attention fresh zeros area area (sound-on attention fresh tt fresh-wide fresh-range)
+      (lent-on attention fresh tt fresh-wide)
+      in
+      let same : firstly .memory ≡ zeros = sym (at-first d .memory) ∙ x in
+      let z : wordAt (firstly .memory) 0 ≡ wordAt zeros 0 = ap (λ (m : List ℕ). wordAt m 0) same in
+      omega (arith, z, first-status, zero-status)
+
+  pub no-memory-as-lent : MemoryAsLent chip → Meets chip → ⊥
+  no-memory-as-lent k p = as-lent-lacks-2 k (has-demand2 chip p)
+
+  -- ---- complete without acting: demand 2. Of settings, TDR's word and sent length, a chip that leaves one alone is excluded already
+
+  pub sets-nothing-lacks-2 : SetsNothing chip → Demand2 chip → ⊥
+  sets-nothing-lacks-2 k d =
+      let s = sound-on (turn 0) (withUnit settingUp) tt setting-wide setting-range in
+      let l = lent-on (turn 0) (withUnit settingUp) (omega arith) setting-wide in
+      let r = d .each (chip .first) (turn 0) (withUnit settingUp) zeros area area s l in
+      let x =
+      k .each (chip .first) 0 (withUnit settingUp) zeros area area block s l
+      (record { begun = refl; before = not-done; after = rw (r .memory) setting-done })
+      in
+      let e : settingsIn (imageOf (turned settingUp .outcome .device)) ≡ settingsIn (imageOf (withUnit settingUp)) =
+      sym (ap settingsIn (r .kept)) ∙ x
+      in
+      let z = ap (λ (y : List ℕ). getD y 2 0) e in
+      omega (arith, z, was-set, is-set)
+
+  pub measures-nothing-lacks-2 : MeasuresNothing chip → Demand2 chip → ⊥
+  measures-nothing-lacks-2 k d =
+      let s = sound-on (turn 0) (withUnit measuring) tt measuring-wide measuring-range in
+      let l = lent-on (turn 0) (withUnit measuring) (omega arith) measuring-wide in
+      let r = d .each (chip .first) (turn 0) (withUnit measuring) zeros area area s l in
+      let x =
+      k .each (chip .first) 0 (withUnit measuring) zeros area area block s l
+      (record { begun = refl; before = not-done; after = rw (r .memory) measuring-done }) begun refl
+      in
+      let z = sym (ap (λ (m : List ℕ). wordAt m (place (record { 0 = 0 }) block 6)) (r .memory)) ∙ x in
+      omega (arith, z, measured, not-measured)
+
+  pub sends-nothing-lacks-2 : SendsNothing chip → Demand2 chip → ⊥
+  sends-nothing-lacks-2 k d =
+      let s = sound-on (turn 0) (withUnit sending) tt sending-wide sending-range in
+      let l = lent-on (turn 0) (withUnit sending) (omega arith) sending-wide in
+      let r = d .each (chip .first) (turn 0) (withUnit sending) zeros area area s l in
+      let x =
+      k .each (chip .first) 0 (withUnit sending) zeros area area block s l
+      (record { begun = refl; before = not-done; after = rw (r .memory) sending-done })
+      in
+      let z = sym (ap sentLength (r .answer)) ∙ x in
+      omega (arith, z, sent-length)
+
+  pub marks-only-lacks-2 : MarksOnly chip → Demand2 chip → ⊥
+  marks-only-lacks-2 k d = measures-nothing-lacks-2 (k .tdr) d
+
+  pub no-sets-nothing : SetsNothing chip → Meets chip → ⊥
+  no-sets-nothing k p = sets-nothing-lacks-2 k (has-demand2 chip p)
+
+  pub no-measures-nothing : MeasuresNothing chip → Meets chip → ⊥
+  no-measures-nothing k p = measures-nothing-lacks-2 k (has-demand2 chip p)
+
+  pub no-sends-nothing : SendsNothing chip → Meets chip → ⊥
+  no-sends-nothing k p = sends-nothing-lacks-2 k (has-demand2 chip p)
+
+  pub no-marks-only : MarksOnly chip → Meets chip → ⊥
+  no-marks-only k p = marks-only-lacks-2 k (has-demand2 chip p)
+
+  -- ---- a counter or an edge that the definitions do not have: demand 2
+
+  module _ (x : Device) (said : Ran) (r : Called) (p : AsDefined said r) where
+    nothing-invented : Invented x said r → ⊥
+    nothing-invented (anotherCounter u s k c differs) = differs (ap (λ (m : List ℕ). wordAt m (ofScb u (counterPlace k))) (p .memory))
+    nothing-invented (anotherEdge differs) = differs (ap edge (p .answer))
+
+  pub invents-lacks-2 : Invents chip → Demand2 chip → ⊥
+  invents-lacks-2 k d =
+      let r = d .each (k .inner) (k .call) (k .device) (k .memory) (k .holding) (k .outgoing) (k .sound) (k .lent) in
+      nothing-invented (k .device) _ _ r (k .invented)
+
+  pub no-invents : Invents chip → Meets chip → ⊥
+  no-invents k p = invents-lacks-2 k (has-demand2 chip p)

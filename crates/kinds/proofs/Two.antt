@@ -1,0 +1,288 @@
+-- A list of two NOPs: a chip that serves the first command only lacks demand 3. Assumes nothing.
+use mathlib.Core.Path.{_≡_, refl, ap, _∙_}
+use mathlib.Core.Bool.{true, false}
+use mathlib.Core.List.{List, [], _∷_}
+use Prim.Native.Nat.{ℕ, zero, suc, _+_, _≤_, _<_}
+use native.Mathlib.Omega.{arith}
+use lib.ListN.{length, replicate, length-replicate}
+use Rattle.memory.specs.Address.{place}
+use Rattle.memory.specs.Memory.{byteAt, putByte, bytesAt, putBytes, value, digits, fieldAt, wordAt, Write, apply, wordTo}
+use Rattle.memory.specs.declared.Offset.{Offset}
+use Rattle.memory.proofs.Bytes.{Bytes, apply-bytes, digits-bytes}
+use Rattle.memory.proofs.Fields.{Apart, up, down}
+use Rattle.memory.proofs.Laws.{length-apply}
+use Rattle.scb.specs.Control.{cuNext, ruNext}
+use Rattle.scb.specs.Words.{field, bit, joined, acknowledged, anyOf, eventBits, statusWord}
+use Rattle.device.specs.Limits.{areaSize}
+use Rattle.device.specs.Numbers.{actionOf}
+use Rattle.device.specs.declared.Action.the-variants as action
+use Rattle.device.specs.declared.Cu.{Cu}
+use Rattle.device.specs.declared.Cu.the-variants as cu
+use Rattle.device.specs.declared.Device.{Device}
+use Rattle.phases.specs.Words.{cuWord}
+use Rattle.image.specs.Image.{imageOf}
+use Rattle.image.specs.Ranges.{cuFits, inRange, Wide}
+use Rattle.image.proofs.Exact.{image-bytes}
+use Rattle.actions.specs.Actions.{act}
+use Rattle.command.specs.Begin.{begunBy, begin}
+use Rattle.command.specs.End.{nextAfter, end}
+use Rattle.command.specs.Service.{service}
+use Rattle.control.specs.Obey.{cuFirst, obeyCuc, ruFirst, obeyRuc}
+use Rattle.attention.specs.Attention as attentions
+use Rattle.attention.specs.Status.{statusTo}
+use Rattle.chip.specs.World.{worldOf}
+use Rattle.chip.specs.Attention.{attentionOf}
+use Rattle.chip.specs.Turn.{concluded, commandTurn, turnOf}
+use Rattle.chip.specs.Call.{Call, attention, turn, ran}
+use Rattle.lentoquist.specs.Calls.{Areas}
+use Rattle.traces.specs.Event.{Event, call}
+use Rattle.kinds.specs.Chips.{Chip, Given, Lent, Meets, run}
+use Rattle.kinds.specs.Demands.{FrameOk, Sound, lentOf, Demand2}
+use Rattle.kinds.specs.Lists.{Starting, turnsOf, AllReports, started, Demand3}
+use Rattle.kinds.specs.Kinds.{FirstOnly}
+use Rattle.kinds.proofs.Equal.{all-areas}
+use Rattle.kinds.proofs.Ours.{has-demand2}
+use Rattle.kinds.proofs.Witness.{zeros, area, zero-bytes, smallest, withUnit, wide-with, range-with}
+
+-- ---- the memory: SCB at 30h with START and the CBL offset 40h; NOPs at 40h and, with EL, at 50h
+
+abbrev pub words : List Write
+words = wordTo 0x32 0x0100 ∷ wordTo 0x34 0x40 ∷ wordTo 0x44 0x50 ∷ wordTo 0x52 0x8000 ∷ []
+
+abbrev pub two : List ℕ
+two = apply words zeros
+
+abbrev pub one : Offset
+one = record { 0 = 0x40 }
+
+abbrev pub other : Offset
+other = record { 0 = 0x50 }
+
+abbrev pub idle : Device
+idle = withUnit cu.Idle
+
+pub two-size : length two ≡ 8192
+two-size = length-apply words zeros ∙ length-replicate {A = ℕ} 8192 0
+
+pub two-bytes : Bytes two
+two-bytes =
+    apply-bytes words zeros (digits-bytes 2 0x0100, (digits-bytes 2 0x40, (digits-bytes 2 0x50, (digits-bytes 2 0x8000, tt)))) (zero-bytes 8192)
+
+-- ---- what is lent, whatever writes have been made
+
+pub sound-two : (c : Call) (d : Device) (m : List ℕ) → FrameOk c → length m ≡ 8192 → Wide d → inRange d ≡ true → Sound c d m area area
+sound-two c d m f n w e =
+    record {
+      size = rw n smallest;
+      holding = length-replicate {A = ℕ} areaSize 0;
+      outgoing = length-replicate {A = ℕ} areaSize 0;
+      frame = f;
+      wide = w;
+      range = e;
+    }
+
+pub lent-two : (c : Call) (d : Device) (m : List ℕ) → Given c → Bytes m → Wide d → Lent c (lentOf d m area area)
+lent-two c d m g b w =
+    record { given = g; memory = b; holding = zero-bytes areaSize; outgoing = zero-bytes areaSize; kept = image-bytes d w }
+
+pub idle-wide : Wide idle
+unfolding cuWord
+idle-wide = wide-with cu.Idle (record { at = omega arith; kind = omega arith; size = omega arith; next = omega arith })
+
+pub idle-range : inRange idle ≡ true
+unfolding cuFits
+idle-range = range-with cu.Idle refl
+
+-- ---- the start
+
+apart-at : (a j b k : ℕ) → a + j ≤ b → b + k ≤ a + 8192 → Apart (length two) a j b k
+apart-at a j b k p q = rw two-size (up 8192 a j b k p q)
+
+apart-down : (a j b k : ℕ) → b + k ≤ a → a + j ≤ b + 8192 → Apart (length two) a j b k
+apart-down a j b k p q = rw two-size (down 8192 a j b k p q)
+
+pub starting : Starting idle two one (other ∷ [])
+unfolding byteAt putByte bytesAt putBytes value digits fieldAt place field
+starting =
+    record {
+      initialised = refl;
+      idle = refl;
+      free = refl;
+      unreset = refl;
+      start = refl;
+      at = refl;
+      listed = (refl, refl, refl);
+      scb-apart = (apart-at 0x30 4 0x40 6 (omega arith) (omega arith), (apart-at 0x30 4 0x50 6 (omega arith) (omega arith), tt));
+      blocks-apart = (
+        (
+          (
+            record { status = apart-at 0x40 2 0x50 6 (omega arith) (omega arith); word = λ t. apart-at 0x46 2 0x50 6 (omega arith) (omega arith) },
+            record { status = apart-down 0x50 2 0x40 6 (omega arith) (omega arith); word = λ t. apart-down 0x56 2 0x40 6 (omega arith) (omega arith) },
+          ),
+          tt,
+        ),
+        (tt, tt),
+      );
+    }
+
+pub other-clear : wordAt two (place (record { 0 = 0 }) other 0) ≡ 0
+unfolding byteAt putByte bytesAt putBytes value digits fieldAt place
+other-clear = refl
+
+-- ---- 264 turns
+
+pub zero-reports : (n : ℕ) → AllReports (replicate n 0)
+zero-reports zero = tt
+zero-reports (suc n) = (omega arith, zero-reports n)
+
+no-c : bit 0 15 ≡ true → ⊥
+unfolding field
+no-c e = let z : _≡_ {A = ℕ} 0 1 = cc in omega arith
+
+module _ (chip : Chip) where
+  -- ---- serves the first command only: demand 3, in a list of two NOPs that no write but their own reaches. The second block's status is 0
+  -- before, and has no C ever after
+  pub first-only-lacks-3 : FirstOnly chip → Demand3 chip → ⊥
+  first-only-lacks-3 k d =
+      let s = sound-two attention idle two tt two-size idle-wide idle-range in
+      let l = lent-two attention idle two tt two-bytes idle-wide in
+      let n = length-replicate {A = ℕ} 264 0 in
+      let same = k .each (chip .first) idle two area area one (other ∷ []) (replicate 264 0) s l starting (zero-reports 264) .0 in
+      let done =
+      d .within (chip .first) idle two area area one (other ∷ []) (replicate 264 0) s l starting (zero-reports 264) (omega (arith, n)) .done .1 .0
+      in
+      no-c (rw (same, other-clear) at done)
+
+-- ---- and demand 2: the third turn after the start begins the second command
+
+abbrev nop : Cu
+nop = cu.Acting (record { block = one; el = false; suspend = false; interrupt = false; pausing = false }) action.Nop
+
+abbrev m1 : List ℕ
+m1 = apply (wordTo 0x30 0x0200 ∷ wordTo 0x32 0 ∷ []) two
+
+abbrev m2 : List ℕ
+m2 = apply (wordTo 0x40 0x4000 ∷ []) m1
+
+abbrev m3 : List ℕ
+m3 = apply (wordTo 0x40 0xA000 ∷ []) m2
+
+abbrev m4 : List ℕ
+m4 = apply (wordTo 0x50 0x4000 ∷ []) m3
+
+-- a call takes the one state and memory to the other, and leaves the zero areas
+record Goes (c : Call) (d : Device) (m : List ℕ) (d′ : Device) (m′ : List ℕ) : Type 0 where
+  pub device : ran c (worldOf d m area area) .outcome .device ≡ d′
+  pub memory : ran c (worldOf d m area area) .memory ≡ m′
+  pub holding : ran c (worldOf d m area area) .holding ≡ area
+  pub outgoing : ran c (worldOf d m area area) .outgoing ≡ area
+
+starts : Goes attention idle two (withUnit (cu.Waiting one)) m1
+unfolding byteAt putByte bytesAt putBytes value digits fieldAt place field joined acknowledged anyOf eventBits statusWord cuNext ruNext cuFirst obeyCuc ruFirst obeyRuc statusTo attentions.unitsAfter attentions.obey attentions.attend attentions.attention attentionOf
+starts = record { device = refl; memory = refl; holding = refl; outgoing = refl }
+
+begins : Goes (turn 0) (withUnit (cu.Waiting one)) m1 (withUnit nop) m2
+unfolding byteAt putByte bytesAt putBytes value digits fieldAt place field anyOf actionOf begunBy begin service concluded commandTurn turnOf
+begins = record { device = refl; memory = refl; holding = refl; outgoing = refl }
+
+ends : Goes (turn 0) (withUnit nop) m2 (withUnit (cu.Waiting other)) m3
+unfolding byteAt putByte bytesAt putBytes value digits fieldAt place field anyOf act nextAfter end service concluded commandTurn turnOf
+ends = record { device = refl; memory = refl; holding = refl; outgoing = refl }
+
+goes-on : ran (turn 0) (worldOf (withUnit (cu.Waiting other)) m3 area area) .memory ≡ m4
+unfolding byteAt putByte bytesAt putBytes value digits fieldAt place field anyOf actionOf begunBy begin service concluded commandTurn turnOf
+goes-on = refl
+
+begun-other : wordAt m4 (place (record { 0 = 0 }) other 0) ≡ 0x4000
+unfolding byteAt putByte bytesAt putBytes value digits fieldAt place
+begun-other = refl
+
+waiting-wide : (o : Offset) → o .0 < 65536 → Wide (withUnit (cu.Waiting o))
+unfolding cuWord
+waiting-wide o p = wide-with (cu.Waiting o) (record { at = p; kind = omega arith; size = omega arith; next = omega arith })
+
+waiting-range : (o : Offset) → inRange (withUnit (cu.Waiting o)) ≡ true
+unfolding cuFits
+waiting-range o = range-with (cu.Waiting o) refl
+
+nop-wide : Wide (withUnit nop)
+unfolding cuWord
+nop-wide = wide-with nop (record { at = omega arith; kind = omega arith; size = omega arith; next = omega arith })
+
+nop-range : inRange (withUnit nop) ≡ true
+unfolding cuFits
+nop-range = range-with nop refl
+
+bytes1 : Bytes m1
+bytes1 = apply-bytes (wordTo 0x30 0x0200 ∷ wordTo 0x32 0 ∷ []) two (digits-bytes 2 0x0200, (digits-bytes 2 0, tt)) two-bytes
+
+bytes2 : Bytes m2
+bytes2 = apply-bytes (wordTo 0x40 0x4000 ∷ []) m1 (digits-bytes 2 0x4000, tt) bytes1
+
+bytes3 : Bytes m3
+bytes3 = apply-bytes (wordTo 0x40 0xA000 ∷ []) m2 (digits-bytes 2 0xA000, tt) bytes2
+
+size1 : length m1 ≡ 8192
+size1 = length-apply (wordTo 0x30 0x0200 ∷ wordTo 0x32 0 ∷ []) two ∙ two-size
+
+size2 : length m2 ≡ 8192
+size2 = length-apply (wordTo 0x40 0x4000 ∷ []) m1 ∙ size1
+
+size3 : length m3 ≡ 8192
+size3 = length-apply (wordTo 0x40 0xA000 ∷ []) m2 ∙ size2
+
+module _ (chip : Chip) (q : Demand2 chip) where
+  -- a chip that has demand 2 goes the same way
+  leads : (s : chip .Inner) (c : Call) (cs : List Event) (d : Device) (m : List ℕ) (d′ : Device) (m′ : List ℕ) → Goes c d m d′ m′
+      → Sound c d m area area → Lent c (lentOf d m area area)
+      → run chip s (call c ∷ cs) (lentOf d m area area) ≡ run chip (chip .next s c (lentOf d m area area)) cs (lentOf d′ m′ area area)
+  leads s c cs d m d′ m′ g k l =
+      let r = q .each s c d m area area k l in
+      ap (run chip (chip .next s c (lentOf d m area area)) cs)
+      (all-areas (chip .calls s c (lentOf d m area area) .areas) m′ area area (imageOf d′) (r .memory ∙ g .memory) (r .holding ∙ g .holding)
+      (r .outgoing ∙ g .outgoing) (r .kept ∙ ap imageOf (g .device)))
+
+  first-three : (s : chip .Inner)
+      → wordAt (started chip s (turnsOf (0 ∷ 0 ∷ 0 ∷ [])) (lentOf idle two area area) .memory) (place (record { 0 = 0 }) other 0) ≡ 0x4000
+  first-three s =
+      let e1 =
+      leads s attention (turnsOf (0 ∷ 0 ∷ 0 ∷ [])) idle two (withUnit (cu.Waiting one)) m1 starts
+      (sound-two attention idle two tt two-size idle-wide idle-range) (lent-two attention idle two tt two-bytes idle-wide)
+      in
+      let s1 = chip .next s attention (lentOf idle two area area) in
+      let w1 = waiting-wide one (omega arith) in
+      let e2 =
+      leads s1 (turn 0) (turnsOf (0 ∷ 0 ∷ [])) (withUnit (cu.Waiting one)) m1 (withUnit nop) m2 begins
+      (sound-two (turn 0) (withUnit (cu.Waiting one)) m1 tt size1 w1 (waiting-range one))
+      (lent-two (turn 0) (withUnit (cu.Waiting one)) m1 (omega arith) bytes1 w1)
+      in
+      let s2 = chip .next s1 (turn 0) (lentOf (withUnit (cu.Waiting one)) m1 area area) in
+      let e3 =
+      leads s2 (turn 0) (turnsOf (0 ∷ [])) (withUnit nop) m2 (withUnit (cu.Waiting other)) m3 ends
+      (sound-two (turn 0) (withUnit nop) m2 tt size2 nop-wide nop-range)
+      (lent-two (turn 0) (withUnit nop) m2 (omega arith) bytes2 nop-wide)
+      in
+      let s3 = chip .next s2 (turn 0) (lentOf (withUnit nop) m2 area area) in
+      let w3 = waiting-wide other (omega arith) in
+      let last =
+      q .each s3 (turn 0) (withUnit (cu.Waiting other)) m3 area area
+      (sound-two (turn 0) (withUnit (cu.Waiting other)) m3 tt size3 w3 (waiting-range other))
+      (lent-two (turn 0) (withUnit (cu.Waiting other)) m3 (omega arith) bytes3 w3)
+      in
+      let e : started chip s (turnsOf (0 ∷ 0 ∷ 0 ∷ [])) (lentOf idle two area area) .memory ≡ m4 =
+      ap (λ (a : Areas). a .memory) (e1 ∙ e2 ∙ e3) ∙ last .memory ∙ goes-on
+      in
+      ap (λ (m : List ℕ). wordAt m (place (record { 0 = 0 }) other 0)) e ∙ begun-other
+
+module _ (chip : Chip) where
+  pub first-only-lacks-2 : FirstOnly chip → Demand2 chip → ⊥
+  first-only-lacks-2 k d =
+      let same =
+      k .each (chip .first) idle two area area one (other ∷ []) (0 ∷ 0 ∷ 0 ∷ [])
+      (sound-two attention idle two tt two-size idle-wide idle-range)
+      (lent-two attention idle two tt two-bytes idle-wide) starting (zero-reports 3) .0
+      in
+      omega (arith, same, other-clear, first-three chip d (chip .first))
+
+  pub no-first-only : FirstOnly chip → Meets chip → ⊥
+  no-first-only k p = first-only-lacks-2 k (has-demand2 chip p)

@@ -1,0 +1,222 @@
+-- Calls that tell a wrong chip from a right one: 8,192 bytes of memory, all zero, and what the definitions make of it. Assumes nothing.
+use mathlib.Core.Path.{_≡_, refl}
+use mathlib.Core.Bool.{true, false}
+use mathlib.Core.List.{List}
+use Prim.Native.Nat.{ℕ, zero, suc, _<_}
+use native.Mathlib.Omega.{arith}
+use lib.ListN.{length, getD, replicate, length-replicate}
+use Rattle.memory.specs.Address.{place, beyond}
+use Rattle.memory.specs.Memory.{byteAt, putByte, bytesAt, putBytes, value, digits, fieldAt, wordAt}
+use Rattle.memory.specs.Size.{Allowed}
+use Rattle.memory.specs.declared.Offset.{Offset}
+use Rattle.memory.proofs.Bytes.{Bytes}
+use Rattle.scb.specs.Words.{field, joined, anyOf, eventBits, statusWord, bit, noEvents}
+use Rattle.device.specs.Limits.{areaSize}
+use Rattle.device.specs.State.{fresh, freshSettings}
+use Rattle.device.specs.declared.Action.the-variants as action
+use Rattle.device.specs.declared.Begun.{Begun}
+use Rattle.device.specs.declared.Cu.{Cu}
+use Rattle.device.specs.declared.Cu.the-variants as cu
+use Rattle.device.specs.declared.Device.{Device}
+use Rattle.device.specs.declared.Ru.the-variants as ru
+use Rattle.device.specs.declared.Units.{Units}
+use Rattle.words.specs.Places.{bytesFrom}
+use Rattle.phases.specs.Words.{numberOf, cuWord, ruWord, ruRest, WordWide}
+use Rattle.image.specs.Ranges.{unitsFit, cuFits, ruFits, initialisedOrFresh, inRange, Wide}
+use Rattle.image.specs.Image.{front, tagBytes, baseBytes, wordBytes, headBytes, unitBytes, addressBytes, imageOf}
+use Rattle.image.proofs.Exact.{fresh-wide, image-bytes}
+use Rattle.actions.specs.Actions.{act, reported, isSent, sent}
+use Rattle.command.specs.End.{nextAfter, end}
+use Rattle.command.specs.Service.{service}
+use Rattle.attention.specs.Status.{statusTo}
+use Rattle.attention.specs.Attention as attentions
+use Rattle.chip.specs.World.{Ran, worldOf}
+use Rattle.chip.specs.Attention.{attentionOf}
+use Rattle.chip.specs.Turn.{concluded, commandTurn, turnOf}
+use Rattle.chip.specs.Call.{Call, attention, turn, ran}
+use Rattle.lentoquist.specs.Calls.{packed}
+use Rattle.traces.specs.Bytes.{sentLength}
+use Rattle.kinds.specs.Chips.{Given, Lent}
+use Rattle.kinds.specs.Demands.{FrameOk, Sound, lentOf}
+use Rattle.kinds.specs.Kinds.{settingsIn}
+
+-- ---- the areas
+
+abbrev pub zeros : List ℕ
+zeros = replicate 8192 0
+
+abbrev pub area : List ℕ
+area = replicate areaSize 0
+
+zero-each : (n i : ℕ) → getD (replicate n 0) i 0 < 256
+zero-each zero i = omega arith
+zero-each (suc n) zero = omega arith
+zero-each (suc n) (suc i) = zero-each n i
+
+pub zero-bytes : (n : ℕ) → Bytes (replicate n 0)
+zero-bytes n = record { each = zero-each n }
+
+pub smallest : Allowed 8192
+smallest = record { least = omega arith; most = omega arith; exponent = 13; power = refl }
+
+pub zeros-allowed : Allowed (length zeros)
+zeros-allowed = rw (length-replicate {A = ℕ} 8192 0) smallest
+
+-- ---- a state in range on them is a call that is not refused
+
+pub sound-on : (c : Call) (d : Device) → FrameOk c → Wide d → inRange d ≡ true → Sound c d zeros area area
+sound-on c d f w e =
+    record {
+      size = zeros-allowed;
+      holding = length-replicate {A = ℕ} areaSize 0;
+      outgoing = length-replicate {A = ℕ} areaSize 0;
+      frame = f;
+      wide = w;
+      range = e;
+    }
+
+pub lent-on : (c : Call) (d : Device) → Given c → Wide d → Lent c (lentOf d zeros area area)
+lent-on c d g w =
+    record { given = g; memory = zero-bytes 8192; holding = zero-bytes areaSize; outgoing = zero-bytes areaSize; kept = image-bytes d w }
+
+-- ---- the fresh chip: the first attention reports an edge and writes A000h, a turn does neither
+
+abbrev pub firstly : Ran
+firstly = ran attention (worldOf fresh zeros area area)
+
+abbrev pub idly : Ran
+idly = ran (turn 0) (worldOf fresh zeros area area)
+
+pub first-answer : packed (firstly .outcome .answer) ≡ 4294967296
+unfolding packed attentionOf attentions.attention attentions.initialise
+first-answer = refl
+
+pub idle-answer : packed (idly .outcome .answer) ≡ 0
+unfolding packed turnOf
+idle-answer = refl
+
+pub first-status : wordAt (firstly .memory) 0 ≡ 0xA000
+unfolding attentionOf attentions.attention attentions.initialise attentions.iscpOf byteAt putByte bytesAt putBytes value digits fieldAt place beyond
+first-status = refl
+
+pub zero-status : wordAt zeros 0 ≡ 0
+unfolding byteAt bytesAt value fieldAt
+zero-status = refl
+
+-- ---- a begun command at 40h that ends the list, its end turn next; the SCB at 30h, memory all zero
+
+abbrev pub block : Offset
+block = record { 0 = 0x40 }
+
+abbrev pub begun : Begun
+begun = record { block = block; el = true; suspend = false; interrupt = false; pausing = false }
+
+abbrev pub unitsWith : Cu → Units
+unitsWith c =
+    record {
+      initialised = true;
+      base = record { 0 = 0 };
+      scb = record { 0 = 0x30 };
+      events = noEvents;
+      rulast = false;
+      settings = freshSettings;
+      cu = c;
+      ru = ru.Idle;
+    }
+
+abbrev pub withUnit : Cu → Device
+withUnit c = record { units = unitsWith c; own = replicate 6 255; listed = replicate 96 0 }
+
+abbrev pub turned : Cu → Ran
+turned c = ran (turn 0) (worldOf (withUnit c) zeros area area)
+
+pub wide-with : (c : Cu) → WordWide (cuWord c) → Wide (withUnit c)
+unfolding ruWord
+wide-with c k =
+    record {
+      scb = omega arith;
+      minimum = omega arith;
+      cu = k;
+      ru = record { at = omega arith; kind = omega arith; size = omega arith; next = omega arith };
+      own = refl;
+      listed = refl;
+      own-bytes = fresh-wide .own-bytes;
+      listed-bytes = fresh-wide .listed-bytes;
+    }
+
+pub range-with : (c : Cu) → cuFits c ≡ true → inRange (withUnit c) ≡ true
+unfolding inRange unitsFit ruFits initialisedOrFresh
+range-with c e = rw e
+
+-- IA-Setup takes six zero bytes for the own address, which was six FFh
+abbrev pub settingUp : Cu
+settingUp = cu.Acting begun action.IaSetup
+
+pub setting-wide : Wide (withUnit settingUp)
+unfolding cuWord
+setting-wide = wide-with settingUp (record { at = omega arith; kind = omega arith; size = omega arith; next = omega arith })
+
+pub setting-range : inRange (withUnit settingUp) ≡ true
+unfolding cuFits
+setting-range = range-with settingUp refl
+
+pub setting-done : bit (wordAt (turned settingUp .memory) (place (record { 0 = 0 }) block 0)) 15 ≡ true
+unfolding byteAt putByte bytesAt putBytes value digits fieldAt place field joined anyOf eventBits statusWord act nextAfter end service statusTo concluded commandTurn turnOf
+setting-done = refl
+
+pub was-set : getD (settingsIn (imageOf (withUnit settingUp))) 2 0 ≡ 255
+unfolding imageOf headBytes front tagBytes baseBytes unitBytes wordBytes addressBytes digits eventBits joined numberOf cuWord ruWord ruRest bytesFrom
+was-set = refl
+
+pub is-set : getD (settingsIn (imageOf (turned settingUp .outcome .device))) 2 0 ≡ 0
+unfolding imageOf headBytes front tagBytes baseBytes unitBytes wordBytes addressBytes digits eventBits joined numberOf cuWord ruWord ruRest bytesFrom byteAt putByte bytesAt putBytes value fieldAt place field anyOf statusWord act nextAfter end service statusTo concluded commandTurn turnOf
+is-set = refl
+
+-- TDR's word becomes 8000h
+abbrev pub measuring : Cu
+measuring = cu.Acting begun action.Tdr
+
+pub measuring-wide : Wide (withUnit measuring)
+unfolding cuWord
+measuring-wide = wide-with measuring (record { at = omega arith; kind = omega arith; size = omega arith; next = omega arith })
+
+pub measuring-range : inRange (withUnit measuring) ≡ true
+unfolding cuFits
+measuring-range = range-with measuring refl
+
+pub measuring-done : bit (wordAt (turned measuring .memory) (place (record { 0 = 0 }) block 0)) 15 ≡ true
+unfolding byteAt putByte bytesAt putBytes value digits fieldAt place field joined anyOf eventBits statusWord act nextAfter end service statusTo concluded commandTurn turnOf
+measuring-done = refl
+
+pub measured : wordAt (turned measuring .memory) (place (record { 0 = 0 }) block 6) ≡ 0x8000
+unfolding byteAt putByte bytesAt putBytes value digits fieldAt place field joined anyOf eventBits statusWord act nextAfter end service statusTo concluded commandTurn turnOf
+measured = refl
+
+-- a Transmit without data sends its 14 bytes
+abbrev pub sending : Cu
+sending = cu.Ending begun 14
+
+pub sending-wide : Wide (withUnit sending)
+unfolding cuWord
+sending-wide = wide-with sending (record { at = omega arith; kind = omega arith; size = omega arith; next = omega arith })
+
+pub sending-range : inRange (withUnit sending) ≡ true
+unfolding cuFits
+sending-range = range-with sending refl
+
+pub sending-done : bit (wordAt (turned sending .memory) (place (record { 0 = 0 }) block 0)) 15 ≡ true
+unfolding byteAt putByte bytesAt putBytes value digits fieldAt place field joined anyOf eventBits statusWord reported isSent sent nextAfter end service statusTo concluded commandTurn turnOf
+sending-done = refl
+
+pub sent-length : sentLength (packed (turned sending .outcome .answer)) ≡ 14
+unfolding byteAt putByte bytesAt putBytes value digits fieldAt place field joined anyOf eventBits statusWord reported isSent sent nextAfter end service statusTo concluded commandTurn turnOf packed
+sent-length = refl
+
+-- before the turn all words are zero
+pub not-done : bit (wordAt zeros (place (record { 0 = 0 }) block 0)) 15 ≡ false
+unfolding byteAt bytesAt value fieldAt place field
+not-done = refl
+
+pub not-measured : wordAt zeros (place (record { 0 = 0 }) block 6) ≡ 0
+unfolding byteAt bytesAt value fieldAt place
+not-measured = refl

@@ -1,0 +1,182 @@
+-- The wrong kinds of chip: 01, "The inspector's list". Each is a property of an arbitrary chip, as wide as its sentence allows. Assumes nothing.
+use mathlib.Core.Path.{_≡_}
+use mathlib.Core.Bool.{true, false}
+use mathlib.Core.List.{List, _∷_, _++_, map}
+use mathlib.Core.Logic.{_⊎_}
+use Prim.Native.Nat.{ℕ, _<_}
+use Rattle.memory.specs.Address.{place}
+use Rattle.memory.specs.Memory.{wordAt}
+use Rattle.memory.specs.declared.Offset.{Offset}
+use Rattle.scb.specs.Words.{bit}
+use Rattle.device.specs.Answers.{isCounter}
+use Rattle.device.specs.Numbers.{counterPlace}
+use Rattle.device.specs.declared.Action.the-variants as action
+use Rattle.device.specs.declared.Begun.{Begun}
+use Rattle.device.specs.declared.Counter.{Counter}
+use Rattle.device.specs.declared.Cu.{Cu}
+use Rattle.device.specs.declared.Cu.the-variants as cu
+use Rattle.device.specs.declared.Device.{Device}
+use Rattle.device.specs.declared.Units.{Units}
+use Rattle.words.specs.Places.{bytesFrom}
+use Rattle.actions.specs.Block.{statusAt, argumentAt}
+use Rattle.control.specs.Obey.{ofScb}
+use Rattle.image.specs.Image.{imageOf}
+use Rattle.chip.specs.World.{World, Ran, worldOf}
+use Rattle.chip.specs.Call.{Call, attention, turn, ran}
+use Rattle.lentoquist.specs.Calls.{Areas, Called, packed}
+use Rattle.traces.specs.Bytes.{number, sentLength, edge}
+use Rattle.traces.specs.Event.{Event, call}
+use Rattle.kinds.specs.Chips.{Chip, Lent, answersOf, ranThrough, answersBy}
+use Rattle.kinds.specs.Demands.{Demand1, Sound, lentOf, Demand2}
+use Rattle.kinds.specs.Lists.{All, Starting, turnsOf, AllReports, started, Fair, Calm, Demand3}
+
+-- at every call that is not to be refused, something is so of what is lent and what is left; a chip of which it is so at every call is of the
+-- kind too
+abbrev pub AtAccepted : (chip : Chip) → (Areas → Called → Type 0) → Type 0
+AtAccepted chip p =
+    (s : chip .Inner) (c : Call) (d : Device) (m h out : List ℕ) → Sound c d m h out → Lent c (lentOf d m h out)
+    → p (lentOf d m h out) (chip .calls s c (lentOf d m h out))
+
+-- ---- a chip that refuses everything: it answers a number above 0
+pub record RefusesAll (chip : Chip) : Type 0 where
+  pub each : AtAccepted chip (λ a r. 0 < number (r .answer))
+
+-- ---- one with a constant answer, whichever
+pub record OneAnswer (chip : Chip) : Type 0 where
+  pub answer : ℕ
+  pub each : AtAccepted chip (λ a r. r .answer ≡ answer)
+
+-- ---- one that leaves memory untouched
+pub record MemoryAsLent (chip : Chip) : Type 0 where
+  pub each : AtAccepted chip (λ a r. r .areas .memory ≡ a .memory)
+
+-- ---- one that marks commands complete without acting
+
+-- the block of a begun command
+abbrev pub InWork : Cu → Offset → Type 0
+InWork cu.Idle o = ⊥
+InWork (cu.Suspended next) o = ⊥
+InWork (cu.Waiting next) o = ⊥
+InWork (cu.Acting b a) o = b .block ≡ o
+InWork (cu.Sending b w) o = b .block ≡ o
+InWork (cu.Ending b n) o = b .block ≡ o
+InWork (cu.Failing b) o = b .block ≡ o
+
+-- a turn sets C in the block of the begun command
+pub record Completes (d : Device) (m : List ℕ) (r : Called) (o : Offset) : Type 0 where
+  pub begun : InWork (d .units .cu) o
+  pub before : bit (wordAt m (place (d .units .base) o statusAt)) 15 ≡ false
+  pub after : bit (wordAt (r .areas .memory) (place (d .units .base) o statusAt)) 15 ≡ true
+
+-- at every such turn, something is so
+abbrev pub AtCompletion : (chip : Chip) → (Device → List ℕ → Offset → Called → Type 0) → Type 0
+AtCompletion chip p =
+    (s : chip .Inner) (report : ℕ) (d : Device) (m h out : List ℕ) (o : Offset) → Sound (turn report) d m h out
+    → Lent (turn report) (lentOf d m h out)
+    → Completes d m (chip .calls s (turn report) (lentOf d m h out)) o → p d m o (chip .calls s (turn report) (lentOf d m h out))
+
+-- every setting, in the record: bytes 14 and 15 what Configure sets, 40-45 the own address, 160-255 the listed ones
+abbrev pub settingsIn : List ℕ → List ℕ
+settingsIn r = bytesFrom r 14 2 ++ (bytesFrom r 40 6 ++ bytesFrom r 160 96)
+
+pub record SetsNothing (chip : Chip) : Type 0 where
+  pub each : AtCompletion chip (λ d m o r. settingsIn (r .areas .kept) ≡ settingsIn (imageOf d))
+
+-- TDR's word
+pub record MeasuresNothing (chip : Chip) : Type 0 where
+  pub each : AtCompletion chip (λ d m o r. (b : Begun) → d .units .cu ≡ cu.Acting b action.Tdr
+      → wordAt (r .areas .memory) (place (d .units .base) o argumentAt) ≡ wordAt m (place (d .units .base) o argumentAt))
+
+-- the sent length
+pub record SendsNothing (chip : Chip) : Type 0 where
+  pub each : AtCompletion chip (λ d m o r. sentLength (r .answer) ≡ 0)
+
+-- all three
+pub record MarksOnly (chip : Chip) : Type 0 where
+  pub settings : SetsNothing chip
+  pub tdr : MeasuresNothing chip
+  pub sending : SendsNothing chip
+
+-- ---- one that serves the first command only: whatever the turns after the start, the status of every block after the first stays as it was
+pub record FirstOnly (chip : Chip) : Type 0 where
+  pub each : (s : chip .Inner) (d : Device) (m h out : List ℕ) (b : Offset) (bs : List Offset) (reports : List ℕ)
+      → Sound attention d m h out → Lent attention (lentOf d m h out) → Starting d m b bs → AllReports reports
+      → All (λ o. wordAt (started chip s (turnsOf reports) (lentOf d m h out) .memory) (place (d .units .base) o statusAt)
+      ≡ wordAt m (place (d .units .base) o statusAt)) bs
+
+-- ---- one that invents a counter or edge: at some call that is not to be refused
+
+-- the SCB before the call or after it
+abbrev pub ScbOf : Device → Ran → Units → Type 0
+ScbOf d said u = (u ≡ d .units) ⊎ (u ≡ said .outcome .device .units)
+
+-- a counter's word, or the edge, is not what the definitions leave
+pub data Invented (d : Device) (said : Ran) (r : Called) : Type 0 where
+  anotherCounter : (u : Units) → ScbOf d said u → (k : Counter) → isCounter k ≡ true
+      → (wordAt (r .areas .memory) (ofScb u (counterPlace k)) ≡ wordAt (said .memory) (ofScb u (counterPlace k)) → ⊥) → Invented d said r
+  anotherEdge : (edge (r .answer) ≡ edge (packed (said .outcome .answer)) → ⊥) → Invented d said r
+
+pub record Invents (chip : Chip) : Type 0 where
+  pub inner : chip .Inner
+  pub call : Call
+  pub device : Device
+  pub memory : List ℕ
+  pub holding : List ℕ
+  pub outgoing : List ℕ
+  pub sound : Sound call device memory holding outgoing
+  pub lent : Lent call (lentOf device memory holding outgoing)
+  pub invented : Invented device (ran call (worldOf device memory holding outgoing)) (chip .calls inner call (lentOf device memory holding outgoing))
+
+-- the same after the start of a list, amid turns, arriving frames and host writes: after them a counter, or along them an edge, is not what the
+-- definitions leave
+pub data InventedAlong (d : Device) (after : Areas) (answers : List ℕ) (w : World) (said : List ℕ) : Type 0 where
+  anotherCount : (k : Counter) → isCounter k ≡ true
+      → (wordAt (after .memory) (ofScb (d .units) (counterPlace k)) ≡ wordAt (w .memory) (ofScb (d .units) (counterPlace k)) → ⊥)
+      → InventedAlong d after answers w said
+  anotherEdges : (map edge answers ≡ map edge said → ⊥) → InventedAlong d after answers w said
+
+pub record InventsAlong (chip : Chip) : Type 0 where
+  pub inner : chip .Inner
+  pub device : Device
+  pub memory : List ℕ
+  pub holding : List ℕ
+  pub outgoing : List ℕ
+  pub first : Offset
+  pub rest : List Offset
+  pub events : List Event
+  pub sound : Sound attention device memory holding outgoing
+  pub lent : Lent attention (lentOf device memory holding outgoing)
+  pub start : Starting device memory first rest
+  pub fair : Fair events
+  pub calm : Calm events
+  pub invented : InventedAlong device (started chip inner events (lentOf device memory holding outgoing))
+      (answersOf chip inner (call attention ∷ events) (lentOf device memory holding outgoing))
+      (ranThrough (call attention ∷ events) (worldOf device memory holding outgoing))
+      (answersBy (call attention ∷ events) (worldOf device memory holding outgoing))
+
+-- ---- the list: a chip of any of these kinds; of one that marks commands complete, a third is enough
+
+pub data Wrong (chip : Chip) : Type 0 where
+  refuses : RefusesAll chip → Wrong chip
+  constant : OneAnswer chip → Wrong chip
+  untouching : MemoryAsLent chip → Wrong chip
+  marking : MarksOnly chip → Wrong chip
+  settingNothing : SetsNothing chip → Wrong chip
+  measuringNothing : MeasuresNothing chip → Wrong chip
+  sendingNothing : SendsNothing chip → Wrong chip
+  firstOnly : FirstOnly chip → Wrong chip
+  inventing : Invents chip → Wrong chip
+  inventingAlong : InventsAlong chip → Wrong chip
+
+-- the demand that document 01 names with each
+abbrev pub LacksNamed : (chip : Chip) → Wrong chip → Type 0
+LacksNamed chip (refuses k) = Demand1 chip → ⊥
+LacksNamed chip (constant k) = Demand2 chip → ⊥
+LacksNamed chip (untouching k) = Demand2 chip → ⊥
+LacksNamed chip (marking k) = Demand2 chip → ⊥
+LacksNamed chip (settingNothing k) = Demand2 chip → ⊥
+LacksNamed chip (measuringNothing k) = Demand2 chip → ⊥
+LacksNamed chip (sendingNothing k) = Demand2 chip → ⊥
+LacksNamed chip (firstOnly k) = (Demand2 chip → ⊥) × (Demand3 chip → ⊥)
+LacksNamed chip (inventing k) = Demand2 chip → ⊥
+LacksNamed chip (inventingAlong k) = Demand3 chip → ⊥

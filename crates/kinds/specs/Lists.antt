@@ -1,0 +1,137 @@
+-- A command list in memory, its start, and what bytes show of demand 3. Assumes nothing.
+use mathlib.Core.Path.{_≡_}
+use mathlib.Core.Bool.{Bool, true, false, _||_}
+use mathlib.Core.List.{List, [], _∷_}
+use Prim.Native.Nat.{ℕ, _*_, _≤_, _<_}
+use lib.ListN.{length}
+use Rattle.memory.specs.Address.{place, offsetAt}
+use Rattle.memory.specs.Memory.{wordAt}
+use Rattle.memory.specs.Size.{Allowed}
+use Rattle.memory.specs.declared.Offset.{Offset}
+use Rattle.memory.specs.declared.RealAddress.{RealAddress}
+use Rattle.memory.proofs.Bytes.{Bytes}
+use Rattle.memory.proofs.Fields.{Apart}
+use Rattle.scb.specs.Words as scb
+use Rattle.scb.specs.Words.{field, bit, cuc, resets, cuNumber}
+use Rattle.scb.specs.declared.CuState.the-variants as cus
+use Rattle.device.specs.Limits.{areaSize}
+use Rattle.device.specs.Numbers.{actionNumber}
+use Rattle.device.specs.State.{cuState, isActive, isHolding}
+use Rattle.device.specs.declared.Action.the-variants as action
+use Rattle.device.specs.declared.Device.{Device}
+use Rattle.actions.specs.Block.{statusAt, commandAt, linkAt, argumentAt}
+use Rattle.command.specs.Begin.{cmd}
+use Rattle.control.specs.Obey.{ofScb}
+use Rattle.chip.specs.World.{World, worldOf}
+use Rattle.chip.specs.Call.{attention, turn}
+use Rattle.lentoquist.specs.Calls.{Areas}
+use Rattle.traces.specs.Event.{Event, call, host, isCalm}
+use Rattle.kinds.specs.Chips.{Chip, Given, Lent, run, answersOf, ranThrough, answersBy}
+use Rattle.kinds.specs.Demands.{FrameOk, Sound, lentOf}
+
+-- ---- a list: 01, "Turns". The first block that has EL or S is the last, each other's link leads to the next
+
+abbrev pub stops : ℕ → Bool
+stops word = bit word 15 || bit word 14
+
+abbrev pub Listed : RealAddress → List ℕ → List Offset → Type 0
+Listed base m [] = ⊥
+Listed base m (b ∷ []) = stops (wordAt m (place base b commandAt)) ≡ true
+Listed base m (b ∷ c ∷ cs) =
+    (stops (wordAt m (place base b commandAt)) ≡ false) × (offsetAt m (place base b linkAt) ≡ c) × Listed base m (c ∷ cs)
+
+-- something of every block
+abbrev pub All : (Offset → Type 0) → List Offset → Type 0
+All p [] = Unit {0}
+All p (b ∷ bs) = p b × All p bs
+
+-- a block whose command is TDR, CMD 5
+abbrev pub isTdr : RealAddress → List ℕ → Offset → Type 0
+isTdr base m b = cmd (wordAt m (place base b commandAt)) ≡ actionNumber action.Tdr
+
+-- no result of the block b, its status or TDR's word, is one of the six bytes of the block c: status, command, link
+pub record NoResult (n : ℕ) (base : RealAddress) (tdr : Offset → Type 0) (b c : Offset) : Type 0 where
+  pub status : Apart n (place base b statusAt) 2 (place base c statusAt) 6
+  pub word : tdr b → Apart n (place base b argumentAt) 2 (place base c statusAt) 6
+
+-- 01, "Turns": no result may be another command's byte
+abbrev pub BlocksApart : ℕ → RealAddress → (Offset → Type 0) → List Offset → Type 0
+BlocksApart n base tdr [] = Unit {0}
+BlocksApart n base tdr (b ∷ bs) = All (λ c. NoResult n base tdr b c × NoResult n base tdr c b) bs × BlocksApart n base tdr bs
+
+-- ---- the start: an attention that is to start the command unit at the block b, where the list b, bs stands. No frame is held. The SCB's
+-- status and command words are no bytes of the blocks
+pub record Starting (d : Device) (m : List ℕ) (b : Offset) (bs : List Offset) : Type 0 where
+  pub initialised : d .units .initialised ≡ true
+  pub idle : isActive (cuState (d .units .cu)) ≡ false
+  pub free : isHolding (d .units .ru) ≡ false
+  pub unreset : resets (wordAt m (ofScb (d .units) scb.commandAt)) ≡ false
+  pub start : cuc (wordAt m (ofScb (d .units) scb.commandAt)) ≡ 1
+  pub at : offsetAt m (ofScb (d .units) scb.cblAt) ≡ b
+  pub listed : Listed (d .units .base) m (b ∷ bs)
+  pub scb-apart : All (λ c. Apart (length m) (ofScb (d .units) scb.statusAt) 4 (place (d .units .base) c statusAt) 6) (b ∷ bs)
+  pub blocks-apart : BlocksApart (length m) (d .units .base) (isTdr (d .units .base) m) (b ∷ bs)
+
+-- ---- the run: the attention, and what happens after it
+
+-- turns with their line reports
+abbrev pub turnsOf : List ℕ → List Event
+turnsOf [] = []
+turnsOf (r ∷ rs) = call (turn r) ∷ turnsOf rs
+
+abbrev pub AllReports : List ℕ → Type 0
+AllReports [] = Unit {0}
+AllReports (r ∷ rs) = (r < 65536) × AllReports rs
+
+abbrev pub started : (chip : Chip) → chip .Inner → List Event → Areas → Areas
+started chip s es a = run chip s (call attention ∷ es) a
+
+-- any events: calls that are not to be refused for what they bring; areas of bytes of the right lengths, as the host leaves them
+pub record Hosted (m h out : List ℕ) : Type 0 where
+  pub size : Allowed (length m)
+  pub holding : length h ≡ areaSize
+  pub outgoing : length out ≡ areaSize
+  pub memory-bytes : Bytes m
+  pub holding-bytes : Bytes h
+  pub outgoing-bytes : Bytes out
+
+abbrev pub Fair : List Event → Type 0
+Fair [] = Unit {0}
+Fair (call c ∷ es) = Given c × FrameOk c × Fair es
+Fair (host m h out ∷ es) = Hosted m h out × Fair es
+
+-- neither attentions nor resets
+abbrev pub Calm : List Event → Type 0
+Calm [] = Unit {0}
+Calm (e ∷ es) = (isCalm e ≡ true) × Calm es
+
+-- a block has C
+abbrev pub isDone : RealAddress → List ℕ → Offset → Type 0
+isDone base m b = bit (wordAt m (place base b statusAt)) 15 ≡ true
+
+-- the areas that show a world
+abbrev pub shown : World → Areas
+shown w = lentOf (w .device) (w .memory) (w .holding) (w .outgoing)
+
+-- ---- what bytes show of demand 3
+
+-- every block of the list has C, and the SCB's status does not say Active
+pub record Completed (d : Device) (bs : List Offset) (m : List ℕ) : Type 0 where
+  pub done : All (isDone (d .units .base) m) bs
+  pub inactive : field (wordAt m (ofScb (d .units) scb.statusAt)) 8 3 ≡ cuNumber cus.Active → ⊥
+
+-- done as in 2: all bytes are as the definitions leave them, and the answers were the definitions'
+pub record DoneAsIn2 (chip : Chip) (s : chip .Inner) (es : List Event) (w : World) : Type 0 where
+  pub areas : run chip s es (shown w) ≡ shown (ranThrough es w)
+  pub answers : answersOf chip s es (shown w) ≡ answersBy es w
+
+pub record Demand3 (chip : Chip) : Type 0 where
+  -- within 132 times n turns. It is asked of runs of turns while no frame is held: nothing but the commands' results and the SCB's status is
+  -- written then. Arguments, descriptors and data may lie anywhere, since each block gets its C all the same
+  pub within : (s : chip .Inner) (d : Device) (m h out : List ℕ) (b : Offset) (bs : List Offset) (reports : List ℕ)
+      → Sound attention d m h out → Lent attention (lentOf d m h out) → Starting d m b bs → AllReports reports
+      → 132 * length (b ∷ bs) ≤ length reports → Completed d (b ∷ bs) (started chip s (turnsOf reports) (lentOf d m h out) .memory)
+  -- and at every moment after the start: turns, frames that arrive, whatever the host writes
+  pub as-in-2 : (s : chip .Inner) (d : Device) (m h out : List ℕ) (b : Offset) (bs : List Offset) (es : List Event)
+      → Sound attention d m h out → Lent attention (lentOf d m h out) → Starting d m b bs → Fair es → Calm es
+      → DoneAsIn2 chip s (call attention ∷ es) (worldOf d m h out)
