@@ -16,9 +16,9 @@ ghost use Rattle.front.specs.Front as front;
 pub fn attend(d: &mut Device, memory: &mut [u8]) -> Answer
     ensures { λ r. ⌜ ((h out : List ℕ) → front.Fronted (attentions.attentionOf (world.worldOf (now (d .entry)) (now (memory .entry)) h out)) (now (d .exit)) r (now (memory .exit)) h out) ⌝ }
 {
-    let o = chip::attention(memory, *d);
-    *d = o.device;
-    o.answer
+    let attended = chip::attention(memory, *d);
+    *d = attended.device;
+    attended.answer
 }
 
 // A frame arrives with the line side's verdict.
@@ -31,9 +31,9 @@ pub fn receive(
 ) -> Answer
     ensures { λ r. ⌜ ((out : List ℕ) → front.Fronted (arrivals.arrivalOf (world.worldOf (now (d .entry)) (now (memory .entry)) (now (holding .entry)) out) (now (frame .entry)) verdict) (now (d .exit)) r (now (memory .exit)) (now (holding .exit)) out) ⌝ }
 {
-    let o = chip::arrival(memory, holding, *d, frame, verdict);
-    *d = o.device;
-    o.answer
+    let arrived = chip::arrival(memory, holding, *d, frame, verdict);
+    *d = arrived.device;
+    arrived.answer
 }
 
 // A turn, with the line report. The holding area is only read.
@@ -46,9 +46,9 @@ pub fn turn(
 ) -> Answer
     ensures { λ r. ⌜ front.Fronted (turns.turnOf (world.worldOf (now (d .entry)) (now (memory .entry)) (now (holding .entry)) (now (outgoing .entry))) report) (now (d .exit)) r (now (memory .exit)) (now (holding .entry)) (now (outgoing .exit)) ⌝ }
 {
-    let o = chip::turn(memory, holding, outgoing, *d, report);
-    *d = o.device;
-    o.answer
+    let turned = chip::turn(memory, holding, outgoing, *d, report);
+    *d = turned.device;
+    turned.answer
 }
 
 // ---- the lenders
