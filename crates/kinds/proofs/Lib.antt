@@ -13,3 +13,5 @@ pub mod Third
 pub mod Inspected
 pub mod Stubs
 pub mod Marker
+pub mod Closing
+pub mod Full
