@@ -25,8 +25,8 @@ closing =
       each =
           λ c w g f r.
           let s =
-              closed c w (fit c g)
-              (record { range = r .range; wide = r .wide; memory = r .memory-bytes; holding = r .holding-bytes; outgoing = r .outgoing-bytes })
+          closed c w (fit c g)
+          (record { range = r .range; wide = r .wide; memory = r .memory-bytes; holding = r .holding-bytes; outgoing = r .outgoing-bytes })
           in
           let l = lengths-kept c w in
           record {
