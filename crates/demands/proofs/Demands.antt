@@ -1,0 +1,187 @@
+-- The three demands and the inspector's list, sentence by sentence. That every call ends and does nothing undefined is what the check of the code
+-- says of all functions; what each exported call promises is in crates/lentoquist/src/lib.rt. Assumes nothing.
+use mathlib.Core.Path.{_≡_}
+use mathlib.Core.Bool.{true, false}
+use mathlib.Core.List.{List, [], _∷_, _++_}
+use Prim.Native.Nat.{ℕ, _+_, _*_, _≤_, _<_}
+use lib.ListN.{length}
+use Rattle.memory.specs.Memory.{wordAt}
+use Rattle.memory.specs.declared.Offset.{Offset}
+use Rattle.memory.proofs.Bytes.{Bytes}
+use Rattle.scb.specs.Words.{cblAt}
+use Rattle.device.specs.Numbers.{refusalNumber}
+use Rattle.device.specs.State.{isGood, isHolding}
+use Rattle.device.specs.declared.Counter.the-variants as counter
+use Rattle.device.specs.declared.Device.{Device}
+use Rattle.device.specs.declared.Fate.the-variants as fate
+use Rattle.device.specs.declared.Frame.{Frame}
+use Rattle.device.specs.declared.Refusal.{Refusal}
+use Rattle.device.specs.declared.Ru.the-variants as ru
+use Rattle.device.specs.declared.Verdict.the-variants as verdict
+use Rattle.image.specs.Ranges.{inRange}
+use Rattle.control.specs.Obey.{ofScb}
+use Rattle.chip.specs.World.{World, afterwards}
+use Rattle.chip.specs.Arrival.{arrivalOf}
+use Rattle.chip.specs.Call.{Call, attention, ran}
+use Rattle.lentoquist.specs.Calls.{Areas, Called}
+use Rattle.traces.specs.Event.{Event, call, step}
+use Rattle.traces.specs.Bytes.{called, number, isRefused}
+use Rattle.closure.specs.Sound.{Sound, Lent, Fit}
+use Rattle.closure.specs.Refusals.{When, Untouched, Holds}
+use Rattle.closure.specs.Carried.{Again}
+use Rattle.closure.proofs.Refusals as refusals
+use Rattle.closure.proofs.Closed as closure
+use Rattle.closure.proofs.Carried as carried
+use Rattle.frames.specs.Arrival as arrival
+use Rattle.frames.specs.Held.{heldIn, GoodFate, BadFate}
+use Rattle.frames.specs.Fates.{Deed, opening, still, after, beginnings, endings, times, timesFated, timesAltered, AllFates}
+use Rattle.frames.specs.Stands.{NoOverlap, pieces, GoodExit}
+use Rattle.frames.proofs.Arrival as arrivals
+use Rattle.frames.proofs.Held as holdings
+use Rattle.frames.proofs.Stands as exits
+use Rattle.frames.proofs.Fates as fates
+use Rattle.lists.specs.Uses.{NoClash, Listed, firstOf}
+use Rattle.lists.specs.Unit.{machine}
+use Rattle.lists.specs.Done.{Calm, Starts, Premises, Done, bytesOf}
+use Rattle.lists.specs.Lent.{Lending, left, turnsOf, eventsOf, worldIn, Shows, AllLend, AllCalmly}
+use Rattle.lists.proofs.Whole as whole
+use Rattle.lists.proofs.Exact as list-exact
+use Rattle.lists.proofs.Carry as carry
+use Rattle.progress.specs.Machine.{Kept, run}
+use Rattle.held.specs.Held as held
+use Rattle.held.specs.Kept as kept
+use Rattle.held.proofs.Held as held-frames
+use Rattle.held.proofs.Exact as held-exact
+use Rattle.held.proofs.Calls as held-calls
+use Rattle.kinds.specs.Chips.{Chip, Meets, Permits}
+use Rattle.kinds.specs.Demands.{Demand1, Demand2}
+use Rattle.kinds.specs.Lists.{Demand3}
+use Rattle.kinds.specs.Kinds.{Wrong, LacksNamed}
+use Rattle.kinds.proofs.Equal as equal
+use Rattle.kinds.proofs.Ours as demanded
+use Rattle.kinds.proofs.Inspected as inspected
+use Rattle.kinds.proofs.Closing as closing
+
+-- ---- demand 1
+
+-- "Bad lengths, overlong frames and foreign records are refused with document 01's numbers": each number is given exactly when the table says
+pub refused-by-the-table : (c : Call) (a : Areas) → Bytes (a .kept) → (r : Refusal)
+    → (number (called c a .answer) ≡ refusalNumber r → When r c a) × (When r c a → number (called c a .answer) ≡ refusalNumber r)
+refused-by-the-table = refusals.table
+
+-- "and a refused call changes no lent byte", with length 0 and no edge
+pub a-refusal-changes-nothing : (c : Call) (a : Areas) → isRefused (called c a) ≡ true → Untouched a (called c a)
+a-refusal-changes-nothing = refusals.untouched
+
+-- the ranges "hold every state a call can leave", so that a record which a call left is accepted again
+pub every-state-left-is-in-range : (c : Call) (w : World) → Fit c → Sound w → Sound (afterwards (ran c w))
+every-state-left-is-in-range = closure.closed
+
+pub a-record-left-is-accepted : (c : Call) (a : Areas) → Fit c → Lent a → isRefused (called c a) ≡ false → Again c a
+a-record-left-is-accepted = carried.accepted-again
+
+-- ---- demand 2
+
+-- "After each call the memory, device record, outgoing frame, interrupt and answer are what document 01 says": of every chip that meets the promises
+pub as-document-01-says : (chip : Chip) → Meets chip → Demand2 chip
+as-document-01-says = demanded.has-demand2
+
+-- "A good frame addressed to us, arriving while the receive unit is Ready, is held to be stored"
+pub a-good-frame-is-held : (w : World) (f : List ℕ) (v : ℕ) (fd : Offset) → arrival.Lent w f → arrival.Ours w f → arrival.Good w f v
+    → arrival.unitOf w ≡ ru.Ready fd
+    → arrival.IsHeld w f fd (arrival.judgedAs w f verdict.Good false) counter.Uncounted (arrivalOf w f v)
+a-good-frame-is-held = arrivals.good-ready
+
+-- "or adds one to exactly one counter", one being held: memory is as it was but for OVRNERRS, one more, "wrapping after 65,535"
+pub or-is-counted : (w : World) (f : List ℕ) (v : ℕ) → arrival.Lent w f → arrival.Ours w f → isHolding (arrival.unitOf w) ≡ true
+    → arrival.NotHeld w fate.Overrun counter.Overruns (arrivalOf w f v)
+or-is-counted = arrivals.overrun
+
+-- the same exactness for every other arrival
+pub every-arrival : (w : World) (f : List ℕ) (v : ℕ) → arrival.Lent w f → arrival.ArrivalFate w f v (arrivalOf w f v)
+every-arrival = arrivals.arrival-fate
+
+-- a held good frame stays held, is stored, or is counted, "both, if kept with too few buffers", or is lost by an abort or a reset
+pub a-held-good-frame : (c : Call) (w : World) (f : Frame) → inRange (w .device) ≡ true → heldIn (arrival.unitOf w) ≡ f ∷ [] → isGood f ≡ true
+    → GoodFate f c w
+a-held-good-frame = holdings.good-held
+
+pub a-held-bad-frame : (c : Call) (w : World) (f : Frame) → inRange (w .device) ≡ true → heldIn (arrival.unitOf w) ≡ f ∷ [] → isGood f ≡ false
+    → BadFate f c w
+a-held-bad-frame = holdings.bad-held
+
+-- stored and counted as facts about memory at exit, where no piece lies over another
+pub stored-and-counted-at-exit : (c : Call) (w : World) (f : Frame) → arrival.Lent w [] → inRange (w .device) ≡ true
+    → heldIn (arrival.unitOf w) ≡ f ∷ [] → isGood f ≡ true
+    → NoOverlap (length (w .memory)) (pieces (arrival.unitOf w) w)
+    → GoodExit f c w
+stored-and-counted-at-exit = exits.good-exit
+
+-- "only an abort, a reset or the host's altering of the record may lose a held one": over any trace, a frame that was held has exactly one fate, or
+-- the host altered the record, or it is held still
+pub exactly-one-fate : (w : World) (ds : List Deed) (k : ℕ) → inRange (w .device) ≡ true
+    → 0 < times k (still (opening w) ++ beginnings ds (opening w))
+    → timesFated k (endings ds (opening w)) + timesAltered k (endings ds (opening w)) + times k (still (after ds (opening w))) ≡ 1
+exactly-one-fate = fates.exactly-one
+
+pub at-every-call : (ds : List Deed) (w : World) → inRange (w .device) ≡ true → AllFates ds w
+at-every-call = fates.all-fates
+
+-- ---- demand 3, first half
+
+-- "Let a channel attention start a command list .. within 132 times n turns all n are done as in 2, once each, in list order"
+pub a-list-is-done : (bs : List ℕ) (es : List Event) (w : World) → Starts w
+    → firstOf bs ≡ wordAt (w .memory) (ofScb (w .device .units) cblAt)
+    → Listed (step (call attention) w .device .units .base) (step (call attention) w .memory) bs
+    → Premises Calm bs es (step (call attention) w)
+    → Done Calm bs es (step (call attention) w)
+a-list-is-done = whole.attention-list-done
+
+-- the same over the calls on the areas that the host lends, refused calls among them
+pub a-list-is-done-on-bytes : (bs : List ℕ) (ls : List Lending) (a : Areas) (d : Device) → Lent a → Holds (a .kept) d
+    → isRefused (called attention a) ≡ false → Starts (worldIn d a) → firstOf bs ≡ wordAt (a .memory) (ofScb (d .units) cblAt)
+    → Listed (d .units .base) (step (call attention) (worldIn d a) .memory) bs
+    → AllLend carry.carries ls (called attention a .areas) → AllCalmly ls (called attention a .areas)
+    → NoClash (length (a .memory)) (d .units .base) (step (call attention) (worldIn d a) .memory) bs
+    → Kept (machine Calm) (bytesOf (step (call attention) (worldIn d a)) bs) (eventsOf ls) (step (call attention) (worldIn d a))
+    → 132 * length bs ≤ turnsOf ls
+    → Done Calm bs (eventsOf ls) (step (call attention) (worldIn d a))
+    × Shows carry.carries (left ls (called attention a .areas)) (run (machine Calm) (eventsOf ls) (step (call attention) (worldIn d a)))
+a-list-is-done-on-bytes = carry.areas-list-done
+
+-- 132 is exact: with 131 for one command, or 263 for two, the statement is false
+pub no-fewer-for-one : (least : ℕ → ℕ) → least 1 ≤ 131 → list-exact.FirstHalf least → ⊥
+no-fewer-for-one = list-exact.one-takes-132
+
+pub no-fewer-for-two : (least : ℕ → ℕ) → least 2 ≤ 263 → list-exact.FirstHalf least → ⊥
+no-fewer-for-two = list-exact.two-take-264
+
+-- ---- demand 3, second half
+
+-- "A held frame is stored or counted within 132 turns, whatever the memory holds, if the record is kept and no attention or reset comes"
+pub a-held-frame-is-settled : held.Within 132
+a-held-frame-is-settled = held-frames.held-frame
+
+pub a-held-frame-is-settled-on-bytes : kept.Within 132
+a-held-frame-is-settled-on-bytes = held-calls.held-frame
+
+-- and no smaller number would do
+pub no-fewer-for-a-frame : (n : ℕ) → n < 132 → held.Within n → ⊥
+no-fewer-for-a-frame = held-exact.exact
+
+-- ---- the inspector's list
+
+-- "Any two outcomes it permits are shown equal"
+pub one-outcome : (c : Call) (a : Areas) (r s : Called) → Permits c a r → Permits c a s → r ≡ s
+one-outcome = equal.one-outcome
+
+-- "Show that these are excluded": no chip of a wrong kind meets the promises
+pub wrong-chips-are-excluded : (chip : Chip) → Wrong chip → Meets chip → ⊥
+wrong-chips-are-excluded = closing.none-meets
+
+-- each lacks the demand that is named with it, and every chip that meets the promises has all three
+pub each-lacks-its-demand : (chip : Chip) (w : Wrong chip) → LacksNamed chip w
+each-lacks-its-demand = inspected.lacks-named
+
+pub promises-are-enough : (chip : Chip) → Meets chip → Demand1 chip × Demand2 chip × Demand3 chip
+promises-are-enough chip p = (demanded.has-demand1 chip p, demanded.has-demand2 chip p, closing.meets-demand3 chip p)

@@ -1,0 +1,2 @@
+-- The demands, sentence by sentence.
+pub mod Demands

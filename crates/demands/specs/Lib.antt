@@ -1,0 +1,1 @@
+-- No definitions: they are in the rooms that prove the statements.
