@@ -36,9 +36,9 @@ module _ (chip : Chip) where
       let none : number (chip .calls (chip .first) (turn 0) a .answer) ≡ 0 =
       d .each (chip .first) (turn 0) a l .given refusal.Accepted (
         s .size,
-        record { holding = s .holding; outgoing = s .outgoing; kept = length-image fresh (fresh-wide .own) (fresh-wide .listed) },
-        tt,
-        record { device = fresh; wide = fresh-wide; range = fresh-range; image = refl },
+        (length-image fresh (fresh-wide .own) (fresh-wide .listed), record { holding = s .holding; outgoing = s .outgoing }),
+        omega arith,
+        (fresh, record { wide = fresh-wide; range = fresh-range; image = refl }),
       )
       in
       omega (arith, more, none)

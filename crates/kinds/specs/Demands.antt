@@ -12,80 +12,29 @@ use Rattle.device.specs.Numbers.{refusalNumber}
 use Rattle.device.specs.State.{fresh}
 use Rattle.device.specs.declared.Device.{Device}
 use Rattle.device.specs.declared.Refusal.{Refusal}
-use Rattle.device.specs.declared.Refusal.the-variants as refusal
 use Rattle.image.specs.Image.{imageOf}
 use Rattle.image.specs.Ranges.{inRange, Wide}
 use Rattle.chip.specs.World.{Ran, worldOf}
 use Rattle.chip.specs.Call.{Call, reset, attention, arrive, turn, ran}
 use Rattle.lentoquist.specs.Calls.{Areas, areasOf, Called, packed}
-use Rattle.traces.specs.Bytes.{number, sentLength, edge}
+use Rattle.traces.specs.Bytes.{number}
+use Rattle.closure.specs.Refusals.{When, Untouched}
 use Rattle.kinds.specs.Chips.{Chip, Lent}
 
--- ---- the table of refusals: 01, "Calls, lent areas, refusals". Reset takes the record alone, ignores its content
-
--- 1: N is not allowed
-abbrev pub SizeOk : Call → Areas → Type 0
-SizeOk reset a = Unit {0}
-SizeOk attention a = Allowed (length (a .memory))
-SizeOk (arrive f v) a = Allowed (length (a .memory))
-SizeOk (turn report) a = Allowed (length (a .memory))
-
--- 2: another lent area has the wrong length
-pub record Lengths (a : Areas) : Type 0 where
-  pub holding : length (a .holding) ≡ areaSize
-  pub outgoing : length (a .outgoing) ≡ areaSize
-  pub kept : length (a .kept) ≡ recordSize
-
-abbrev pub AreasOk : Call → Areas → Type 0
-AreasOk reset a = length (a .kept) ≡ recordSize
-AreasOk attention a = Lengths a
-AreasOk (arrive f v) a = Lengths a
-AreasOk (turn report) a = Lengths a
-
--- 3: an arriving frame exceeds 2,048 bytes
+-- no arriving frame exceeds 2,048 bytes; the other calls have none
 abbrev pub FrameOk : Call → Type 0
 FrameOk reset = Unit {0}
 FrameOk attention = Unit {0}
 FrameOk (arrive f v) = length f ≤ longest
 FrameOk (turn report) = Unit {0}
 
--- 4: the record is not the image of a state within docs/' ranges
-pub record ImageIn (r : List ℕ) : Type 0 where
-  pub device : Device
-  pub wide : Wide device
-  pub range : inRange device ≡ true
-  pub image : r ≡ imageOf device
-
-abbrev pub RecordOk : Call → Areas → Type 0
-RecordOk reset a = Unit {0}
-RecordOk attention a = ImageIn (a .kept)
-RecordOk (arrive f v) a = ImageIn (a .kept)
-RecordOk (turn report) a = ImageIn (a .kept)
-
--- the lowest number that applies is given, 0 if none does
-abbrev pub Lowest : (size areas frame image : Type 0) → Refusal → Type 0
-Lowest size areas frame image refusal.Memory = size → ⊥
-Lowest size areas frame image refusal.Area = size × (areas → ⊥)
-Lowest size areas frame image refusal.Overlong = size × areas × (frame → ⊥)
-Lowest size areas frame image refusal.Foreign = size × areas × frame × (image → ⊥)
-Lowest size areas frame image refusal.Accepted = size × areas × frame × image
-
-abbrev pub Applies : Refusal → Call → Areas → Type 0
-Applies k c a = Lowest (SizeOk c a) (AreasOk c a) (FrameOk c) (RecordOk c a) k
-
 -- ---- demand 1
-
--- length 0, no interrupt edge; a refusal changes nothing lent
-pub record Untouched (a : Areas) (r : Called) : Type 0 where
-  pub length : sentLength (r .answer) ≡ 0
-  pub edge : edge (r .answer) ≡ 0
-  pub areas : r .areas ≡ a
 
 -- the number is 0 or one of the table, each given exactly when the table says; a refused call leaves all as it was
 pub record Tabled (c : Call) (a : Areas) (r : Called) : Type 0 where
   pub known : (k : Refusal) × (number (r .answer) ≡ refusalNumber k)
-  pub given : (k : Refusal) → Applies k c a → number (r .answer) ≡ refusalNumber k
-  pub only : (k : Refusal) → number (r .answer) ≡ refusalNumber k → Applies k c a
+  pub given : (k : Refusal) → When k c a → number (r .answer) ≡ refusalNumber k
+  pub only : (k : Refusal) → number (r .answer) ≡ refusalNumber k → When k c a
   pub refused : 0 < number (r .answer) → Untouched a r
 
 pub record Demand1 (chip : Chip) : Type 0 where
