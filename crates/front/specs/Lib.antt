@@ -1,0 +1,2 @@
+-- One shape for what the front promises.
+pub mod Front
