@@ -1,0 +1,2 @@
+-- What an accepted call knows of the lengths.
+pub mod Fits
