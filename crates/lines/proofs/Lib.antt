@@ -1,1 +1,2 @@
--- x
+-- Laws of the bytes that a line brings.
+pub mod Laws
