@@ -1,9 +1,8 @@
 -- The texts of docs/replay.md, computed. No contract cites this file. Assumes nothing.
 use mathlib.Core.Path.{_≡_, refl}
-use mathlib.Core.Bool.{Bool, true, false}
+use mathlib.Core.Bool.{true, false}
 use mathlib.Core.List.{List, [], _∷_}
 use Prim.Native.Nat.{ℕ}
-use Rattle.device.specs.declared.Answer.{Answer}
 use Rattle.device.specs.declared.Refusal.the-variants as refusal
 use Rattle.texts.specs.Codes.{codes}
 use Rattle.texts.specs.Texts.{
@@ -23,7 +22,6 @@ use Rattle.texts.specs.Texts.{
   expectedText,
   faultText,
 }
-use Rattle.texts.specs.declared.Expected.{Expected}
 use Rattle.texts.specs.declared.Expected.the-variants as expected
 
 -- ---- numbers

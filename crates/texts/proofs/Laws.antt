@@ -1,14 +1,12 @@
 -- Texts one behind the other, and the digits of numbers. No contract cites this file. Assumes nothing.
 use mathlib.Core.Path.{_≡_, refl, sym, ap, _∙_}
-use mathlib.Core.Bool.{Bool, true, false, cond}
 use mathlib.Core.List.{List, [], _∷_, _++_}
 use mathlib.Core.Logic.{⊎-elim}
 use Prim.Native.Nat.{ℕ, zero, suc, _+_, _-_, _/_, _%_, _≤_, _<_, min}
 use native.Mathlib.Numerals.{add-one}
 use native.Mathlib.Omega.{arith}
 use borrow.Author.Tests.{lt-ltb, le-ltb}
-use lib.Dec.{ltb}
-use lib.ListN.{length, getD, set, length-append}
+use lib.ListN.{length, length-append}
 use lib.Seq.{set-out, sets, length-sets}
 use Rattle.memory.proofs.Laws.{below-or-not, sets-append}
 use Rattle.texts.specs.Texts.{Puts, each, hexDigit, hex, decimalBy, decimal}

@@ -24,6 +24,7 @@ fn behind(len: usize, at: usize, n: usize) -> usize
     at + n
 }
 
+// A text.
 pub fn put_text(out: &mut [u8], at: usize, text: &[u8]) -> usize
     ensures { λ r. ⌜ Puts (now (text .entry)) at (now (out .entry)) r (now (out .exit)) ⌝ }
 {
@@ -31,6 +32,7 @@ pub fn put_text(out: &mut [u8], at: usize, text: &[u8]) -> usize
     behind(out.len(), at, text.len())
 }
 
+// A byte.
 pub fn put_byte(out: &mut [u8], at: usize, b: u8) -> usize
     ensures { λ r. ⌜ Puts (b ∷ []) at (now (out .entry)) r (now (out .exit)) ⌝ }
 {
@@ -132,6 +134,7 @@ fn byte_behind(area: &[u8], place: usize, i: usize) -> u8
     area[place + i]
 }
 
+// The byte i places behind a place, a blank before it.
 fn put_one_byte(out: &mut [u8], at: usize, area: &[u8], place: usize, i: usize) -> usize
     ensures { λ r. ⌜ Puts (texts.byteText (now (area .entry)) place i) at (now (out .entry)) r (now (out .exit)) ⌝ }
 {
@@ -139,6 +142,7 @@ fn put_one_byte(out: &mut [u8], at: usize, area: &[u8], place: usize, i: usize) 
     put_hex2(out, next, byte_behind(area, place, i))
 }
 
+// The word 2 i places behind a place, a blank before it.
 fn put_one_word(out: &mut [u8], at: usize, area: &[u8], place: usize, i: u8) -> usize
     ensures { λ r. ⌜ Puts (texts.wordText (now (area .entry)) place i) at (now (out .entry)) r (now (out .exit)) ⌝ }
 {
@@ -149,6 +153,7 @@ fn put_one_word(out: &mut [u8], at: usize, area: &[u8], place: usize, i: u8) -> 
     put_hex4(out, next, low + 256 * high)
 }
 
+// The n bytes from a place on.
 fn put_each_byte(out: &mut [u8], at: usize, area: &[u8], place: usize, n: u8) -> usize
     ensures { λ r. ⌜ Puts (texts.each (texts.byteText (now (area .entry)) place) n) at (now (out .entry)) r (now (out .exit)) ⌝ }
 {
@@ -161,6 +166,7 @@ fn put_each_byte(out: &mut [u8], at: usize, area: &[u8], place: usize, n: u8) ->
     next
 }
 
+// The n words from a place on.
 fn put_each_word(out: &mut [u8], at: usize, area: &[u8], place: usize, n: u8) -> usize
     ensures { λ r. ⌜ Puts (texts.each (texts.wordText (now (area .entry)) place) n) at (now (out .entry)) r (now (out .exit)) ⌝ }
 {
@@ -181,7 +187,8 @@ fn put_place(out: &mut [u8], at: usize, place: usize) -> usize
     put_byte(out, next, 58)
 }
 
-fn put_show_line(out: &mut [u8], at: usize, area: &[u8], place: usize, n: u8) -> usize
+// A line of n bytes, from a place on.
+pub fn put_show_line(out: &mut [u8], at: usize, area: &[u8], place: usize, n: u8) -> usize
     ensures { λ r. ⌜ Puts (texts.showLine (now (area .entry)) place n) at (now (out .entry)) r (now (out .exit)) ⌝ }
 {
     let first = put_place(out, at, place);
@@ -189,7 +196,8 @@ fn put_show_line(out: &mut [u8], at: usize, area: &[u8], place: usize, n: u8) ->
     put_byte(out, second, 10)
 }
 
-fn put_look_line(out: &mut [u8], at: usize, area: &[u8], place: usize, n: u8) -> usize
+// A line of n words, from a place on.
+pub fn put_look_line(out: &mut [u8], at: usize, area: &[u8], place: usize, n: u8) -> usize
     ensures { λ r. ⌜ Puts (texts.lookLine (now (area .entry)) place n) at (now (out .entry)) r (now (out .exit)) ⌝ }
 {
     let first = put_place(out, at, place);
@@ -264,6 +272,7 @@ pub enum Expected {
     End,
 }
 
+// What was expected, in words.
 fn put_expected(out: &mut [u8], at: usize, what: Expected) -> usize
     ensures { λ r. ⌜ Puts (texts.expectedText what) at (now (out .entry)) r (now (out .exit)) ⌝ }
 {

@@ -1,5 +1,4 @@
 -- `texts::put_byte` meets its contract; past the end nothing changes. Assumes nothing.
-use native.Mathlib.Omega.{arith}
 use borrow.Author.Needs.{needs}
 use Rattle.texts.proofs.Laws.{puts-past}
 use Rattle.texts.proofs.put_byte.Statement.{statement}
