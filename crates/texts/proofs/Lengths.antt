@@ -1,17 +1,31 @@
 -- How long the texts are, and that a text for which there is room is put whole. No contract cites this file. Assumes nothing.
 use mathlib.Core.Path.{_≡_, refl, sym, ap, _∙_}
+use mathlib.Core.Bool.{Bool, true, false}
 use mathlib.Core.List.{List, [], _∷_, _++_}
 use mathlib.Core.Logic.{⊎-elim}
-use Prim.Native.Nat.{ℕ, zero, suc, _+_, _-_, _*_, _/_, _%_, _^_, _≤_, _<_, min}
+use Prim.Native.Nat.{ℕ, zero, suc, _+_, _-_, _*_, _/_, _^_, _≤_, _<_, min}
 use native.Mathlib.Nat.{pow-suc, suc-mul}
 use native.Mathlib.Omega.{arith}
 use borrow.Author.Tests.{lt-ltb, le-ltb}
 use lib.ListN.{length, take, length-append}
-use lib.Seq.{sets, sets-eq, take-append-seam}
+use lib.Seq.{length-sets, sets-eq, take-append-seam}
 use Rattle.memory.proofs.Laws.{below-or-not}
-use Rattle.texts.specs.Texts.{Puts, each, hex, decimalBy, decimal, byteText, wordText, showLine, lookLine}
+use Rattle.device.specs.Numbers.{refusalNumber}
+use Rattle.device.specs.declared.Answer.{Answer}
+use Rattle.device.specs.declared.Refusal.{Refusal}
+use Rattle.device.specs.declared.Refusal.the-variants as refusal
+use Rattle.texts.specs.declared.Expected.{Expected}
+use Rattle.texts.specs.declared.Expected.the-variants as expected
+use Rattle.texts.specs.Texts.{Puts, each, hex, decimalBy, decimal, byteText, wordText, showLine, lookLine, edgeText, answerText, expectedText, faultText}
 
 -- ---- room
+
+-- the next text goes to an index of the slice, or to its end
+pub puts-within : {text : List ℕ} {at : ℕ} {b : List ℕ} {r : ℕ} {m : List ℕ} → at ≤ length b → Puts text at b r m → r ≤ length m
+puts-within {text} {at} {b} {r} {m} h p =
+    let e : r ≡ at + min (length text) (length b - at) = p .next in
+    let l : length m ≡ length b = ap length (p .bytes) ∙ length-sets b at text in
+    omega arith
 
 -- where there is room, the next text goes right behind
 pub puts-room : {text : List ℕ} {at : ℕ} {b : List ℕ} {r : ℕ} {m : List ℕ}
@@ -80,3 +94,44 @@ digits-by (suc j) (suc k) n h =
 pub length-decimal : (k n : ℕ) → n < 10 ^ suc k → length (decimal n) ≤ suc k
 unfolding decimal
 length-decimal k n h = digits-by (suc n) k n h
+
+one-digit : (r : Refusal) → length (decimal (refusalNumber r)) ≡ 1
+unfolding decimal decimalBy
+one-digit refusal.Accepted = refl
+one-digit refusal.Memory = refl
+one-digit refusal.Area = refl
+one-digit refusal.Overlong = refl
+one-digit refusal.Foreign = refl
+
+length-edge : (edge : Bool) → length (edgeText edge) ≡ 2
+unfolding edgeText
+length-edge true = refl
+length-edge false = refl
+
+pub length-answer : (a : Answer) → a .length < 65536 → length (answerText a) ≤ 10
+unfolding answerText
+length-answer a h =
+    let n : length (decimal (refusalNumber (a .number))) ≡ 1 = one-digit (a .number) in
+    let l : length (decimal (a .length)) ≤ 5 = length-decimal 4 (a .length) (omega arith) in
+    let e : length (edgeText (a .edge)) ≡ 2 = length-edge (a .edge) in
+    simp length-append (omega arith)
+
+length-expected : (what : Expected) → length (expectedText what) ≤ 20
+unfolding expectedText
+length-expected expected.First = omega arith
+length-expected expected.Number = omega arith
+length-expected expected.Size = omega arith
+length-expected expected.Short = omega arith
+length-expected expected.Area = omega arith
+length-expected expected.Place = omega arith
+length-expected expected.Bytes = omega arith
+length-expected expected.Room = omega arith
+length-expected expected.End = omega arith
+
+pub length-fault : (line column : ℕ) (what : Expected) → line < 2 ^ 64 → column < 2 ^ 64 → length (faultText line column what) ≤ 86
+unfolding faultText
+length-fault line column what h k =
+    let l : length (decimal line) ≤ 20 = length-decimal 19 line (omega arith) in
+    let c : length (decimal column) ≤ 20 = length-decimal 19 column (omega arith) in
+    let e : length (expectedText what) ≤ 20 = length-expected what in
+    simp length-append (omega arith)
