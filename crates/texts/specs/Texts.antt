@@ -2,6 +2,7 @@
 use mathlib.Core.Path.{_≡_}
 use mathlib.Core.Bool.{Bool, cond}
 use mathlib.Core.List.{List, [], _∷_, _++_}
+use Prim.Native.Char.{code}
 use Prim.Native.Nat.{ℕ, zero, suc, _+_, _-_, _*_, _/_, _%_, min}
 use lib.Dec.{ltb}
 use lib.ListN.{length, getD}
@@ -26,7 +27,7 @@ each f (suc n) = each f n ++ f n
 
 -- a digit below 16: `0` to `9`, then `A` to `F`. "Hex digits are printed in capitals"
 abbrev pub hexDigit : ℕ → ℕ
-hexDigit d = cond (ltb d 10) (48 + d) (55 + d)
+hexDigit d = cond (ltb d 10) (code "0" + d) (code "A" + (d - 10))
 
 -- the last k hex digits of n
 unfoldable pub hex : ℕ → ℕ → List ℕ
@@ -36,7 +37,7 @@ hex (suc k) n = hex k (n / 16) ++ (hexDigit (n % 16) ∷ [])
 -- the decimal digits of n, at most k of them: those of n / 10, unless that is 0, and then n % 10
 unfoldable pub decimalBy : ℕ → ℕ → List ℕ
 decimalBy zero n = []
-decimalBy (suc k) n = cond (ltb n 10) [] (decimalBy k (n / 10)) ++ ((48 + n % 10) ∷ [])
+decimalBy (suc k) n = cond (ltb n 10) [] (decimalBy k (n / 10)) ++ ((code "0" + n % 10) ∷ [])
 
 -- all of them: a number n has no more than n + 1
 unfoldable pub decimal : ℕ → List ℕ
@@ -50,6 +51,7 @@ edgeText edge = cond edge (codes "1\n") (codes "0\n")
 unfoldable pub answerText : Answer → List ℕ
 answerText a = decimal (refusalNumber (a .number)) ++ codes " " ++ decimal (a .length) ++ codes " " ++ edgeText (a .edge)
 
+-- "`interrupt high` or `interrupt low`"
 unfoldable pub interruptText : Bool → List ℕ
 interruptText high = cond high (codes "interrupt high\n") (codes "interrupt low\n")
 

@@ -51,9 +51,9 @@ fn hex_digit(n: u8) -> u8
 {
     let d = n % 16;
     if d < 10 {
-        return 48 + d;
+        return b'0' + d;
     }
-    55 + d
+    b'A' + (d - 10)
 }
 
 // Two hex digits.
@@ -76,7 +76,7 @@ pub fn put_hex4(out: &mut [u8], at: usize, w: u16) -> usize
 pub fn put_decimal(out: &mut [u8], at: usize, n: u64) -> usize
     ensures { λ r. ⌜ Puts (texts.decimal n) at (now (out .entry)) r (now (out .exit)) ⌝ }
 {
-    let digit = 48 + (n % 10) as u8;
+    let digit = b'0' + (n % 10) as u8;
     if n < 10 {
         return put_byte(out, at, digit);
     }
@@ -103,13 +103,13 @@ pub fn put_answer(out: &mut [u8], at: usize, a: Answer) -> usize
     let refusal = a.number;
     let number = device::refusal_number(refusal);
     let first = put_decimal(out, at, number as u64);
-    let second = put_byte(out, first, 32);
+    let second = put_byte(out, first, b' ');
     let third = put_decimal(out, second, a.length as u64);
-    let fourth = put_byte(out, third, 32);
+    let fourth = put_byte(out, third, b' ');
     put_edge(out, fourth, a.edge)
 }
 
-// The line of the interrupt.
+// The line that shows the interrupt.
 pub fn put_interrupt(out: &mut [u8], at: usize, high: bool) -> usize
     ensures { λ r. ⌜ Puts (texts.interruptText high) at (now (out .entry)) r (now (out .exit)) ⌝ }
 {
@@ -138,7 +138,7 @@ fn byte_behind(area: &[u8], place: usize, i: usize) -> u8
 fn put_one_byte(out: &mut [u8], at: usize, area: &[u8], place: usize, i: usize) -> usize
     ensures { λ r. ⌜ Puts (texts.byteText (now (area .entry)) place i) at (now (out .entry)) r (now (out .exit)) ⌝ }
 {
-    let next = put_byte(out, at, 32);
+    let next = put_byte(out, at, b' ');
     put_hex2(out, next, byte_behind(area, place, i))
 }
 
@@ -149,7 +149,7 @@ fn put_one_word(out: &mut [u8], at: usize, area: &[u8], place: usize, i: u8) -> 
     let p = 2 * i as usize;
     let low = byte_behind(area, place, p) as u16;
     let high = byte_behind(area, place, p + 1) as u16;
-    let next = put_byte(out, at, 32);
+    let next = put_byte(out, at, b' ');
     put_hex4(out, next, low + 256 * high)
 }
 
@@ -184,7 +184,7 @@ fn put_place(out: &mut [u8], at: usize, place: usize) -> usize
     ensures { λ r. ⌜ Puts (texts.hex 4 place ++ codes ":") at (now (out .entry)) r (now (out .exit)) ⌝ }
 {
     let next = put_hex4(out, at, (place % 65536) as u16);
-    put_byte(out, next, 58)
+    put_byte(out, next, b':')
 }
 
 // A line of n bytes, from a place on.
@@ -193,7 +193,7 @@ pub fn put_show_line(out: &mut [u8], at: usize, area: &[u8], place: usize, n: u8
 {
     let first = put_place(out, at, place);
     let second = put_each_byte(out, first, area, place, n);
-    put_byte(out, second, 10)
+    put_byte(out, second, b'\n')
 }
 
 // A line of n words, from a place on.
@@ -202,7 +202,7 @@ pub fn put_look_line(out: &mut [u8], at: usize, area: &[u8], place: usize, n: u8
 {
     let first = put_place(out, at, place);
     let second = put_each_word(out, first, area, place, n);
-    put_byte(out, second, 10)
+    put_byte(out, second, b'\n')
 }
 
 // The smaller of two numbers.
@@ -299,5 +299,5 @@ pub fn put_fault(out: &mut [u8], at: usize, line: u64, column: u64, what: Expect
     let fourth = put_decimal(out, third, column);
     let fifth = put_text(out, fourth, b": expected ");
     let sixth = put_expected(out, fifth, what);
-    put_byte(out, sixth, 10)
+    put_byte(out, sixth, b'\n')
 }
