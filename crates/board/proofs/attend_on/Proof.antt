@@ -1,0 +1,22 @@
+-- `board::attend_on` meets its contract. Assumes nothing.
+use mathlib.Core.Path.{refl, ap, _∙_}
+use mathlib.Core.List.{List, _++_}
+use Prim.Native.Nat.{ℕ}
+use lib.ListN.{drop}
+use Rattle.board.specs.Board.{accepted}
+use Rattle.board.proofs.Fits.{taken}
+use borrow.Author.Needs.{needs}
+use Rattle.board.proofs.attend_on.Statement.{statement}
+use Rattle.board.proofs.attend_on.Tie as tie
+
+pub attend-on-spec : {M : Type 1} → statement M
+unfolding accepted
+attend-on-spec =
+    tie.close
+    (tie.spec
+    (λ c. search needs)
+    (λ c. taken (c .before .before .before .args .b .size) (c .before .before .before .args .memory .now) (c .before .before .before .pre))
+    (λ c κs. search needs)
+    (λ c κs. search needs)
+    (λ c. search needs)
+    (λ c. λ h out. record { said = c .answering .ensures ∙ rw (c .before .before .before .before .before .attend-through .ensures h out .device, c .before .before .before .before .before .attend-through .ensures h out .answer); memory = ap (λ (y : List ℕ). y ++ drop (c .before .before .before .before .before .before .before .before .before .args .b .size) (c .before .before .before .before .before .before .before .before .before .args .memory .now)) (c .before .before .before .before .before .attend-through .ensures h out .memory); holding = c .before .before .before .before .before .attend-through .ensures h out .holding; outgoing = c .before .before .before .before .before .attend-through .ensures h out .outgoing }))

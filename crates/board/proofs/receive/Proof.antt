@@ -1,0 +1,22 @@
+-- `board::receive` meets its contract: the refusal that applies, or the call itself. Assumes nothing.
+use mathlib.Core.Path.{refl, sym, ap, _∙_}
+use lib.ListN.{length}
+use Rattle.board.specs.Board.{isAccepted, onBoard}
+use Rattle.board.proofs.Fits.{fits}
+use borrow.Author.Needs.{needs}
+use Rattle.board.proofs.receive.Statement.{statement}
+use Rattle.board.proofs.receive.Tie as tie
+
+pub receive-spec : {M : Type 1} → statement M
+unfolding onBoard
+receive-spec =
+    tie.close
+    (tie.spec
+    (λ c κs. search needs)
+    (λ c κs. search needs)
+    (λ c κs. fits (c .before .before .before .before .before .before .before .before .before .args .b .size) (c .before .before .before .before .before .before .before .before .before .args .b .made) (length (c .before .before .before .before .before .before .before .before .before .args .memory .now)) (length (c .before .before .before .before .before .before .before .before .before .args .holding .now)) (length (c .before .before .before .before .before .before .before .before .before .args .outgoing .now)) (length (c .before .before .before .before .before .before .before .before .before .args .frame .now)) (ap isAccepted (sym (c .before .before .before .before .refusal .ensures)) ∙ sym (c .before .before .before .is-accepted .ensures) ∙ c .before .before .if1 .taken))
+    (λ c. search needs)
+    (λ c. search needs)
+    (λ c. rw (← c .before .before .before .before .before .before .before .before .before .refusal .ensures, ← c .before .before .before .before .before .before .before .before .is-accepted .ensures, c .before .before .before .before .before .before .before .if1 .taken) (c .before .before .before .before .receive-on .ensures _))
+    (λ c κs. search needs)
+    (λ c. rw (← c .before .before .before .refusal .ensures, ← c .before .before .is-accepted .ensures, c .before .if1 .left) (record { said = c .refuse .ensures; memory = refl; holding = refl; outgoing = refl })))

@@ -1,0 +1,15 @@
+-- `lines::more_word` meets its contract. Assumes nothing.
+use Rattle.lines.specs.Words.{moreWord}
+use borrow.Author.Needs.{needs}
+use Rattle.lines.proofs.more_word.Statement.{statement}
+use Rattle.lines.proofs.more_word.Tie as tie
+
+pub more-word-spec : {M : Type 1} → statement M
+unfolding moreWord
+more-word-spec =
+    tie.close
+    (tie.spec
+    (λ c κs. search needs)
+    (λ c κs. search needs)
+    (λ c κs. search needs)
+    (λ c. rw (c .before .before .more-letters .ensures, c .before .more-digits .ensures, c .more-piece .ensures)))

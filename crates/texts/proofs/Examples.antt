@@ -1,0 +1,91 @@
+-- The texts of docs/replay.md, computed. No contract cites this file. Assumes nothing.
+use mathlib.Core.Path.{_≡_, refl}
+use mathlib.Core.Bool.{true, false}
+use mathlib.Core.List.{List, [], _∷_}
+use Prim.Native.Nat.{ℕ}
+use Rattle.device.specs.declared.Refusal.the-variants as refusal
+use Rattle.texts.specs.Codes.{codes}
+use Rattle.texts.specs.Texts.{
+  each,
+  hex,
+  decimalBy,
+  decimal,
+  edgeText,
+  answerText,
+  interruptText,
+  byteText,
+  wordText,
+  showLine,
+  lookLine,
+  showText,
+  lookText,
+  expectedText,
+  faultText,
+}
+use Rattle.texts.specs.declared.Expected.the-variants as expected
+
+-- ---- numbers
+
+pub nought : decimal 0 ≡ codes "0"
+unfolding decimal decimalBy
+nought = refl
+
+pub nine : decimal 9 ≡ codes "9"
+unfolding decimal decimalBy
+nine = refl
+
+pub ten : decimal 10 ≡ codes "10"
+unfolding decimal decimalBy
+ten = refl
+
+pub largest-word : decimal 65535 ≡ codes "65535"
+unfolding decimal decimalBy
+largest-word = refl
+
+pub hex-byte : hex 2 0xA0 ≡ codes "A0"
+unfolding hex
+hex-byte = refl
+
+pub hex-word : hex 4 0xFF36 ≡ codes "FF36"
+unfolding hex
+hex-word = refl
+
+-- ---- lines
+
+pub sent : answerText (record { number = refusal.Accepted; length = 60; edge = true }) ≡ codes "0 60 1\n"
+unfolding answerText edgeText decimal decimalBy
+sent = refl
+
+pub refused : answerText (record { number = refusal.Foreign; length = 0; edge = false }) ≡ codes "4 0 0\n"
+unfolding answerText edgeText decimal decimalBy
+refused = refl
+
+pub high : interruptText true ≡ codes "interrupt high\n"
+unfolding interruptText
+high = refl
+
+pub shown : showText (1 ∷ 2 ∷ 0 ∷ 0xA0 ∷ 0 ∷ 0 ∷ []) 2 4 ≡ codes "0002: 00 A0 00 00\n"
+unfolding showText showLine byteText each hex
+shown = refl
+
+pub looked : lookText (1 ∷ 2 ∷ 0 ∷ 0xA0 ∷ 0 ∷ 0 ∷ []) 2 2 ≡ codes "0002: A000 0000\n"
+unfolding lookText lookLine wordText each hex
+looked = refl
+
+-- a second line begins behind 16 bytes
+pub two-lines : showText [] 0 17 ≡ codes "0000: 00 00 00 00 00 00 00 00 00 00 00 00 00 00 00 00\n0010: 00\n"
+unfolding showText showLine byteText each hex
+two-lines = refl
+
+-- and behind 8 words
+pub two-look-lines : lookText [] 0x30 9 ≡ codes "0030: 0000 0000 0000 0000 0000 0000 0000 0000\n0040: 0000\n"
+unfolding lookText lookLine wordText each hex
+two-look-lines = refl
+
+pub no-line : (area : List ℕ) (place : ℕ) → showText area place 0 ≡ []
+unfolding showText each
+no-line area place = refl
+
+pub fault : faultText 12 7 expected.Number ≡ codes "line 12, column 7: expected a number\n"
+unfolding faultText expectedText decimal decimalBy
+fault = refl

@@ -1,0 +1,6 @@
+-- What the proofs of this crate and of the crates above it cite.
+pub mod Laws
+pub mod Numbers
+pub mod Lengths
+pub mod Parts
+pub mod Examples

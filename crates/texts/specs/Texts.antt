@@ -1,0 +1,97 @@
+-- What the replay program prints (docs/replay.md), as lists of character codes, and where it goes. Assumes nothing.
+use mathlib.Core.Path.{_≡_}
+use mathlib.Core.Bool.{Bool, cond}
+use mathlib.Core.List.{List, [], _∷_, _++_}
+use Prim.Native.Char.{code}
+use Prim.Native.Nat.{ℕ, zero, suc, _+_, _-_, _*_, _/_, _%_, min}
+use lib.Dec.{ltb}
+use lib.ListN.{length, getD}
+use lib.Seq.{sets}
+use Rattle.device.specs.Numbers.{refusalNumber}
+use Rattle.device.specs.declared.Answer.{Answer}
+use Rattle.texts.specs.Codes.{codes}
+use Rattle.texts.specs.declared.Expected.{Expected}
+use Rattle.texts.specs.declared.Expected.the-variants as expected
+
+-- a text goes to index at; what would pass the end goes nowhere. `r`: where the next one goes, behind it or at the end
+pub record Puts (text : List ℕ) (at : ℕ) (before : List ℕ) (r : ℕ) (after : List ℕ) : Type 0 where
+  pub next : r ≡ at + min (length text) (length before - at)
+  pub bytes : after ≡ sets before at text
+
+-- the texts f 0, f 1, and so on, n of them, one behind the other
+unfoldable pub each : (ℕ → List ℕ) → ℕ → List ℕ
+each f zero = []
+each f (suc n) = each f n ++ f n
+
+-- ---- numbers
+
+-- a digit below 16: `0` to `9`, then `A` to `F`. "Hex digits are printed in capitals"
+abbrev pub hexDigit : ℕ → ℕ
+hexDigit d = cond (ltb d 10) (code "0" + d) (code "A" + (d - 10))
+
+-- the last k hex digits of n
+unfoldable pub hex : ℕ → ℕ → List ℕ
+hex zero n = []
+hex (suc k) n = hex k (n / 16) ++ (hexDigit (n % 16) ∷ [])
+
+-- the decimal digits of n, at most k of them: those of n / 10, unless that is 0, and then n % 10
+unfoldable pub decimalBy : ℕ → ℕ → List ℕ
+decimalBy zero n = []
+decimalBy (suc k) n = cond (ltb n 10) [] (decimalBy k (n / 10)) ++ ((code "0" + n % 10) ∷ [])
+
+-- all of them: a number n has no more than n + 1
+unfoldable pub decimal : ℕ → List ℕ
+decimal n = decimalBy (suc n) n
+
+-- ---- answers. "An answer is a line of three numbers: the number, the length sent, and 1 or 0 for the interrupt's edge"
+
+unfoldable pub edgeText : Bool → List ℕ
+edgeText edge = cond edge (codes "1\n") (codes "0\n")
+
+unfoldable pub answerText : Answer → List ℕ
+answerText a = decimal (refusalNumber (a .number)) ++ codes " " ++ decimal (a .length) ++ codes " " ++ edgeText (a .edge)
+
+-- "`interrupt high` or `interrupt low`"
+unfoldable pub interruptText : Bool → List ℕ
+interruptText high = cond high (codes "interrupt high\n") (codes "interrupt low\n")
+
+-- ---- stretches. "A line has the place of its first byte as four hex digits, a colon, and then each byte as two hex digits or each word as
+-- four, a space before each"; what is beyond the area's end reads 0
+
+unfoldable pub byteText : List ℕ → ℕ → ℕ → List ℕ
+byteText area place i = codes " " ++ hex 2 (getD area (place + i) 0)
+
+-- a word is low byte first
+unfoldable pub wordText : List ℕ → ℕ → ℕ → List ℕ
+wordText area place i = codes " " ++ hex 4 (getD area (place + 2 * i) 0 + 256 * getD area (place + (2 * i + 1)) 0)
+
+unfoldable pub showLine : List ℕ → ℕ → ℕ → List ℕ
+showLine area place n = hex 4 place ++ codes ":" ++ each (byteText area place) n ++ codes "\n"
+
+unfoldable pub lookLine : List ℕ → ℕ → ℕ → List ℕ
+lookLine area place n = hex 4 place ++ codes ":" ++ each (wordText area place) n ++ codes "\n"
+
+-- lines of at most 16 bytes
+unfoldable pub showText : List ℕ → ℕ → ℕ → List ℕ
+showText area place count = each (λ k. showLine area (place + 16 * k) (min 16 (count - 16 * k))) ((count + 15) / 16)
+
+-- lines of at most 8 words
+unfoldable pub lookText : List ℕ → ℕ → ℕ → List ℕ
+lookText area place count = each (λ k. lookLine area (place + 16 * k) (min 8 (count - 8 * k))) ((count + 7) / 8)
+
+-- ---- faults. "One line says where and what was expected"
+
+unfoldable pub expectedText : Expected → List ℕ
+expectedText expected.First = codes "a line's first word"
+expectedText expected.Number = codes "a number"
+expectedText expected.Size = codes "a number up to 65536"
+expectedText expected.Short = codes "a number up to 65535"
+expectedText expected.Area = codes "an area"
+expectedText expected.Place = codes "a place in the area"
+expectedText expected.Bytes = codes "bytes"
+expectedText expected.Room = codes "room in the area"
+expectedText expected.End = codes "the end of the line"
+
+unfoldable pub faultText : ℕ → ℕ → Expected → List ℕ
+faultText line column what =
+    codes "line " ++ decimal line ++ codes ", column " ++ decimal column ++ codes ": expected " ++ expectedText what ++ codes "\n"

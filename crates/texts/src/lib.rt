@@ -1,0 +1,303 @@
+// What the replay program prints (docs/replay.md), as text: numbers, answers, stretches of memory and faults, put one behind the other into a
+// slice. Each function answers where the next text goes. What would pass the slice's end goes nowhere, and the place stays at the end.
+use device::Answer;
+ghost use mathlib.Core.Path.{_≡_};
+ghost use mathlib.Core.List.{[], _∷_, _++_};
+ghost use Prim.Native.Nat.{_+_, _-_, _%_, min};
+ghost use lib.ListN.{getD};
+ghost use Rattle.texts.specs.Codes.{codes};
+ghost use Rattle.texts.specs.Texts.{Puts};
+ghost use Rattle.texts.specs.Texts as texts;
+
+// ---- bytes and texts
+
+// Where the next text goes, if one of n bytes goes to index at of len. No sum is formed that could overflow.
+fn behind(len: usize, at: usize, n: usize) -> usize
+    ensures { λ r. ⌜ r ≡ at + min n (len - at) ⌝ }
+{
+    if len <= at {
+        return at;
+    }
+    if len - at < n {
+        return len;
+    }
+    at + n
+}
+
+// A text.
+pub fn put_text(out: &mut [u8], at: usize, text: &[u8]) -> usize
+    ensures { λ r. ⌜ Puts (now (text .entry)) at (now (out .entry)) r (now (out .exit)) ⌝ }
+{
+    memory::put_run(out, at, text);
+    behind(out.len(), at, text.len())
+}
+
+// A byte.
+pub fn put_byte(out: &mut [u8], at: usize, b: u8) -> usize
+    ensures { λ r. ⌜ Puts (b ∷ []) at (now (out .entry)) r (now (out .exit)) ⌝ }
+{
+    if at < out.len() {
+        out[at] = b;
+        return at + 1;
+    }
+    at
+}
+
+// ---- numbers
+
+// The last hex digit of n.
+fn hex_digit(n: u8) -> u8
+    ensures { λ r. ⌜ r ≡ texts.hexDigit (n % 16) ⌝ }
+{
+    let d = n % 16;
+    if d < 10 {
+        return b'0' + d;
+    }
+    b'A' + (d - 10)
+}
+
+// Two hex digits.
+pub fn put_hex2(out: &mut [u8], at: usize, b: u8) -> usize
+    ensures { λ r. ⌜ Puts (texts.hex 2 b) at (now (out .entry)) r (now (out .exit)) ⌝ }
+{
+    let next = put_byte(out, at, hex_digit(b / 16));
+    put_byte(out, next, hex_digit(b))
+}
+
+// Four hex digits.
+pub fn put_hex4(out: &mut [u8], at: usize, w: u16) -> usize
+    ensures { λ r. ⌜ Puts (texts.hex 4 w) at (now (out .entry)) r (now (out .exit)) ⌝ }
+{
+    let next = put_hex2(out, at, (w / 256) as u8);
+    put_hex2(out, next, (w % 256) as u8)
+}
+
+// Decimal digits, no zero in front. It calls itself at most 19 times.
+pub fn put_decimal(out: &mut [u8], at: usize, n: u64) -> usize
+    ensures { λ r. ⌜ Puts (texts.decimal n) at (now (out .entry)) r (now (out .exit)) ⌝ }
+{
+    let digit = b'0' + (n % 10) as u8;
+    if n < 10 {
+        return put_byte(out, at, digit);
+    }
+    let next = put_decimal(out, at, n / 10);
+    put_byte(out, next, digit)
+}
+
+// ---- answers
+
+// The interrupt's edge, and the line's end.
+fn put_edge(out: &mut [u8], at: usize, edge: bool) -> usize
+    ensures { λ r. ⌜ Puts (texts.edgeText edge) at (now (out .entry)) r (now (out .exit)) ⌝ }
+{
+    if edge {
+        return put_text(out, at, b"1\n");
+    }
+    put_text(out, at, b"0\n")
+}
+
+// The line of an answer.
+pub fn put_answer(out: &mut [u8], at: usize, a: Answer) -> usize
+    ensures { λ r. ⌜ Puts (texts.answerText a) at (now (out .entry)) r (now (out .exit)) ⌝ }
+{
+    let refusal = a.number;
+    let number = device::refusal_number(refusal);
+    let first = put_decimal(out, at, number as u64);
+    let second = put_byte(out, first, b' ');
+    let third = put_decimal(out, second, a.length as u64);
+    let fourth = put_byte(out, third, b' ');
+    put_edge(out, fourth, a.edge)
+}
+
+// The line that shows the interrupt.
+pub fn put_interrupt(out: &mut [u8], at: usize, high: bool) -> usize
+    ensures { λ r. ⌜ Puts (texts.interruptText high) at (now (out .entry)) r (now (out .exit)) ⌝ }
+{
+    if high {
+        return put_text(out, at, b"interrupt high\n");
+    }
+    put_text(out, at, b"interrupt low\n")
+}
+
+// ---- stretches
+
+// The byte i places behind a place; 0 beyond the area's end. No sum is formed that could overflow.
+fn byte_behind(area: &[u8], place: usize, i: usize) -> u8
+    ensures { λ r. ⌜ r ≡ getD (now (area .entry)) (place + i) 0 ⌝ }
+{
+    if area.len() <= place {
+        return 0;
+    }
+    if area.len() - place <= i {
+        return 0;
+    }
+    area[place + i]
+}
+
+// The byte i places behind a place, a blank before it.
+fn put_one_byte(out: &mut [u8], at: usize, area: &[u8], place: usize, i: usize) -> usize
+    ensures { λ r. ⌜ Puts (texts.byteText (now (area .entry)) place i) at (now (out .entry)) r (now (out .exit)) ⌝ }
+{
+    let next = put_byte(out, at, b' ');
+    put_hex2(out, next, byte_behind(area, place, i))
+}
+
+// The word 2 i places behind a place, a blank before it.
+fn put_one_word(out: &mut [u8], at: usize, area: &[u8], place: usize, i: u8) -> usize
+    ensures { λ r. ⌜ Puts (texts.wordText (now (area .entry)) place i) at (now (out .entry)) r (now (out .exit)) ⌝ }
+{
+    let p = 2 * i as usize;
+    let low = byte_behind(area, place, p) as u16;
+    let high = byte_behind(area, place, p + 1) as u16;
+    let next = put_byte(out, at, b' ');
+    put_hex4(out, next, low + 256 * high)
+}
+
+// The n bytes from a place on.
+fn put_each_byte(out: &mut [u8], at: usize, area: &[u8], place: usize, n: u8) -> usize
+    ensures { λ r. ⌜ Puts (texts.each (texts.byteText (now (area .entry)) place) n) at (now (out .entry)) r (now (out .exit)) ⌝ }
+{
+    let mut next = at;
+    let mut i = 0;
+    while i < n {
+        next = put_one_byte(out, next, area, place, i as usize);
+        i += 1;
+    }
+    next
+}
+
+// The n words from a place on.
+fn put_each_word(out: &mut [u8], at: usize, area: &[u8], place: usize, n: u8) -> usize
+    ensures { λ r. ⌜ Puts (texts.each (texts.wordText (now (area .entry)) place) n) at (now (out .entry)) r (now (out .exit)) ⌝ }
+{
+    let mut next = at;
+    let mut i = 0;
+    while i < n {
+        next = put_one_word(out, next, area, place, i);
+        i += 1;
+    }
+    next
+}
+
+// The place of a line, as four hex digits, and a colon.
+fn put_place(out: &mut [u8], at: usize, place: usize) -> usize
+    ensures { λ r. ⌜ Puts (texts.hex 4 place ++ codes ":") at (now (out .entry)) r (now (out .exit)) ⌝ }
+{
+    let next = put_hex4(out, at, (place % 65536) as u16);
+    put_byte(out, next, b':')
+}
+
+// A line of n bytes, from a place on.
+pub fn put_show_line(out: &mut [u8], at: usize, area: &[u8], place: usize, n: u8) -> usize
+    ensures { λ r. ⌜ Puts (texts.showLine (now (area .entry)) place n) at (now (out .entry)) r (now (out .exit)) ⌝ }
+{
+    let first = put_place(out, at, place);
+    let second = put_each_byte(out, first, area, place, n);
+    put_byte(out, second, b'\n')
+}
+
+// A line of n words, from a place on.
+pub fn put_look_line(out: &mut [u8], at: usize, area: &[u8], place: usize, n: u8) -> usize
+    ensures { λ r. ⌜ Puts (texts.lookLine (now (area .entry)) place n) at (now (out .entry)) r (now (out .exit)) ⌝ }
+{
+    let first = put_place(out, at, place);
+    let second = put_each_word(out, first, area, place, n);
+    put_byte(out, second, b'\n')
+}
+
+// The smaller of two numbers.
+fn least(most: u8, n: usize) -> u8
+    ensures { λ r. ⌜ r ≡ min most n ⌝ }
+{
+    if n < most as usize {
+        return n as u8;
+    }
+    most
+}
+
+// The lines of a stretch of bytes.
+pub fn put_bytes(out: &mut [u8], at: usize, area: &[u8], place: u32, count: u32) -> usize
+    ensures { λ r. ⌜ Puts (texts.showText (now (area .entry)) place count) at (now (out .entry)) r (now (out .exit)) ⌝ }
+{
+    let n = count as usize;
+    let lines = (n + 15) / 16;
+    let mut next = at;
+    let mut k = 0;
+    while k < lines {
+        next = put_show_line(
+            out,
+            next,
+            area,
+            place as usize + 16 * k,
+            least(16, n - 16 * k),
+        );
+        k += 1;
+    }
+    next
+}
+
+// The lines of a stretch of words.
+pub fn put_words(out: &mut [u8], at: usize, area: &[u8], place: u32, count: u32) -> usize
+    ensures { λ r. ⌜ Puts (texts.lookText (now (area .entry)) place count) at (now (out .entry)) r (now (out .exit)) ⌝ }
+{
+    let n = count as usize;
+    let lines = (n + 7) / 8;
+    let mut next = at;
+    let mut k = 0;
+    while k < lines {
+        next = put_look_line(
+            out,
+            next,
+            area,
+            place as usize + 16 * k,
+            least(8, n - 8 * k),
+        );
+        k += 1;
+    }
+    next
+}
+
+// ---- faults
+
+// What was expected where a line went wrong.
+pub enum Expected {
+    First,
+    Number,
+    Size,
+    Short,
+    Area,
+    Place,
+    Bytes,
+    Room,
+    End,
+}
+
+// What was expected, in words.
+fn put_expected(out: &mut [u8], at: usize, what: Expected) -> usize
+    ensures { λ r. ⌜ Puts (texts.expectedText what) at (now (out .entry)) r (now (out .exit)) ⌝ }
+{
+    match what {
+        Expected::First => put_text(out, at, b"a line's first word"),
+        Expected::Number => put_text(out, at, b"a number"),
+        Expected::Size => put_text(out, at, b"a number up to 65536"),
+        Expected::Short => put_text(out, at, b"a number up to 65535"),
+        Expected::Area => put_text(out, at, b"an area"),
+        Expected::Place => put_text(out, at, b"a place in the area"),
+        Expected::Bytes => put_text(out, at, b"bytes"),
+        Expected::Room => put_text(out, at, b"room in the area"),
+        Expected::End => put_text(out, at, b"the end of the line"),
+    }
+}
+
+// The line of a fault.
+pub fn put_fault(out: &mut [u8], at: usize, line: u64, column: u64, what: Expected) -> usize
+    ensures { λ r. ⌜ Puts (texts.faultText line column what) at (now (out .entry)) r (now (out .exit)) ⌝ }
+{
+    let first = put_text(out, at, b"line ");
+    let second = put_decimal(out, first, line);
+    let third = put_text(out, second, b", column ");
+    let fourth = put_decimal(out, third, column);
+    let fifth = put_text(out, fourth, b": expected ");
+    let sixth = put_expected(out, fifth, what);
+    put_byte(out, sixth, b'\n')
+}
