@@ -1,11 +1,12 @@
 -- What the chip's calls promise, in the front's shape. An area that is not lent stays in the definitions too. Assumes nothing.
-use mathlib.Core.Path.{ap, refl}
+use mathlib.Core.Path.{_≡_, ap, refl}
 use mathlib.Core.List.{List}
 use Prim.Native.Nat.{ℕ}
+use Rattle.device.specs.declared.Answer.{Answer}
 use Rattle.device.specs.declared.Device.{Device}
 use Rattle.device.specs.declared.Outcome.{Outcome}
 use Rattle.attention.specs.Attention.{attention, Attends}
-use Rattle.chip.specs.World.{Ran, Does, worldOf}
+use Rattle.chip.specs.World.{Ran, Does, worldOf, afterwards}
 use Rattle.chip.specs.Attention.{attentionOf}
 use Rattle.chip.specs.Arrival.{arrival, arrivalOf, Arrives}
 use Rattle.front.specs.Front.{Fronted}
@@ -21,6 +22,7 @@ fronted said o m h out does =
       outgoing = does .outgoing;
     }
 
+-- an attention sees neither holding nor outgoing area, an arrival no outgoing area
 pub attended : (d : Device) (m : List ℕ) (o : Outcome) (m′ : List ℕ) → Attends (attention d m) m o m′ → (h out : List ℕ) → Fronted (attentionOf (worldOf d m h out)) (o .device) (o .answer) m′ h out
 unfolding attentionOf
 attended d m o m′ attends h out =
@@ -32,3 +34,7 @@ unfolding arrivalOf
 arrived d m h f v o m′ h′ arrives out =
     fronted (arrivalOf (worldOf d m h out) f v) o m′ h′ out
     record { outcome = arrives .outcome; memory = arrives .memory; holding = arrives .holding; outgoing = refl }
+
+-- what a call through the front leaves is one world, the definition's: what a loop over calls keeps as its invariant
+pub leaves : (said : Ran) (d : Device) (a : Answer) (m h out : List ℕ) → Fronted said d a m h out → worldOf d m h out ≡ afterwards said
+leaves said d a m h out f = λ i. worldOf (f .device i) (f .memory i) (f .holding i) (f .outgoing i)

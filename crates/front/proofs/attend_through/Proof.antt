@@ -116,9 +116,9 @@ module _ {M : Type 1} (𝓤 : URA M) (H : Heap 𝓤) (A : Atoms 𝓤) (W : Given
     walk room₁ =
         qed W ((‵ (flft κ₁ q₁) ⊛ ‵ ftrue) ∷ ‵ (owns (D.the-row ∷ MutSlice (named 0) κ₁ u8 ∷ []) (h, rest) (dvals h, rest-vals)) ∷ []) ∵ enter ! C Λ code.function (dval h ∷ s₁ ∷ []) _ $
         alloc1 ! (λ l₀. alloc1 ! (λ l₁. alloc1 ! (λ l₂. alloc1 ! (λ l₃. alloc1 ! (λ l₄. alloc1 ! (λ l₅. alloc1 ! (λ l₆. alloc1 ! (λ l₇. alloc1 ! (λ l₈. alloc0 ! $ params1 ! $
-        pass1 ! (init ! 14 refl (LL.lawful D.the-type D′.the-laws 𝓤 H A W .typed h _ h-is .0)) $ pass1 ! (init ! 12 refl (tt, (tt, (record { fits = room₁ .0 }, tt)))) $ pass0 ! $
+        pass1 ! (init ! 14 {τ = D′.mir} {b = l₁} {o = 0} {v = dval h} refl (LL.lawful D.the-type D′.the-laws 𝓤 H A W .typed h _ h-is .0)) $ pass1 ! (init ! 12 refl (tt, (tt, (record { fits = room₁ .0 }, tt)))) $ pass0 ! $
         -- [_8; …; down to room for _0; …; the tokens; what the parameters own]
-        assigns ! (of-opd ! (load ! (from ! (stop !)) (look ! 14 refl))) (from ! (stop !)) (init ! 10 refl (LL.lawful D.the-type D′.the-laws 𝓤 H A W .typed h _ h-is .0)) $
+        assigns ! (of-opd ! (load ! (from ! (stop !)) (look ! 14 refl))) (from ! (stop !)) (init ! 10 {τ = D′.mir} {b = l₃} {o = 0} {v = dval h} refl (LL.lawful D.the-type D′.the-laws 𝓤 H A W .typed h _ h-is .0)) $
         assigns ! (addr ! (from ! (stop !))) (from ! (stop !)) (init ! 6 refl (tt, tt)) $
         -- `&mut *memory`
         assigns ! (addr ! (from ! (fld ! refl (hop ! (look-in ! 12 (sub ! 0 refl (whole !))) (stop !))))) (from ! (stop !)) (init ! 4 refl (tt, tt)) $
@@ -135,14 +135,14 @@ module _ {M : Type 1} (𝓤 : URA M) (H : Heap 𝓤) (A : Atoms 𝓤) (W : Given
         fsplit ! $ move ! (1 ∷ []) $ fsplit ! $ fsplit ! $ move ! (1 ∷ []) $ feqL ! (λ l-1. move ! (1 ∷ []) $ drop ! $
         -- [the last lists; the device's last value; the tokens and the answer; the lender's part; (the shared slices;) the locals]
         move ! (2 ∷ []) $ split ! $ split ! $ move ! (2 ∷ []) $ peeks ! Answer.the-row (Is Answer.the-row) (shows 𝓤 H A Answer.the-row) r (w ∷ []) (λ is-a. drop ! $
-        land ! (from ! (stop !)) (init ! 13 refl (LL.lawful Answer.the-type Answer′.the-laws 𝓤 H A W .typed r _ is-a .0)) $ rewrite ! 13 (λ (u : Val). ‵ (fat fullShare Answer′.mir l₄ 0 u)) (ap only (LL.tells Answer.the-type Answer′.the-laws r _ is-a)) refl $
+        land ! (from ! (stop !)) (init ! 13 {τ = Answer′.mir} {b = l₄} {o = 0} {v = w} refl (LL.lawful Answer.the-type Answer′.the-laws 𝓤 H A W .typed r _ is-a .0)) $ rewrite ! 13 (λ (u : Val). ‵ (fat fullShare Answer′.mir l₄ 0 u)) (ap only (LL.tells Answer.the-type Answer′.the-laws r _ is-a)) refl $
         -- the lifetime is ended, and the local is taken back at the device's last value
         lft-end ! tt $ move ! (0 ∷ 4 ∷ 3 ∷ []) $ use3 W (later (‵ (partAt D.the-row fullShare (zs .0) l₃ 0))) (ref-back 𝓤 H A W D.the-row (ν ∷ []) δ (zs .0) l₃ 0) $ await ! tt $
         use1 W (‵ (D.the-row .own (zs .0) (dvals (zs .0))) ⊛ ‵ (fat fullShare D′.mir l₃ 0 (dval (zs .0)))) (lies-out 𝓤 H A W (zs .0) l₃) $ split ! $
         peeks ! D.the-row (Is D.the-row) (shows 𝓤 H A D.the-row) (zs .0) (dvals (zs .0)) (λ is-d. drop ! $
         -- [_3's cell; the tokens; the last lists; (the shared slices;) the other locals]: the outcome is made
-        assigns ! (of-opd ! (load ! (from ! (stop !)) (look ! 0 refl))) (from ! (stop !)) (init ! 3 refl (LL.lawful D.the-type D′.the-laws 𝓤 H A W .typed (zs .0) _ is-d .0)) $
-        assigns ! (agg ! (and-then ! (load ! (from ! (stop !)) (look ! 3 refl)) (and-then ! (load ! (from ! (stop !)) (look ! 11 refl)) (no-more !)))) (from ! (stop !)) (init ! 18 refl (LL.lawful O.the-type O′.the-laws 𝓤 H A W .typed (made r (zs .0)) _ (made-is r (zs .0) (subst (λ (vs : List Val). Is Answer.the-row r vs) (LL.tells Answer.the-type Answer′.the-laws r _ is-a) is-a) is-d) .0)) $
+        assigns ! (of-opd ! (load ! (from ! (stop !)) (look ! 0 refl))) (from ! (stop !)) (init ! 3 {τ = D′.mir} {b = l₈} {o = 0} {v = dval (zs .0)} refl (LL.lawful D.the-type D′.the-laws 𝓤 H A W .typed (zs .0) _ is-d .0)) $
+        assigns ! (agg ! (and-then ! (load ! (from ! (stop !)) (look ! 3 refl)) (and-then ! (load ! (from ! (stop !)) (look ! 11 refl)) (no-more !)))) (from ! (stop !)) (init ! 18 {τ = O′.mir} {b = l₀} {o = 0} {v = LL.val O.the-type O′.the-laws (made r (zs .0))} refl (LL.lawful O.the-type O′.the-laws 𝓤 H A W .typed (made r (zs .0)) _ (made-is r (zs .0) (subst (λ (vs : List Val). Is Answer.the-row r vs) (LL.tells Answer.the-type Answer′.the-laws r _ is-a) is-a) is-d) .0)) $
         returns ! (look ! 18 refl) $ forget ! 0 refl $ forget ! 3 refl $ forget ! 5 refl $ forget ! 7 refl $ forget ! 9 refl $ forget ! 11 refl $ forget ! 14 refl $ forget ! 16 refl $ forget ! 18 refl $
         move ! (18 ∷ 19 ∷ []) $ free1 ! $ move ! (16 ∷ 17 ∷ []) $ free1 ! $ move ! (14 ∷ 15 ∷ []) $ free1 ! $ move ! (0 ∷ 13 ∷ []) $ free1 ! $ move ! (10 ∷ 11 ∷ []) $ free1 ! $ move ! (8 ∷ 9 ∷ []) $ free1 ! $ move ! (6 ∷ 7 ∷ []) $ free1 ! $ move ! (4 ∷ 5 ∷ []) $ free1 ! $ move ! (2 ∷ 3 ∷ []) $ free1 ! $ free0 ! $
         keep ! (0 ∷ 1 ∷ []) $ by ! (exits r (zs .0) (zs .1 .0) e l-1 (subst (λ (vs : List Val). Is Answer.the-row r vs) (LL.tells Answer.the-type Answer′.the-laws r _ is-a) is-a) is-d)))))))))))))))))))

@@ -133,9 +133,9 @@ module _ {M : Type 1} (𝓤 : URA M) (H : Heap 𝓤) (A : Atoms 𝓤) (W : Given
     walk room₁ room₂ room₃ =
         qed W ((‵ (flft κ₁ q₁) ⊛ ‵ (flft κ₂ q₂) ⊛ ‵ (flft κ₃ q₃) ⊛ ‵ ftrue) ∷ ‵ (owns (D.the-row ∷ MutSlice (named 0) κ₁ u8 ∷ MutSlice (named 1) κ₂ u8 ∷ ShrSlice (named 2) κ₃ u8 ∷ u32 ∷ []) (h, rest) (dvals h, rest-vals)) ∷ []) ∵ enter ! C Λ code.function (dval h ∷ s₁ ∷ s₂ ∷ s₃ ∷ vint w32 verdict ∷ []) _ $
         alloc1 ! (λ l₀. alloc1 ! (λ l₁. alloc1 ! (λ l₂. alloc1 ! (λ l₃. alloc1 ! (λ l₄. alloc1 ! (λ l₅. alloc1 ! (λ l₆. alloc1 ! (λ l₇. alloc1 ! (λ l₈. alloc1 ! (λ l₉. alloc1 ! (λ l₁₀. alloc1 ! (λ l₁₁. alloc1 ! (λ l₁₂. alloc1 ! (λ l₁₃. alloc0 ! $ params1 ! $
-        pass1 ! (init ! 24 refl (LL.lawful D.the-type D′.the-laws 𝓤 H A W .typed h _ h-is .0)) $ pass1 ! (init ! 22 refl (tt, (tt, (record { fits = room₁ .0 }, tt)))) $ pass1 ! (init ! 20 refl (tt, (tt, (record { fits = room₂ .0 }, tt)))) $ pass1 ! (init ! 18 refl (tt, (tt, (record { fits = room₃ .0 }, tt)))) $ pass1 ! (init ! 16 refl (tt, record { fits = verdict-fits })) $ pass0 ! $
+        pass1 ! (init ! 24 {τ = D′.mir} {b = l₁} {o = 0} {v = dval h} refl (LL.lawful D.the-type D′.the-laws 𝓤 H A W .typed h _ h-is .0)) $ pass1 ! (init ! 22 refl (tt, (tt, (record { fits = room₁ .0 }, tt)))) $ pass1 ! (init ! 20 refl (tt, (tt, (record { fits = room₂ .0 }, tt)))) $ pass1 ! (init ! 18 refl (tt, (tt, (record { fits = room₃ .0 }, tt)))) $ pass1 ! (init ! 16 refl (tt, record { fits = verdict-fits })) $ pass0 ! $
         -- [_13; …; down to room for _0; …; the tokens; what the parameters own]
-        assigns ! (of-opd ! (load ! (from ! (stop !)) (look ! 24 refl))) (from ! (stop !)) (init ! 14 refl (LL.lawful D.the-type D′.the-laws 𝓤 H A W .typed h _ h-is .0)) $
+        assigns ! (of-opd ! (load ! (from ! (stop !)) (look ! 24 refl))) (from ! (stop !)) (init ! 14 {τ = D′.mir} {b = l₆} {o = 0} {v = dval h} refl (LL.lawful D.the-type D′.the-laws 𝓤 H A W .typed h _ h-is .0)) $
         assigns ! (addr ! (from ! (stop !))) (from ! (stop !)) (init ! 10 refl (tt, tt)) $
         -- `&mut *memory`
         assigns ! (addr ! (from ! (fld ! refl (hop ! (look-in ! 22 (sub ! 0 refl (whole !))) (stop !))))) (from ! (stop !)) (init ! 8 refl (tt, tt)) $
@@ -156,14 +156,14 @@ module _ {M : Type 1} (𝓤 : URA M) (H : Heap 𝓤) (A : Atoms 𝓤) (W : Given
         fsplit ! $ move ! (1 ∷ []) $ fsplit ! $ fsplit ! $ move ! (1 ∷ []) $ feqL ! (λ l-1. move ! (1 ∷ []) $ fsplit ! $ fsplit ! $ move ! (1 ∷ []) $ feqL ! (λ l-2. move ! (1 ∷ []) $ fsplit ! $ drop ! $ fsplit ! $ drop ! $ drop ! $
         -- [the last lists; the device's last value; the tokens and the answer; the lender's part; (the shared slices;) the locals]
         move ! (3 ∷ []) $ split ! $ split ! $ move ! (2 ∷ []) $ peeks ! Answer.the-row (Is Answer.the-row) (shows 𝓤 H A Answer.the-row) r (w ∷ []) (λ is-a. drop ! $
-        land ! (from ! (stop !)) (init ! 19 refl (LL.lawful Answer.the-type Answer′.the-laws 𝓤 H A W .typed r _ is-a .0)) $ rewrite ! 19 (λ (u : Val). ‵ (fat fullShare Answer′.mir l₇ 0 u)) (ap only (LL.tells Answer.the-type Answer′.the-laws r _ is-a)) refl $
+        land ! (from ! (stop !)) (init ! 19 {τ = Answer′.mir} {b = l₇} {o = 0} {v = w} refl (LL.lawful Answer.the-type Answer′.the-laws 𝓤 H A W .typed r _ is-a .0)) $ rewrite ! 19 (λ (u : Val). ‵ (fat fullShare Answer′.mir l₇ 0 u)) (ap only (LL.tells Answer.the-type Answer′.the-laws r _ is-a)) refl $
         -- the lifetime is ended, and the local is taken back at the device's last value
         lft-end ! tt $ move ! (0 ∷ 5 ∷ 4 ∷ []) $ use3 W (later (‵ (partAt D.the-row fullShare (zs .0) l₆ 0))) (ref-back 𝓤 H A W D.the-row (ν ∷ []) δ (zs .0) l₆ 0) $ await ! tt $
         use1 W (‵ (D.the-row .own (zs .0) (dvals (zs .0))) ⊛ ‵ (fat fullShare D′.mir l₆ 0 (dval (zs .0)))) (lies-out 𝓤 H A W (zs .0) l₆) $ split ! $
         peeks ! D.the-row (Is D.the-row) (shows 𝓤 H A D.the-row) (zs .0) (dvals (zs .0)) (λ is-d. drop ! $
         -- [_6's cell; the tokens; the last lists; (the shared slices;) the other locals]: the outcome is made
-        assigns ! (of-opd ! (load ! (from ! (stop !)) (look ! 0 refl))) (from ! (stop !)) (init ! 5 refl (LL.lawful D.the-type D′.the-laws 𝓤 H A W .typed (zs .0) _ is-d .0)) $
-        assigns ! (agg ! (and-then ! (load ! (from ! (stop !)) (look ! 5 refl)) (and-then ! (load ! (from ! (stop !)) (look ! 17 refl)) (no-more !)))) (from ! (stop !)) (init ! 30 refl (LL.lawful O.the-type O′.the-laws 𝓤 H A W .typed (made r (zs .0)) _ (made-is r (zs .0) (subst (λ (vs : List Val). Is Answer.the-row r vs) (LL.tells Answer.the-type Answer′.the-laws r _ is-a) is-a) is-d) .0)) $
+        assigns ! (of-opd ! (load ! (from ! (stop !)) (look ! 0 refl))) (from ! (stop !)) (init ! 5 {τ = D′.mir} {b = l₁₃} {o = 0} {v = dval (zs .0)} refl (LL.lawful D.the-type D′.the-laws 𝓤 H A W .typed (zs .0) _ is-d .0)) $
+        assigns ! (agg ! (and-then ! (load ! (from ! (stop !)) (look ! 5 refl)) (and-then ! (load ! (from ! (stop !)) (look ! 17 refl)) (no-more !)))) (from ! (stop !)) (init ! 30 {τ = O′.mir} {b = l₀} {o = 0} {v = LL.val O.the-type O′.the-laws (made r (zs .0))} refl (LL.lawful O.the-type O′.the-laws 𝓤 H A W .typed (made r (zs .0)) _ (made-is r (zs .0) (subst (λ (vs : List Val). Is Answer.the-row r vs) (LL.tells Answer.the-type Answer′.the-laws r _ is-a) is-a) is-d) .0)) $
         returns ! (look ! 30 refl) $ forget ! 0 refl $ forget ! 5 refl $ forget ! 7 refl $ forget ! 9 refl $ forget ! 11 refl $ forget ! 13 refl $ forget ! 15 refl $ forget ! 17 refl $ forget ! 20 refl $ forget ! 22 refl $ forget ! 24 refl $ forget ! 26 refl $ forget ! 28 refl $ forget ! 30 refl $
         move ! (30 ∷ 31 ∷ []) $ free1 ! $ move ! (28 ∷ 29 ∷ []) $ free1 ! $ move ! (26 ∷ 27 ∷ []) $ free1 ! $ move ! (24 ∷ 25 ∷ []) $ free1 ! $ move ! (22 ∷ 23 ∷ []) $ free1 ! $ move ! (20 ∷ 21 ∷ []) $ free1 ! $ move ! (0 ∷ 19 ∷ []) $ free1 ! $ move ! (16 ∷ 17 ∷ []) $ free1 ! $ move ! (14 ∷ 15 ∷ []) $ free1 ! $ move ! (12 ∷ 13 ∷ []) $ free1 ! $ move ! (10 ∷ 11 ∷ []) $ free1 ! $ move ! (8 ∷ 9 ∷ []) $ free1 ! $ move ! (6 ∷ 7 ∷ []) $ free1 ! $ move ! (4 ∷ 5 ∷ []) $ free1 ! $ free0 ! $
         keep ! (0 ∷ 1 ∷ 2 ∷ 3 ∷ []) $ by ! (exits r (zs .0) (zs .1 .0) (zs .1 .1 .0) e l-1 l-2 (subst (λ (vs : List Val). Is Answer.the-row r vs) (LL.tells Answer.the-type Answer′.the-laws r _ is-a) is-a) is-d)))))))))))))))))))))))))
