@@ -1,2 +1,1 @@
--- Laws of the bytes that a line brings.
-pub mod Laws
+-- No laws: each function has its own proof.

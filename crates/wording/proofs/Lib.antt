@@ -1,0 +1,2 @@
+-- Laws of the bytes that a line brings.
+pub mod Laws
