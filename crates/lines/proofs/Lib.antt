@@ -1,1 +1,2 @@
--- No laws: each function has its own proof.
+-- Lines of docs/replay.md, computed.
+pub mod Cases

@@ -1,7 +1,8 @@
 -- The words that a line's first word and its area may be: docs/replay.md, "Lines". A word's letters are one number, five bits to a letter, so
 -- that words are told apart by it. Assumes nothing.
 use mathlib.Core.Bool.{cond}
-use mathlib.Core.List.{List, [], _∷_}
+use Prim.Native.Char.{code}
+use Prim.Native.String.{String, [], _∷_}
 use Prim.Native.Nat.{ℕ, _+_, _-_, _*_}
 use lib.Dec.{eqb, ltb}
 use Rattle.wording.specs.declared.Verb.{Verb}
@@ -23,100 +24,37 @@ moreLetters letters c =
     (cond (ltb letters 0x80000000000000) (letters * 32 + (c - 96))
     noWord))
 
--- letters as numbers from 1 on, and the number of a word so spelled
-abbrev pub spelled : ℕ → List ℕ → ℕ
-spelled n [] = n
-spelled n (l ∷ ls) = spelled (n * 32 + l) ls
+-- the number of a word so spelled
+abbrev pub spelledFrom : ℕ → String → ℕ
+spelledFrom n [] = n
+spelledFrom n (l ∷ ls) = spelledFrom (n * 32 + (code l - 96)) ls
 
-abbrev a : ℕ
-a = 1
-
-abbrev b : ℕ
-b = 2
-
-abbrev c : ℕ
-c = 3
-
-abbrev d : ℕ
-d = 4
-
-abbrev e : ℕ
-e = 5
-
-abbrev g : ℕ
-g = 7
-
-abbrev h : ℕ
-h = 8
-
-abbrev i : ℕ
-i = 9
-
-abbrev k : ℕ
-k = 11
-
-abbrev l : ℕ
-l = 12
-
-abbrev m : ℕ
-m = 13
-
-abbrev n : ℕ
-n = 14
-
-abbrev o : ℕ
-o = 15
-
-abbrev p : ℕ
-p = 16
-
-abbrev r : ℕ
-r = 18
-
-abbrev s : ℕ
-s = 19
-
-abbrev t : ℕ
-t = 20
-
-abbrev u : ℕ
-u = 21
-
-abbrev v : ℕ
-v = 22
-
-abbrev w : ℕ
-w = 23
-
-abbrev y : ℕ
-y = 25
-
-abbrev z : ℕ
-z = 26
+abbrev pub spelled : String → ℕ
+spelled word = spelledFrom 0 word
 
 -- the verb that a first word names
 unfoldable pub verbOf : ℕ → Verb
 verbOf letters =
-    cond (eqb letters (spelled 0 (s ∷ i ∷ z ∷ e ∷ []))) verb.Size
-    (cond (eqb letters (spelled 0 (r ∷ e ∷ s ∷ e ∷ t ∷ []))) verb.Reset
-    (cond (eqb letters (spelled 0 (a ∷ t ∷ t ∷ e ∷ n ∷ t ∷ i ∷ o ∷ n ∷ []))) verb.Attention
-    (cond (eqb letters (spelled 0 (a ∷ r ∷ r ∷ i ∷ v ∷ a ∷ l ∷ []))) verb.Arrival
-    (cond (eqb letters (spelled 0 (t ∷ u ∷ r ∷ n ∷ []))) verb.Turn
-    (cond (eqb letters (spelled 0 (b ∷ y ∷ t ∷ e ∷ s ∷ []))) verb.Bytes
-    (cond (eqb letters (spelled 0 (w ∷ o ∷ r ∷ d ∷ s ∷ []))) verb.Words
-    (cond (eqb letters (spelled 0 (s ∷ h ∷ o ∷ w ∷ []))) verb.Show
-    (cond (eqb letters (spelled 0 (l ∷ o ∷ o ∷ k ∷ []))) verb.Look
-    (cond (eqb letters (spelled 0 (i ∷ n ∷ t ∷ e ∷ r ∷ r ∷ u ∷ p ∷ t ∷ []))) verb.Interrupt
-    (cond (eqb letters (spelled 0 (r ∷ e ∷ c ∷ o ∷ r ∷ d ∷ []))) verb.Record
-    (cond (eqb letters (spelled 0 (s ∷ a ∷ y ∷ []))) verb.Say
+    cond (eqb letters (spelled "size")) verb.Size
+    (cond (eqb letters (spelled "reset")) verb.Reset
+    (cond (eqb letters (spelled "attention")) verb.Attention
+    (cond (eqb letters (spelled "arrival")) verb.Arrival
+    (cond (eqb letters (spelled "turn")) verb.Turn
+    (cond (eqb letters (spelled "bytes")) verb.Bytes
+    (cond (eqb letters (spelled "words")) verb.Words
+    (cond (eqb letters (spelled "show")) verb.Show
+    (cond (eqb letters (spelled "look")) verb.Look
+    (cond (eqb letters (spelled "interrupt")) verb.Interrupt
+    (cond (eqb letters (spelled "record")) verb.Record
+    (cond (eqb letters (spelled "say")) verb.Say
     verb.Nothing)))))))))))
 
 -- the area that a word names
 unfoldable pub areaOf : ℕ → Named
 areaOf letters =
-    cond (eqb letters (spelled 0 (m ∷ e ∷ m ∷ o ∷ r ∷ y ∷ []))) (named.Area area.Memory)
-    (cond (eqb letters (spelled 0 (h ∷ o ∷ l ∷ d ∷ i ∷ n ∷ g ∷ []))) (named.Area area.Holding)
-    (cond (eqb letters (spelled 0 (o ∷ u ∷ t ∷ g ∷ o ∷ i ∷ n ∷ g ∷ []))) (named.Area area.Outgoing)
+    cond (eqb letters (spelled "memory")) (named.Area area.Memory)
+    (cond (eqb letters (spelled "holding")) (named.Area area.Holding)
+    (cond (eqb letters (spelled "outgoing")) (named.Area area.Outgoing)
     named.Other))
 
 -- the bytes of an area: memory 65,536, holding and outgoing 2,048 each
