@@ -1,2 +1,2 @@
--- Laws of the bytes that a line brings.
-pub mod Laws
+-- Lines of docs/replay.md, computed.
+pub mod Cases

@@ -1,24 +1,23 @@
 -- The reader of lines: what a character, and a line's end, make of it and of the bytes. docs/replay.md, "Lines" and "Bad input". Assumes nothing.
 use mathlib.Core.Path.{_≡_}
-use mathlib.Core.Bool.{Bool, cond}
+use mathlib.Core.Bool.{Bool, true, false, cond}
 use mathlib.Core.List.{List}
 use Prim.Native.Nat.{ℕ}
 use lib.Dec.{eqb}
 use lib.ListN.{set}
-use Rattle.lines.specs.Chars.{blank, hash, further, counted}
-use Rattle.lines.specs.Words.{wordAt, moreWord, store}
-use Rattle.lines.specs.Lines.{noLine, wanted, faultAt, noFault, isNothing, judged}
-use Rattle.lines.specs.Take.{Took, withFilled, takeWord}
-use Rattle.lines.specs.declared.Fault.{Fault}
-use Rattle.lines.specs.declared.Line.{Line}
+use Rattle.wording.specs.Chars.{blank, hash, further, counted}
+use Rattle.wording.specs.Words.{wordAt, moreWord, store}
+use Rattle.wording.specs.Lines.{noLine, wanted, isText, isEnd, faultAt, noFault, isNothing, judged}
+use Rattle.wording.specs.Take.{Took, withFilled, takeWord}
+use Rattle.wording.specs.declared.Fault.{Fault}
+use Rattle.wording.specs.declared.Line.{Line}
 use Rattle.lines.specs.declared.Part.{Part}
 use Rattle.lines.specs.declared.Part.the-variants as part
 use Rattle.lines.specs.declared.Reader.{Reader}
-use Rattle.lines.specs.declared.Taken.{Taken}
-use Rattle.lines.specs.declared.Want.{Want}
-use Rattle.lines.specs.declared.Want.the-variants as want
-use Rattle.lines.specs.declared.Word.{Word}
-use Rattle.lines.specs.declared.Wrong.the-variants as wrong
+use Rattle.wording.specs.declared.Taken.{Taken}
+use Rattle.wording.specs.declared.Want.{Want}
+use Rattle.wording.specs.declared.Word.{Word}
+use Rattle.wording.specs.declared.Wrong.the-variants as wrong
 
 -- what is left: the reader and the bytes
 pub record Read : Type 0 where
@@ -73,18 +72,12 @@ unfoldable pub moreText : Reader → ℕ → List ℕ → Read
 moreText r c bytes =
     left (past (withLine r (withFilled (r .line) (counted (r .line .filled) 1))) part.Text) (set bytes (r .line .filled) c)
 
--- a character that begins something: a word or a text, or there is a word too many
+-- a character that begins something: a text, or a word, if one may stand
 unfoldable pub firstOf : Want → Reader → ℕ → List ℕ → Read
-firstOf want.First r c bytes = left (beginWord r c) bytes
-firstOf want.Size r c bytes = left (beginWord r c) bytes
-firstOf want.Short r c bytes = left (beginWord r c) bytes
-firstOf want.Number r c bytes = left (beginWord r c) bytes
-firstOf want.Area r c bytes = left (beginWord r c) bytes
-firstOf want.Place r c bytes = left (beginWord r c) bytes
-firstOf want.Bytes r c bytes = left (beginWord r c) bytes
-firstOf want.Value r c bytes = left (beginWord r c) bytes
-firstOf want.Text r c bytes = moreText r c bytes
-firstOf want.End r c bytes = left (withFault r (faultAt wrong.End (r .column))) bytes
+firstOf w r c bytes =
+    cond (isText w) (moreText r c bytes)
+    (cond (isEnd w) (left (withFault r (faultAt wrong.End (r .column))) bytes)
+    (left (beginWord r c) bytes))
 
 -- a character outside of words
 unfoldable pub between : Reader → ℕ → List ℕ → Read
@@ -126,11 +119,14 @@ read r c bytes = cond (isRight r) (readIn (r .part) r c bytes) (left r bytes)
 -- ---- a line's end
 
 -- a word that the line ends with is taken
+abbrev pub isWord : Part → Bool
+isWord part.Between = false
+isWord part.Word = true
+isWord part.Text = false
+isWord part.Comment = false
+
 unfoldable pub lastWord : Part → Reader → List ℕ → Read
-lastWord part.Between r bytes = left r bytes
-lastWord part.Word r bytes = endWord r bytes
-lastWord part.Text r bytes = left r bytes
-lastWord part.Comment r bytes = left r bytes
+lastWord p r bytes = cond (isWord p) (endWord r bytes) (left r bytes)
 
 -- the line is judged, if its words are right
 unfoldable pub judge : Reader → Reader

@@ -1,53 +1,14 @@
 // Reads a list of calls, character by character, and says what each line asks for. docs/replay.md has the forms.
 // A line is read by an automaton, so a stretch of input behind a stretch is read as both at once. The bytes that a line brings, or its text, go
 // to a slice that is lent beside it; what would pass its end goes nowhere. It takes every slice and every reader.
+use wording::Fault;
+use wording::Line;
+use wording::Taken;
+use wording::Want;
+use wording::Word;
+use wording::Wrong;
 ghost use mathlib.Core.Path.{_≡_};
-ghost use Prim.Native.Nat.{_-_, min};
-ghost use lib.ListN.{set, replicate};
-ghost use lib.Seq.{sets};
-ghost use Rattle.lines.specs.Chars as chars;
-ghost use Rattle.lines.specs.Names as names;
-ghost use Rattle.lines.specs.Words as words;
-ghost use Rattle.lines.specs.Lines as lines;
-ghost use Rattle.lines.specs.Take as take;
 ghost use Rattle.lines.specs.Reader as reader;
-
-// What a line does, by its first word.
-pub enum Verb {
-    Nothing,
-    Size,
-    Reset,
-    Attention,
-    Arrival,
-    Turn,
-    Bytes,
-    Words,
-    Show,
-    Look,
-    Interrupt,
-    Record,
-    Say,
-}
-
-pub enum Area {
-    Memory,
-    Holding,
-    Outgoing,
-}
-
-// What was expected where a line went wrong; `Nothing` while it is right.
-pub enum Wrong {
-    Nothing,
-    First,
-    Number,
-    Size,
-    Short,
-    Area,
-    Place,
-    Bytes,
-    Room,
-    End,
-}
 
 // Where in a line a character stands.
 pub enum Part {
@@ -55,80 +16,6 @@ pub enum Part {
     Word,
     Text,
     Comment,
-}
-
-// What the next word must be.
-pub enum Want {
-    First,
-    Size,
-    Short,
-    Number,
-    Area,
-    Place,
-    Bytes,
-    Value,
-    Text,
-    End,
-}
-
-// What a word is that must be a number.
-pub enum Found {
-    Number(u64),
-    Other,
-}
-
-// The digits of a word, read both ways: as decimal, and as hex with an h behind it. `any`: there are some; `tens`, `sixteens`: all of them are
-// decimal, hex digits; `closed`: hex digits and then an h.
-pub struct Digits {
-    pub any: bool,
-    pub decimal: u64,
-    pub tens: bool,
-    pub hex: u64,
-    pub sixteens: bool,
-    pub closed: bool,
-}
-
-// A piece of bytes. `stored`: bytes of it so far; `half`: a digit that waits for its second, or the byte that is repeated; `stage`: what is next.
-pub struct Piece {
-    pub stored: u32,
-    pub times: u64,
-    pub half: u8,
-    pub stage: Stage,
-}
-
-// A first digit; a second; after COUNTx a first digit, a second; nothing more; it is no piece.
-pub enum Stage {
-    High,
-    Low,
-    TimesHigh,
-    TimesLow,
-    Times,
-    Bad,
-}
-
-// The word that is being read: the column of its first character, its letters as one number, its digits, its piece.
-pub struct Word {
-    pub start: u32,
-    pub letters: u64,
-    pub digits: Digits,
-    pub piece: Piece,
-}
-
-// What a line brought so far: its verb, how many further words, the area, two numbers, the bytes stored, the column of the place.
-pub struct Line {
-    pub verb: Verb,
-    pub taken: u32,
-    pub area: Area,
-    pub first: u64,
-    pub second: u64,
-    pub filled: u32,
-    pub placed: u32,
-}
-
-// What is wrong, and the column.
-pub struct Fault {
-    pub wrong: Wrong,
-    pub column: u32,
 }
 
 // The reader: where it stands, the column of the next character, the column behind the last word, the word, the line.
@@ -141,741 +28,6 @@ pub struct Reader {
     pub fault: Fault,
 }
 
-// Numbers are told apart up to this one; it stands for all above.
-const MANY: u64 = 0x1_0000_0000;
-
-// Bytes and words of a line are counted up to this one.
-const MOST: u64 = 65537;
-
-// Columns are counted up to this one.
-const FAR: u32 = 0x7FFF_FFFF;
-
-// ---- characters
-
-fn wide(c: u8) -> u64
-    ensures { λ r. ⌜ r ≡ c ⌝ }
-{
-    c as u64
-}
-
-// A space or a tab.
-fn is_blank(c: u8) -> bool
-    ensures { λ r. ⌜ r ≡ chars.blank c ⌝ }
-{
-    (c == 32) | (c == 9)
-}
-
-// The value of a hex digit in either case; 16 for every other character.
-fn digit(c: u8) -> u8
-    ensures { λ r. ⌜ r ≡ chars.digit c ⌝ }
-{
-    if c < 48 {
-        return 16;
-    }
-    if c < 58 {
-        return c - 48;
-    }
-    if c < 65 {
-        return 16;
-    }
-    if c < 71 {
-        return c - 55;
-    }
-    if c < 97 {
-        return 16;
-    }
-    if c < 103 {
-        return c - 87;
-    }
-    16
-}
-
-// The next column.
-fn further(column: u32) -> u32
-    ensures { λ r. ⌜ r ≡ chars.further column ⌝ }
-{
-    if column < FAR {
-        return column + 1;
-    }
-    FAR
-}
-
-// n, or the bound if n is beyond it.
-fn capped(n: u64, bound: u64) -> u64
-    ensures { λ r. ⌜ r ≡ min n bound ⌝ }
-{
-    if n < bound {
-        return n;
-    }
-    bound
-}
-
-// So many and n more, and not beyond MOST.
-fn counted(sofar: u32, n: u64) -> u32
-    ensures { λ r. ⌜ r ≡ chars.counted sofar n ⌝ }
-{
-    capped(sofar as u64 + capped(n, MOST), MOST) as u32
-}
-
-// ---- a word's letters
-
-// A word that has other characters than small letters, or too many.
-const NO_WORD: u64 = 0x1000_0000_0000_0000;
-
-// A further letter, five bits each.
-fn more_letters(letters: u64, c: u8) -> u64
-    ensures { λ r. ⌜ r ≡ names.moreLetters letters c ⌝ }
-{
-    if c < 97 {
-        return NO_WORD;
-    }
-    if 122 < c {
-        return NO_WORD;
-    }
-    if letters < 0x80_0000_0000_0000 {
-        return letters * 32 + wide(c - 96);
-    }
-    NO_WORD
-}
-
-// The verb that a first word names.
-fn verb_of(letters: u64) -> Verb
-    ensures { λ r. ⌜ r ≡ names.verbOf letters ⌝ }
-{
-    match letters {
-        0x9A745 => Verb::Size,
-        0x122CCB4 => Verb::Reset,
-        0x1A50AEA25EE => Verb::Attention,
-        0x6524D82C => Verb::Arrival,
-        0xA564E => Verb::Turn,
-        0x2CD0B3 => Verb::Bytes,
-        0x177C893 => Verb::Words,
-        0x9A1F7 => Verb::Show,
-        0x63DEB => Verb::Look,
-        0x9750B295614 => Verb::Interrupt,
-        0x2451BE44 => Verb::Record,
-        0x4C39 => Verb::Say,
-        _ => Verb::Nothing,
-    }
-}
-
-// An area, or none.
-pub enum Named {
-    Area(Area),
-    Other,
-}
-
-// The area that a word names.
-fn area_of(letters: u64) -> Named
-    ensures { λ r. ⌜ r ≡ names.areaOf letters ⌝ }
-{
-    match letters {
-        0x1A56BE59 => Named::Area(Area::Memory),
-        0x21EC225C7 => Named::Area(Area::Holding),
-        0x7D6877A5C7 => Named::Area(Area::Outgoing),
-        _ => Named::Other,
-    }
-}
-
-// How many bytes an area has.
-pub fn size_of(area: Area) -> u64
-    ensures { λ r. ⌜ r ≡ names.sizeOf area ⌝ }
-{
-    match area {
-        Area::Memory => 65536,
-        Area::Holding => 2048,
-        Area::Outgoing => 2048,
-    }
-}
-
-// ---- a word's digits
-
-fn no_digits() -> Digits
-    ensures { λ r. ⌜ r ≡ words.noDigits ⌝ }
-{
-    Digits {
-        any: false,
-        decimal: 0,
-        tens: true,
-        hex: 0,
-        sixteens: true,
-        closed: false,
-    }
-}
-
-// n with the digit d behind it, if it is a decimal digit, and not beyond MANY.
-fn more_decimal(n: u64, d: u8) -> u64
-    ensures { λ r. ⌜ r ≡ words.moreDecimal n d ⌝ }
-{
-    if d < 10 {
-        return capped(capped(n, MANY) * 10 + wide(d), MANY);
-    }
-    n
-}
-
-// n with the digit d behind it, if it is a hex digit, and not beyond MANY.
-fn more_hex(n: u64, d: u8) -> u64
-    ensures { λ r. ⌜ r ≡ words.moreHex n d ⌝ }
-{
-    if d < 16 {
-        return capped(capped(n, MANY) * 16 + wide(d), MANY);
-    }
-    n
-}
-
-// A further character of a number.
-fn more_digits(n: Digits, c: u8) -> Digits
-    ensures { λ r. ⌜ r ≡ words.moreDigits n c ⌝ }
-{
-    let d = digit(c);
-    Digits {
-        any: true,
-        decimal: more_decimal(n.decimal, d),
-        tens: n.tens & (d < 10),
-        hex: more_hex(n.hex, d),
-        sixteens: n.sixteens & (d < 16),
-        closed: n.any & n.sixteens & (c == 104),
-    }
-}
-
-// A number that is not too large to be one.
-fn number(n: u64) -> Found
-    ensures { λ r. ⌜ r ≡ words.number n ⌝ }
-{
-    if n < MANY {
-        return Found::Number(n);
-    }
-    Found::Other
-}
-
-// The number that a whole word is, if it is one.
-fn number_of(n: Digits) -> Found
-    ensures { λ r. ⌜ r ≡ words.numberOf n ⌝ }
-{
-    if n.closed {
-        return number(n.hex);
-    }
-    if n.any & n.tens {
-        return number(n.decimal);
-    }
-    Found::Other
-}
-
-// ---- a piece of bytes
-
-fn piece_at(stored: u32, times: u64, half: u8, stage: Stage) -> Piece
-    ensures { λ r. ⌜ r ≡ words.pieceAt stored times half stage ⌝ }
-{
-    Piece {
-        stored: stored,
-        times: times,
-        half: half,
-        stage: stage,
-    }
-}
-
-fn no_piece() -> Piece
-    ensures { λ r. ⌜ r ≡ words.noPiece ⌝ }
-{
-    piece_at(0, 0, 0, Stage::High)
-}
-
-fn bad_piece() -> Piece
-    ensures { λ r. ⌜ r ≡ words.badPiece ⌝ }
-{
-    piece_at(0, 0, 0, Stage::Bad)
-}
-
-// The byte of two digits.
-fn joined(high: u8, low: u8) -> u8
-    ensures { λ r. ⌜ r ≡ words.joined high low ⌝ }
-{
-    (high % 16) * 16 + low % 16
-}
-
-// What is no digit: the x of COUNTx, behind digits that are a COUNT. n: the digits before it.
-fn after_count(n: Digits, c: u8) -> Piece
-    ensures { λ r. ⌜ r ≡ words.afterCount n c ⌝ }
-{
-    if (c == 120) & n.any & n.tens {
-        return piece_at(0, n.decimal, 0, Stage::TimesHigh);
-    }
-    bad_piece()
-}
-
-// A further character of a piece that is no digit.
-fn with_other(stage: Stage, n: Digits, c: u8) -> Piece
-    ensures { λ r. ⌜ r ≡ words.withOther stage n c ⌝ }
-{
-    match stage {
-        Stage::High => after_count(n, c),
-        Stage::Low => after_count(n, c),
-        Stage::TimesHigh => bad_piece(),
-        Stage::TimesLow => bad_piece(),
-        Stage::Times => bad_piece(),
-        Stage::Bad => bad_piece(),
-    }
-}
-
-// A further digit of a piece.
-fn with_digit(stage: Stage, p: Piece, d: u8) -> Piece
-    ensures { λ r. ⌜ r ≡ words.withDigit stage p d ⌝ }
-{
-    match stage {
-        Stage::High => piece_at(p.stored, 0, d, Stage::Low),
-        Stage::Low => piece_at(counted(p.stored, 1), 0, 0, Stage::High),
-        Stage::TimesHigh => piece_at(0, p.times, d, Stage::TimesLow),
-        Stage::TimesLow => piece_at(0, p.times, joined(p.half, d), Stage::Times),
-        Stage::Times => bad_piece(),
-        Stage::Bad => bad_piece(),
-    }
-}
-
-// A further character of a piece. n: the word's digits before it.
-fn more_piece(p: Piece, n: Digits, c: u8) -> Piece
-    ensures { λ r. ⌜ r ≡ words.morePiece p n c ⌝ }
-{
-    let stage = p.stage;
-    let d = digit(c);
-    if d < 16 {
-        return with_digit(stage, p, d);
-    }
-    with_other(stage, n, c)
-}
-
-// The byte goes to place i, if there is such a place.
-fn put(bytes: &mut [u8], i: usize, b: u8)
-    ensures { λ _. ⌜ now (bytes .exit) ≡ set (now (bytes .entry)) i b ⌝ }
-{
-    if i < bytes.len() {
-        bytes[i] = b;
-    }
-}
-
-// How many of n places from i on lie below the end.
-fn room(end: usize, i: usize, n: usize) -> usize
-    ensures { λ r. ⌜ r ≡ min n (end - i) ⌝ }
-{
-    if end <= i {
-        return 0;
-    }
-    if end - i < n {
-        return end - i;
-    }
-    n
-}
-
-// The byte goes to n places from i on, as far as there are such.
-fn fill(bytes: &mut [u8], i: usize, n: usize, b: u8)
-    ensures { λ _. ⌜ now (bytes .exit) ≡ sets (now (bytes .entry)) i (replicate n b) ⌝ }
-{
-    let k = room(bytes.len(), i, n);
-    let mut j: usize = 0;
-    while j < k {
-        bytes[i + j] = b;
-        j += 1;
-    }
-}
-
-// A digit of a piece that stands at a place: the second of a byte stores it.
-fn store_digit(bytes: &mut [u8], stage: Stage, i: usize, high: u8, d: u8)
-    ensures { λ _. ⌜ now (bytes .exit) ≡ words.storeDigit stage i high d (now (bytes .entry)) ⌝ }
-{
-    match stage {
-        Stage::High => {}
-        Stage::Low => put(bytes, i, joined(high, d)),
-        Stage::TimesHigh => {}
-        Stage::TimesLow => {}
-        Stage::Times => {}
-        Stage::Bad => {}
-    }
-}
-
-// What a further character of a piece stores; the piece begins at place `at`.
-fn store(bytes: &mut [u8], p: Piece, at: u32, c: u8)
-    ensures { λ _. ⌜ now (bytes .exit) ≡ words.store p at c (now (bytes .entry)) ⌝ }
-{
-    let stage = p.stage;
-    let d = digit(c);
-    if d < 16 {
-        store_digit(bytes, stage, at as usize + p.stored as usize, p.half, d);
-    }
-}
-
-// ---- a word
-
-// A word that begins in a column.
-fn word_at(column: u32) -> Word
-    ensures { λ r. ⌜ r ≡ words.wordAt column ⌝ }
-{
-    Word {
-        start: column,
-        letters: 0,
-        digits: no_digits(),
-        piece: no_piece(),
-    }
-}
-
-// A further character of the word.
-fn more_word(w: Word, c: u8) -> Word
-    ensures { λ r. ⌜ r ≡ words.moreWord w c ⌝ }
-{
-    let digits = w.digits;
-    let piece = w.piece;
-    Word {
-        start: w.start,
-        letters: more_letters(w.letters, c),
-        digits: more_digits(digits, c),
-        piece: more_piece(piece, digits, c),
-    }
-}
-
-// ---- a line
-
-fn no_line() -> Line
-    ensures { λ r. ⌜ r ≡ lines.noLine ⌝ }
-{
-    Line {
-        verb: Verb::Nothing,
-        taken: 0,
-        area: Area::Memory,
-        first: 0,
-        second: 0,
-        filled: 0,
-        placed: 0,
-    }
-}
-
-// By how many words a line has.
-fn want_by(taken: u32, first: Want, second: Want, third: Want, then: Want) -> Want
-    ensures { λ r. ⌜ r ≡ lines.wantBy taken first second third then ⌝ }
-{
-    if taken == 0 {
-        return first;
-    }
-    if taken == 1 {
-        return second;
-    }
-    if taken == 2 {
-        return third;
-    }
-    then
-}
-
-// What the next word of a line must be.
-fn wanted(verb: Verb, taken: u32) -> Want
-    ensures { λ r. ⌜ r ≡ lines.wanted verb taken ⌝ }
-{
-    match verb {
-        Verb::Nothing => Want::First,
-        Verb::Size => want_by(taken, Want::Size, Want::End, Want::End, Want::End),
-        Verb::Reset => Want::End,
-        Verb::Attention => Want::End,
-        Verb::Arrival => want_by(taken, Want::Number, Want::Bytes, Want::Bytes, Want::Bytes),
-        Verb::Turn => want_by(taken, Want::Short, Want::Short, Want::End, Want::End),
-        Verb::Bytes => want_by(taken, Want::Area, Want::Place, Want::Bytes, Want::Bytes),
-        Verb::Words => want_by(taken, Want::Area, Want::Place, Want::Value, Want::Value),
-        Verb::Show => want_by(taken, Want::Area, Want::Place, Want::Number, Want::End),
-        Verb::Look => want_by(taken, Want::Area, Want::Place, Want::Number, Want::End),
-        Verb::Interrupt => Want::End,
-        Verb::Record => Want::End,
-        Verb::Say => Want::Text,
-    }
-}
-
-// How many words a line must have behind its verb.
-fn least(verb: Verb) -> u32
-    ensures { λ r. ⌜ r ≡ lines.least verb ⌝ }
-{
-    match verb {
-        Verb::Nothing => 0,
-        Verb::Size => 1,
-        Verb::Reset => 0,
-        Verb::Attention => 0,
-        Verb::Arrival => 1,
-        Verb::Turn => 0,
-        Verb::Bytes => 2,
-        Verb::Words => 2,
-        Verb::Show => 3,
-        Verb::Look => 3,
-        Verb::Interrupt => 0,
-        Verb::Record => 0,
-        Verb::Say => 0,
-    }
-}
-
-// Whether a first word named a verb.
-fn is_verb(verb: Verb) -> bool
-    ensures { λ r. ⌜ r ≡ lines.isVerb verb ⌝ }
-{
-    match verb {
-        Verb::Nothing => false,
-        Verb::Size => true,
-        Verb::Reset => true,
-        Verb::Attention => true,
-        Verb::Arrival => true,
-        Verb::Turn => true,
-        Verb::Bytes => true,
-        Verb::Words => true,
-        Verb::Show => true,
-        Verb::Look => true,
-        Verb::Interrupt => true,
-        Verb::Record => true,
-        Verb::Say => true,
-    }
-}
-
-// ---- a word ends
-
-// What a word makes of its line, and what is wrong with it.
-pub struct Taken {
-    pub line: Line,
-    pub fault: Fault,
-}
-
-fn fault_at(wrong: Wrong, column: u32) -> Fault
-    ensures { λ r. ⌜ r ≡ lines.faultAt wrong column ⌝ }
-{
-    Fault {
-        wrong: wrong,
-        column: column,
-    }
-}
-
-fn no_fault() -> Fault
-    ensures { λ r. ⌜ r ≡ lines.noFault ⌝ }
-{
-    fault_at(Wrong::Nothing, 0)
-}
-
-fn taken_as(line: Line) -> Taken
-    ensures { λ r. ⌜ r ≡ take.takenAs line ⌝ }
-{
-    Taken {
-        line: line,
-        fault: no_fault(),
-    }
-}
-
-// The line with one word more.
-fn advanced(line: Line) -> Taken
-    ensures { λ r. ⌜ r ≡ take.advanced line ⌝ }
-{
-    taken_as(Line {
-        taken: counted(line.taken, 1),
-        ..line
-    })
-}
-
-// The line with one word more, and n bytes.
-fn brought(line: Line, n: u64) -> Taken
-    ensures { λ r. ⌜ r ≡ take.brought line n ⌝ }
-{
-    advanced(Line {
-        filled: counted(line.filled, n),
-        ..line
-    })
-}
-
-fn refused(line: Line, wrong: Wrong, column: u32) -> Taken
-    ensures { λ r. ⌜ r ≡ take.refused line wrong column ⌝ }
-{
-    Taken {
-        line: line,
-        fault: fault_at(wrong, column),
-    }
-}
-
-// A number in its slot: the first word's in the first, a later one's in the second.
-fn with_number(line: Line, n: u64) -> Line
-    ensures { λ r. ⌜ r ≡ take.withNumber line n ⌝ }
-{
-    if line.taken == 0 {
-        return Line { first: n, ..line };
-    }
-    Line { second: n, ..line }
-}
-
-fn take_verb(line: Line, verb: Verb, start: u32) -> Taken
-    ensures { λ r. ⌜ r ≡ take.takeVerb verb line start ⌝ }
-{
-    if is_verb(verb) {
-        return taken_as(Line { verb: verb, ..line });
-    }
-    refused(line, Wrong::First, start)
-}
-
-// A number below a bound; what is said of one that is not.
-fn take_number(line: Line, found: Found, start: u32, bound: u64, beyond: Wrong) -> Taken
-    ensures { λ r. ⌜ r ≡ take.takeNumber found line start bound beyond ⌝ }
-{
-    match found {
-        Found::Number(n) => {
-            if n < bound {
-                return advanced(with_number(line, n));
-            }
-            refused(line, beyond, start)
-        }
-        Found::Other => refused(line, Wrong::Number, start),
-    }
-}
-
-fn take_area(line: Line, named: Named, start: u32) -> Taken
-    ensures { λ r. ⌜ r ≡ take.takeArea named line start ⌝ }
-{
-    match named {
-        Named::Area(a) => advanced(Line { area: a, ..line }),
-        Named::Other => refused(line, Wrong::Area, start),
-    }
-}
-
-// A place below the area's size.
-fn take_place(line: Line, found: Found, start: u32, size: u64) -> Taken
-    ensures { λ r. ⌜ r ≡ take.takePlace found line start size ⌝ }
-{
-    match found {
-        Found::Number(n) => {
-            if n < size {
-                return advanced(Line {
-                    first: n,
-                    placed: start,
-                    ..line
-                });
-            }
-            refused(line, Wrong::Place, start)
-        }
-        Found::Other => refused(line, Wrong::Number, start),
-    }
-}
-
-// Bytes that were stored digit by digit, or one byte so often.
-fn take_bytes(bytes: &mut [u8], line: Line, p: Piece, stage: Stage, start: u32) -> Taken
-    ensures { λ r. ⌜ take.Takes (take.takeBytes stage p line start (now (bytes .entry))) r (now (bytes .exit)) ⌝ }
-{
-    match stage {
-        Stage::High => brought(line, p.stored as u64),
-        Stage::Low => refused(line, Wrong::Bytes, start),
-        Stage::TimesHigh => refused(line, Wrong::Bytes, start),
-        Stage::TimesLow => refused(line, Wrong::Bytes, start),
-        Stage::Times => {
-            fill(bytes, line.filled as usize, p.times as usize, p.half);
-            brought(line, p.times)
-        }
-        Stage::Bad => refused(line, Wrong::Bytes, start),
-    }
-}
-
-// A word of 16 bits goes to a place, low byte first.
-fn put_value(bytes: &mut [u8], i: u32, n: u64)
-    ensures { λ _. ⌜ now (bytes .exit) ≡ take.putValue i n (now (bytes .entry)) ⌝ }
-{
-    put(bytes, i as usize, (n % 256) as u8);
-    put(bytes, i as usize + 1, (n / 256 % 256) as u8);
-}
-
-fn take_value(bytes: &mut [u8], line: Line, found: Found, start: u32) -> Taken
-    ensures { λ r. ⌜ take.Takes (take.takeValue found line start (now (bytes .entry))) r (now (bytes .exit)) ⌝ }
-{
-    match found {
-        Found::Number(n) => {
-            if n < 65536 {
-                put_value(bytes, line.filled, n);
-                return brought(line, 2);
-            }
-            refused(line, Wrong::Short, start)
-        }
-        Found::Other => refused(line, Wrong::Number, start),
-    }
-}
-
-// A word that must be what is wanted.
-fn take(bytes: &mut [u8], line: Line, w: Word, want: Want) -> Taken
-    ensures { λ r. ⌜ take.Takes (take.takeWord want line w (now (bytes .entry))) r (now (bytes .exit)) ⌝ }
-{
-    let digits = w.digits;
-    let piece = w.piece;
-    let stage = piece.stage;
-    let area = line.area;
-    match want {
-        Want::First => take_verb(line, verb_of(w.letters), w.start),
-        Want::Size => take_number(line, number_of(digits), w.start, 65537, Wrong::Size),
-        Want::Short => take_number(line, number_of(digits), w.start, 65536, Wrong::Short),
-        Want::Number => take_number(line, number_of(digits), w.start, MANY, Wrong::Number),
-        Want::Area => take_area(line, area_of(w.letters), w.start),
-        Want::Place => take_place(line, number_of(digits), w.start, size_of(area)),
-        Want::Bytes => take_bytes(bytes, line, piece, stage, w.start),
-        Want::Value => take_value(bytes, line, number_of(digits), w.start),
-        Want::Text => refused(line, Wrong::End, w.start),
-        Want::End => refused(line, Wrong::End, w.start),
-    }
-}
-
-// ---- a line ends
-
-// What is missing from a line.
-fn missing(want: Want) -> Wrong
-    ensures { λ r. ⌜ r ≡ lines.missing want ⌝ }
-{
-    match want {
-        Want::First => Wrong::Number,
-        Want::Size => Wrong::Number,
-        Want::Short => Wrong::Number,
-        Want::Number => Wrong::Number,
-        Want::Area => Wrong::Area,
-        Want::Place => Wrong::Number,
-        Want::Bytes => Wrong::Number,
-        Want::Value => Wrong::Number,
-        Want::Text => Wrong::Number,
-        Want::End => Wrong::Number,
-    }
-}
-
-// Whether n bytes from a place on lie below the end.
-fn has_room(end: u64, place: u64, n: u64) -> bool
-    ensures { λ r. ⌜ r ≡ lines.hasRoom end place n ⌝ }
-{
-    if place <= end {
-        return n <= end - place;
-    }
-    false
-}
-
-// Whether what a line writes or shows lies in its area, which ends there.
-fn fits(verb: Verb, line: Line, end: u64) -> bool
-    ensures { λ r. ⌜ r ≡ lines.fits verb line end ⌝ }
-{
-    match verb {
-        Verb::Nothing => true,
-        Verb::Size => true,
-        Verb::Reset => true,
-        Verb::Attention => true,
-        Verb::Arrival => true,
-        Verb::Turn => true,
-        Verb::Bytes => has_room(end, line.first, line.filled as u64),
-        Verb::Words => has_room(end, line.first, line.filled as u64),
-        Verb::Show => has_room(end, line.first, line.second),
-        Verb::Look => has_room(end, line.first, capped(line.second, MANY) * 2),
-        Verb::Interrupt => true,
-        Verb::Record => true,
-        Verb::Say => true,
-    }
-}
-
-// What is wrong with a line that has ended.
-fn judged(line: Line, behind: u32) -> Fault
-    ensures { λ r. ⌜ r ≡ lines.judged line behind ⌝ }
-{
-    let verb = line.verb;
-    let area = line.area;
-    if line.taken < least(verb) {
-        return fault_at(missing(wanted(verb, line.taken)), behind);
-    }
-    if fits(verb, line, size_of(area)) {
-        return no_fault();
-    }
-    fault_at(Wrong::Room, line.placed)
-}
-
 // ---- the reader
 
 // Before the first character of a line.
@@ -886,26 +38,9 @@ pub fn start() -> Reader
         part: Part::Between,
         column: 1,
         behind: 1,
-        word: word_at(1),
-        line: no_line(),
-        fault: no_fault(),
-    }
-}
-
-fn is_nothing(wrong: Wrong) -> bool
-    ensures { λ r. ⌜ r ≡ lines.isNothing wrong ⌝ }
-{
-    match wrong {
-        Wrong::Nothing => true,
-        Wrong::First => false,
-        Wrong::Number => false,
-        Wrong::Size => false,
-        Wrong::Short => false,
-        Wrong::Area => false,
-        Wrong::Place => false,
-        Wrong::Bytes => false,
-        Wrong::Room => false,
-        Wrong::End => false,
+        word: wording::word_at(1),
+        line: wording::no_line(),
+        fault: wording::no_fault(),
     }
 }
 
@@ -915,7 +50,7 @@ pub fn is_right(r: Reader) -> bool
 {
     let f = r.fault;
     let wrong = f.wrong;
-    is_nothing(wrong)
+    wording::is_nothing(wrong)
 }
 
 // The reader behind a character that says nothing more.
@@ -924,7 +59,7 @@ fn past(r: Reader, part: Part) -> Reader
 {
     Reader {
         part: part,
-        column: further(r.column),
+        column: wording::further(r.column),
         ..r
     }
 }
@@ -968,7 +103,7 @@ fn end_word(bytes: &mut [u8], r: Reader) -> Reader
     let line = r.line;
     let w = r.word;
     let verb = line.verb;
-    let t = take(bytes, line, w, wanted(verb, line.taken));
+    let t = wording::take(bytes, line, w, wording::wanted(verb, line.taken));
     with_taken(r, t)
 }
 
@@ -976,7 +111,10 @@ fn end_word(bytes: &mut [u8], r: Reader) -> Reader
 fn begin_word(r: Reader, c: u8) -> Reader
     ensures { λ x. ⌜ x ≡ reader.beginWord r c ⌝ }
 {
-    past(with_word(r, more_word(word_at(r.column), c)), Part::Word)
+    past(
+        with_word(r, wording::more_word(wording::word_at(r.column), c)),
+        Part::Word,
+    )
 }
 
 // A character of a line's text.
@@ -984,12 +122,12 @@ fn more_text(bytes: &mut [u8], r: Reader, c: u8) -> Reader
     ensures { λ x. ⌜ reader.Reads (reader.moreText r c (now (bytes .entry))) x (now (bytes .exit)) ⌝ }
 {
     let line = r.line;
-    put(bytes, line.filled as usize, c);
+    wording::put(bytes, line.filled as usize, c);
     past(
         with_line(
             r,
             Line {
-                filled: counted(line.filled, 1),
+                filled: wording::counted(line.filled, 1),
                 ..line
             },
         ),
@@ -1001,18 +139,13 @@ fn more_text(bytes: &mut [u8], r: Reader, c: u8) -> Reader
 fn first_of(bytes: &mut [u8], r: Reader, c: u8, want: Want) -> Reader
     ensures { λ x. ⌜ reader.Reads (reader.firstOf want r c (now (bytes .entry))) x (now (bytes .exit)) ⌝ }
 {
-    match want {
-        Want::First => begin_word(r, c),
-        Want::Size => begin_word(r, c),
-        Want::Short => begin_word(r, c),
-        Want::Number => begin_word(r, c),
-        Want::Area => begin_word(r, c),
-        Want::Place => begin_word(r, c),
-        Want::Bytes => begin_word(r, c),
-        Want::Value => begin_word(r, c),
-        Want::Text => more_text(bytes, r, c),
-        Want::End => with_fault(r, fault_at(Wrong::End, r.column)),
+    if wording::is_text(want) {
+        return more_text(bytes, r, c);
     }
+    if wording::is_end(want) {
+        return with_fault(r, wording::fault_at(Wrong::End, r.column));
+    }
+    begin_word(r, c)
 }
 
 // A character outside of words.
@@ -1021,13 +154,13 @@ fn between(bytes: &mut [u8], r: Reader, c: u8) -> Reader
 {
     let line = r.line;
     let verb = line.verb;
-    if is_blank(c) {
+    if wording::is_blank(c) {
         return past(r, Part::Between);
     }
     if c == 35 {
         return past(r, Part::Comment);
     }
-    first_of(bytes, r, c, wanted(verb, line.taken))
+    first_of(bytes, r, c, wording::wanted(verb, line.taken))
 }
 
 // A further character of a word.
@@ -1037,8 +170,8 @@ fn further_of(bytes: &mut [u8], r: Reader, c: u8) -> Reader
     let line = r.line;
     let w = r.word;
     let p = w.piece;
-    store(bytes, p, line.filled, c);
-    past(with_word(r, more_word(w, c)), Part::Word)
+    wording::store(bytes, p, line.filled, c);
+    past(with_word(r, wording::more_word(w, c)), Part::Word)
 }
 
 // The word that was read is taken, and the reader goes past what ended it.
@@ -1052,7 +185,7 @@ fn past_word(bytes: &mut [u8], r: Reader, part: Part) -> Reader
 fn in_word(bytes: &mut [u8], r: Reader, c: u8) -> Reader
     ensures { λ x. ⌜ reader.Reads (reader.inWord r c (now (bytes .entry))) x (now (bytes .exit)) ⌝ }
 {
-    if is_blank(c) {
+    if wording::is_blank(c) {
         return past_word(bytes, r, Part::Between);
     }
     if c == 35 {
@@ -1094,16 +227,25 @@ pub fn read(bytes: &mut [u8], r: Reader, c: u8) -> Reader
     r
 }
 
+fn is_word(part: Part) -> bool
+    ensures { λ x. ⌜ x ≡ reader.isWord part ⌝ }
+{
+    match part {
+        Part::Between => false,
+        Part::Word => true,
+        Part::Text => false,
+        Part::Comment => false,
+    }
+}
+
 // The last word, if the line ends with one, is taken.
 fn last_word(bytes: &mut [u8], r: Reader, part: Part) -> Reader
     ensures { λ x. ⌜ reader.Reads (reader.lastWord part r (now (bytes .entry))) x (now (bytes .exit)) ⌝ }
 {
-    match part {
-        Part::Between => r,
-        Part::Word => end_word(bytes, r),
-        Part::Text => r,
-        Part::Comment => r,
+    if is_word(part) {
+        return end_word(bytes, r);
     }
+    r
 }
 
 // The line is judged, if its words are right.
@@ -1112,7 +254,7 @@ fn judge(r: Reader) -> Reader
 {
     let line = r.line;
     if is_right(r) {
-        return with_fault(r, judged(line, r.behind));
+        return with_fault(r, wording::judged(line, r.behind));
     }
     r
 }
