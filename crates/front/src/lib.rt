@@ -51,7 +51,7 @@ pub fn turn(
     turned.answer
 }
 
-// ---- the lenders
+// ---- the lenders: the same calls for a caller that holds the device by value, in a loop or not
 
 // A device that was lent for one call, and the answer of that call.
 pub struct Lent {
@@ -59,6 +59,7 @@ pub struct Lent {
     pub answer: Answer,
 }
 
+// A channel attention, through the front.
 pub fn attend_through(device: Device, memory: &mut [u8]) -> Lent
     ensures { λ r. ⌜ ((h out : List ℕ) → front.Fronted (attentions.attentionOf (world.worldOf device (now (memory .entry)) h out)) (r .device) (r .answer) (now (memory .exit)) h out) ⌝ }
 {
@@ -67,6 +68,7 @@ pub fn attend_through(device: Device, memory: &mut [u8]) -> Lent
     Lent { device: d, answer }
 }
 
+// A frame's arrival, through the front.
 pub fn receive_through(
     device: Device,
     memory: &mut [u8],
@@ -81,6 +83,7 @@ pub fn receive_through(
     Lent { device: d, answer }
 }
 
+// A turn, through the front.
 pub fn turn_through(
     device: Device,
     memory: &mut [u8],
