@@ -1,0 +1,26 @@
+#!/usr/bin/env bash
+# Makes one list of the lists here, and one text of what must be printed for it.
+#   tests/replay/bundle.sh LIST EXPECTED [NAME ..]
+# Without names all lists are taken. Each begins with a `say` of its name. calls must be first: its first case needs a device that was
+# never reset.
+set -eu
+
+[ $# -ge 2 ] || { echo "usage: bundle.sh LIST EXPECTED [NAME ..]" >&2; exit 1; }
+here=$(cd "$(dirname "$0")" && pwd)
+list=$1
+expected=$2
+shift 2
+[ $# -gt 0 ] || set -- calls papers control commands transmit arrival storing addresses limits record
+
+for name in "$@"; do
+    [ -f "$here/$name.list" ] || { echo "bundle.sh: there is no $here/$name.list" >&2; exit 1; }
+done
+for name in "$@"; do
+    echo "say == $name =="
+    cat "$here/$name.list"
+    echo
+done >"$list"
+for name in "$@"; do
+    echo "== $name =="
+    cat "$here/$name.expected"
+done >"$expected"

@@ -1,0 +1,55 @@
+#!/usr/bin/env bash
+# Runs the lists here through a replay program and compares what it prints, byte by byte; names the first difference.
+#   tests/replay/run.sh REPLAY [NAME ..]
+# REPLAY is the program's path, or a command to which a list's name is added. Without names all lists are run, in one bundle, and then
+# the bad ones; with names only these, in one bundle.
+set -eu
+
+fail() {
+    echo "tests/replay/run.sh: $*" >&2
+    exit 1
+}
+
+[ $# -ge 1 ] || fail "which replay program? run.sh REPLAY [NAME ..]"
+here=$(cd "$(dirname "$0")" && pwd)
+replay=$1
+shift
+work=$(mktemp -d)
+trap 'rm -rf "$work"' EXIT
+
+# Compares what was said with what was expected; at the first difference says where: the file's heading, the case, the line.
+compare() { # WHAT EXPECTED SAID
+    cmp -s "$2" "$3" && return 0
+    awk -v what="$1" -v said="$3" '
+        { more = getline other < said; if (more <= 0) other = "(nothing more)" }
+        /^== .* ==$/ { part = $0 }
+        /[a-z]/ && !/^interrupt / { name = $0 }
+        $0 "" != other "" { differ(NR, $0, other); found = 1; exit }
+        END { if (!found && (getline other < said) > 0) differ(NR + 1, "(nothing more)", other) }
+        function differ(line, wanted, got) {
+            printf "%s: line %d of the output differs\n", what, line
+            if (part != "") printf "  %s\n", part
+            if (name != "") printf "  case:     %s\n", name
+            printf "  expected: %s\n  said:     %s\n", wanted, got
+        }' "$2" >&2
+    exit 1
+}
+
+"$here/bundle.sh" "$work/list" "$work/expected" "$@"
+code=0
+$replay "$work/list" >"$work/said" 2>"$work/errors" || code=$?
+compare "the bundle" "$work/expected" "$work/said"
+[ "$code" = 0 ] || fail "all lines are right, but the program ended with $code"
+cases=$(grep -c '^say ' "$work/list")
+
+# A bad line's words may stand on either output.
+bad=0
+if [ $# = 0 ]; then
+    for list in "$here"/bad/*.list; do
+        $replay "$list" >"$work/said" 2>"$work/errors" || true
+        cat "$work/errors" >>"$work/said"
+        compare "bad/$(basename "$list")" "${list%.list}.expected" "$work/said"
+        bad=$((bad + 1))
+    done
+fi
+echo "$cases headings and $bad bad lists as expected"
