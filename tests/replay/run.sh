@@ -2,7 +2,7 @@
 # Runs the lists here through a replay program and compares what it prints, byte by byte; names the first difference.
 #   tests/replay/run.sh REPLAY [NAME ..]
 # REPLAY is the program's path, or a command to which a list's name is added. Without names all lists are run, in one bundle, and then
-# the bad ones; with names only these, in one bundle.
+# the bad ones; with names only these. The name bad stands for all the bad ones.
 set -eu
 
 fail() {
@@ -35,21 +35,31 @@ compare() { # WHAT EXPECTED SAID
     exit 1
 }
 
-"$here/bundle.sh" "$work/list" "$work/expected" "$@"
-code=0
-$replay "$work/list" >"$work/said" 2>"$work/errors" || code=$?
-compare "the bundle" "$work/expected" "$work/said"
-[ "$code" = 0 ] || fail "all lines are right, but the program ended with $code"
-cases=$(grep -c '^say ' "$work/list")
+bad=no
+[ $# -gt 0 ] || bad=yes
+names=()
+for name in "$@"; do
+    if [ "$name" = bad ]; then bad=yes; else names+=("$name"); fi
+done
+
+says=0
+if [ $# = 0 ] || [ ${#names[@]} -gt 0 ]; then
+    "$here/bundle.sh" "$work/list" "$work/expected" ${names[@]+"${names[@]}"}
+    code=0
+    $replay "$work/list" >"$work/said" 2>"$work/errors" || code=$?
+    compare "the bundle" "$work/expected" "$work/said"
+    [ "$code" = 0 ] || fail "all lines are right, but the program ended with $code"
+    says=$(grep -c '^say ' "$work/list")
+fi
 
 # A bad line's words may stand on either output.
-bad=0
-if [ $# = 0 ]; then
+lists=0
+if [ "$bad" = yes ]; then
     for list in "$here"/bad/*.list; do
         $replay "$list" >"$work/said" 2>"$work/errors" || true
         cat "$work/errors" >>"$work/said"
         compare "bad/$(basename "$list")" "${list%.list}.expected" "$work/said"
-        bad=$((bad + 1))
+        lists=$((lists + 1))
     done
 fi
-echo "$cases headings and $bad bad lists as expected"
+echo "$says headings and $lists bad lists as expected"
