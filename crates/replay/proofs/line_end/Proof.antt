@@ -1,0 +1,27 @@
+-- `replay::line_end` meets its contract. The invariant: no place before i was passed. Assumes nothing.
+use Prim.Native.Nat.{_-_, _<_, _≤_}
+use borrow.Author.Needs.{needs}
+use lib.ListN.{length}
+use Rattle.replay.proofs.line_end.Statement.{statement}
+use Rattle.replay.proofs.line_end.Tie as tie
+
+abbrev Inv-loop : tie.InvT-loop
+Inv-loop input from i₀ i = (from ≤ i) × (i ≤ length input)
+
+abbrev μ-loop : tie.MeasureT-loop
+μ-loop input from i₀ i = length input - i
+
+pub line-end-spec : {M : Type 1} → statement M
+line-end-spec =
+    tie.close
+    (tie.spec
+    Inv-loop
+    μ-loop
+    (λ c. search needs)
+    (λ c. search needs)
+    (λ c. search needs)
+    (λ c. search needs)
+    (λ c. search needs)
+    (λ c. search needs)
+    (λ c. search needs)
+    (λ c. search needs))

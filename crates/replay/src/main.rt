@@ -1,0 +1,181 @@
+// Replays a list of calls and host writes, from the file that its argument names or from standard input, and prints each answer.
+// docs/replay.md has the forms. What is done with the input is the session's; here it is read, cut at line ends, and what was put is written.
+use libc::STDIN_FILENO;
+use libc::STDOUT_FILENO;
+use session::Session;
+ghost use mathlib.Core.Path.{_≡_};
+ghost use Prim.Native.Nat.{_<_, _≤_};
+ghost use lib.ListN.{length};
+
+// The smaller of two numbers.
+fn least(a: usize, b: usize) -> usize
+    ensures { λ r. ⌜ (r ≤ a) × (r ≤ b) ⌝ }
+{
+    if a < b {
+        return a;
+    }
+    b
+}
+
+// Where the line that `from` lies in ends: behind its newline, or at the end of the input.
+fn line_end(input: &[u8], from: usize) -> usize
+    requires { ⌜ from < length (now input) ⌝ }
+    ensures { λ r. ⌜ (from < r) × (r ≤ length (now (input .entry))) ⌝ }
+{
+    let mut i = from;
+    while i < input.len() {
+        if input[i] == 10 {
+            return i + 1;
+        }
+        i += 1;
+    }
+    i
+}
+
+// What a session has printed is written out; whether that went well.
+fn written(s: Session, out: &[u8]) -> bool {
+    let n = least(s.at, out.len());
+    io::write_all(STDOUT_FILENO, &out[..n])
+}
+
+// A stretch of input is run and what it prints is written out. The slice for texts has room for what any one line prints.
+fn run_stretch(
+    s: Session,
+    memory: &mut [u8],
+    holding: &mut [u8],
+    outgoing: &mut [u8],
+    bytes: &mut [u8],
+    input: &[u8],
+    out: &mut [u8],
+) -> Session {
+    let t = session::run(
+        session::emptied(s),
+        memory,
+        holding,
+        outgoing,
+        bytes,
+        input,
+        out,
+    );
+    written(t, out);
+    t
+}
+
+// A piece of input, line by line.
+fn run_lines(
+    s: Session,
+    memory: &mut [u8],
+    holding: &mut [u8],
+    outgoing: &mut [u8],
+    bytes: &mut [u8],
+    input: &[u8],
+    out: &mut [u8],
+) -> Session {
+    let mut t = s;
+    let mut from: usize = 0;
+    while from < input.len() {
+        let to = line_end(input, from);
+        t = run_stretch(t, memory, holding, outgoing, bytes, &input[from..to], out);
+        from = to;
+    }
+    t
+}
+
+// A session, and whether there may be more input for it.
+struct Step {
+    session: Session,
+    more: bool,
+}
+
+fn step_of(session: Session, more: bool) -> Step {
+    Step { session, more }
+}
+
+// The next piece of input.
+fn run_piece(
+    s: Session,
+    memory: &mut [u8],
+    holding: &mut [u8],
+    outgoing: &mut [u8],
+    bytes: &mut [u8],
+    out: &mut [u8],
+    fd: i32,
+) -> Step {
+    let mut input = io::buffer();
+    let got = libc::read(fd, &mut input);
+    if got < 0 {
+        os::fail(b"read");
+        return step_of(s, false);
+    }
+    let n = io::count(got, &input);
+    if n == 0 {
+        return step_of(s, false);
+    }
+    let t = run_lines(s, memory, holding, outgoing, bytes, &input[..n], out);
+    step_of(t, !t.stopped)
+}
+
+// All of the input. A proved loop has to end, and nothing says that a file does: the loop counts its turns, up to a number that no run uses up.
+fn run_all(
+    memory: &mut [u8],
+    holding: &mut [u8],
+    outgoing: &mut [u8],
+    bytes: &mut [u8],
+    out: &mut [u8],
+    fd: i32,
+) {
+    let mut s = session::start();
+    let mut turns = u64::MAX;
+    let mut more = true;
+    while turns > 0 && more {
+        let step = run_piece(s, memory, holding, outgoing, bytes, out, fd);
+        s = step.session;
+        more = step.more;
+        turns -= 1;
+    }
+    // the last line needs no newline
+    run_stretch(s, memory, holding, outgoing, bytes, b"\n", out);
+}
+
+// Room for what one line prints: 65,535 answers of at most 10 characters are the most.
+fn room() -> [u8; 655360]
+    ensures { λ r. ⌜ 655360 ≡ length r ⌝ }
+{
+    [0; 655360]
+}
+
+fn run_file(fd: i32) {
+    let mut memory = io::large_buffer();
+    let mut holding = [0u8; 2048];
+    let mut outgoing = [0u8; 2048];
+    let mut bytes = io::large_buffer();
+    let mut out = room();
+    run_all(
+        &mut memory,
+        &mut holding,
+        &mut outgoing,
+        &mut bytes,
+        &mut out,
+        fd,
+    );
+}
+
+fn main() {
+    if os::arg_count() < 2 {
+        run_file(STDIN_FILENO);
+        return;
+    }
+    let mut path = io::buffer();
+    let length = os::arg(1, &mut path);
+    if os::errno() != 0 {
+        os::fail(b"the file's name");
+        return;
+    }
+    let fd = os::open_read(&path[..length]);
+    if fd < 0 {
+        os::fail(&path[..length]);
+        return;
+    }
+    run_file(fd);
+    libc::close(fd);
+}

@@ -1,0 +1,3 @@
+-- What a line does, and a run of lines.
+pub mod Scene
+pub mod Run

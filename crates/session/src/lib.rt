@@ -1,0 +1,455 @@
+// A run of the replay program: characters are read, lines obeyed, and what they print is put into a slice. docs/replay.md has the forms.
+// A session goes in and comes out, so a run in stretches is a run of the whole. It takes every session and slices of every length.
+use board::Board;
+use board::Said;
+use lines::Area;
+use lines::Line;
+use lines::Reader;
+use lines::Verb;
+use lines::Wrong;
+use texts::Expected;
+ghost use mathlib.Core.Path.{_≡_};
+ghost use mathlib.Core.List.{List};
+ghost use Prim.Native.Nat.{ℕ, min};
+ghost use Rattle.chip.specs.Call as calls;
+ghost use Rattle.board.specs.Board as board;
+ghost use Rattle.texts.specs.Texts.{Puts};
+ghost use Rattle.session.specs.Scene.{Plays};
+ghost use Rattle.session.specs.Scene as scene;
+ghost use Rattle.session.specs.Run.{Runs};
+ghost use Rattle.session.specs.Run as run;
+
+// ---- what a line does
+
+// The board, and where the next text goes.
+pub struct Play {
+    pub board: Board,
+    pub at: usize,
+}
+
+fn play_of(board: Board, at: usize) -> Play
+    ensures { λ r. ⌜ r ≡ scene.playOf board at ⌝ }
+{
+    Play { board, at }
+}
+
+// A call's answer is printed.
+fn tell(s: Said, out: &mut [u8], at: usize) -> Play
+    ensures { λ r. ⌜ ((m h og : List ℕ) → Plays (scene.tellBy at (now (out .entry)) (board.leftAs s m h og)) r m h og (now (out .exit))) ⌝ }
+{
+    let board = s.board;
+    let answer = s.answer;
+    let next = texts::put_answer(out, at, answer);
+    play_of(board, next)
+}
+
+fn reset(p: Play, out: &mut [u8]) -> Play
+    ensures { λ r. ⌜ ((m h og : List ℕ) → Plays (scene.called calls.reset (scene.sceneOf p m h og (now (out .entry)))) r m h og (now (out .exit))) ⌝ }
+{
+    let b = p.board;
+    tell(board::reset(b), out, p.at)
+}
+
+fn attend(p: Play, memory: &mut [u8], holding: &[u8], outgoing: &[u8], out: &mut [u8]) -> Play
+    ensures { λ r. ⌜ Plays (scene.called calls.attention (scene.sceneOf p (now (memory .entry)) (now (holding .entry)) (now (outgoing .entry)) (now (out .entry)))) r (now (memory .exit)) (now (holding .entry)) (now (outgoing .entry)) (now (out .exit)) ⌝ }
+{
+    let b = p.board;
+    let s = board::attend(b, memory, holding, outgoing);
+    tell(s, out, p.at)
+}
+
+fn receive(
+    p: Play,
+    memory: &mut [u8],
+    holding: &mut [u8],
+    outgoing: &[u8],
+    frame: &[u8],
+    verdict: u32,
+    out: &mut [u8],
+) -> Play
+    ensures { λ r. ⌜ Plays (scene.called (calls.arrive (now (frame .entry)) verdict) (scene.sceneOf p (now (memory .entry)) (now (holding .entry)) (now (outgoing .entry)) (now (out .entry)))) r (now (memory .exit)) (now (holding .exit)) (now (outgoing .entry)) (now (out .exit)) ⌝ }
+{
+    let b = p.board;
+    let s = board::receive(b, memory, holding, outgoing, frame, verdict);
+    tell(s, out, p.at)
+}
+
+fn turn(
+    p: Play,
+    memory: &mut [u8],
+    holding: &[u8],
+    outgoing: &mut [u8],
+    report: u16,
+    out: &mut [u8],
+) -> Play
+    ensures { λ r. ⌜ Plays (scene.called (calls.turn report) (scene.sceneOf p (now (memory .entry)) (now (holding .entry)) (now (outgoing .entry)) (now (out .entry)))) r (now (memory .exit)) (now (holding .entry)) (now (outgoing .exit)) (now (out .exit)) ⌝ }
+{
+    let b = p.board;
+    let s = board::turn(b, memory, holding, outgoing, report);
+    tell(s, out, p.at)
+}
+
+// So many turns, each with the same report.
+fn turns(
+    p: Play,
+    memory: &mut [u8],
+    holding: &[u8],
+    outgoing: &mut [u8],
+    count: u16,
+    report: u16,
+    out: &mut [u8],
+) -> Play
+    ensures { λ r. ⌜ Plays (scene.turnsOf count report (scene.sceneOf p (now (memory .entry)) (now (holding .entry)) (now (outgoing .entry)) (now (out .entry)))) r (now (memory .exit)) (now (holding .entry)) (now (outgoing .exit)) (now (out .exit)) ⌝ }
+{
+    let mut q = p;
+    let mut i: u16 = 0;
+    while i < count {
+        q = turn(q, memory, holding, outgoing, report, out);
+        i += 1;
+    }
+    q
+}
+
+// How many turns a line asks for: one, if it does not say.
+fn turn_count(line: Line) -> u16
+    ensures { λ r. ⌜ r ≡ scene.turnCount line ⌝ }
+{
+    if line.taken == 0 {
+        return 1;
+    }
+    (line.first % 65536) as u16
+}
+
+// The host writes.
+fn write(
+    area: Area,
+    memory: &mut [u8],
+    holding: &mut [u8],
+    outgoing: &mut [u8],
+    place: usize,
+    own: &[u8],
+)
+    ensures { λ _. ⌜ scene.Writes (scene.areasBy area (now (memory .entry)) (now (holding .entry)) (now (outgoing .entry)) place (now (own .entry))) (now (memory .exit)) (now (holding .exit)) (now (outgoing .exit)) ⌝ }
+{
+    match area {
+        Area::Memory => memory::put_run(memory, place, own),
+        Area::Holding => memory::put_run(holding, place, own),
+        Area::Outgoing => memory::put_run(outgoing, place, own),
+    }
+}
+
+fn show(
+    area: Area,
+    memory: &[u8],
+    holding: &[u8],
+    outgoing: &[u8],
+    place: u32,
+    count: u32,
+    out: &mut [u8],
+    at: usize,
+) -> usize
+    ensures { λ r. ⌜ Puts (scene.shown area (now (memory .entry)) (now (holding .entry)) (now (outgoing .entry)) place count) at (now (out .entry)) r (now (out .exit)) ⌝ }
+{
+    match area {
+        Area::Memory => texts::put_bytes(out, at, memory, place, count),
+        Area::Holding => texts::put_bytes(out, at, holding, place, count),
+        Area::Outgoing => texts::put_bytes(out, at, outgoing, place, count),
+    }
+}
+
+fn look(
+    area: Area,
+    memory: &[u8],
+    holding: &[u8],
+    outgoing: &[u8],
+    place: u32,
+    count: u32,
+    out: &mut [u8],
+    at: usize,
+) -> usize
+    ensures { λ r. ⌜ Puts (scene.looked area (now (memory .entry)) (now (holding .entry)) (now (outgoing .entry)) place count) at (now (out .entry)) r (now (out .exit)) ⌝ }
+{
+    match area {
+        Area::Memory => texts::put_words(out, at, memory, place, count),
+        Area::Holding => texts::put_words(out, at, holding, place, count),
+        Area::Outgoing => texts::put_words(out, at, outgoing, place, count),
+    }
+}
+
+fn show_record(b: Board, out: &mut [u8], at: usize) -> usize
+    ensures { λ r. ⌜ Puts (scene.recordText b) at (now (out .entry)) r (now (out .exit)) ⌝ }
+{
+    let mut image = [0; 256];
+    board::record_to(b, &mut image);
+    texts::put_bytes(out, at, &image, 0, 256)
+}
+
+fn say(own: &[u8], out: &mut [u8], at: usize) -> usize
+    ensures { λ r. ⌜ Puts (scene.sayText (now (own .entry))) at (now (out .entry)) r (now (out .exit)) ⌝ }
+{
+    let next = texts::put_text(out, at, own);
+    texts::put_byte(out, next, 10)
+}
+
+// A line that is right is obeyed; own: the bytes or the text that it brought.
+fn obey(
+    verb: Verb,
+    line: Line,
+    p: Play,
+    memory: &mut [u8],
+    holding: &mut [u8],
+    outgoing: &mut [u8],
+    own: &[u8],
+    out: &mut [u8],
+) -> Play
+    ensures { λ r. ⌜ Plays (scene.obeyed verb line (now (own .entry)) (scene.sceneOf p (now (memory .entry)) (now (holding .entry)) (now (outgoing .entry)) (now (out .entry)))) r (now (memory .exit)) (now (holding .exit)) (now (outgoing .exit)) (now (out .exit)) ⌝ }
+{
+    let b = p.board;
+    let area = line.area;
+    match verb {
+        Verb::Nothing => p,
+        Verb::Size => play_of(board::resized(b, line.first as usize), p.at),
+        Verb::Reset => reset(p, out),
+        Verb::Attention => attend(p, memory, holding, outgoing, out),
+        Verb::Arrival => receive(
+            p,
+            memory,
+            holding,
+            outgoing,
+            own,
+            (line.first % 4294967296) as u32,
+            out,
+        ),
+        Verb::Turn => turns(
+            p,
+            memory,
+            holding,
+            outgoing,
+            turn_count(line),
+            (line.second % 65536) as u16,
+            out,
+        ),
+        Verb::Bytes => {
+            write(area, memory, holding, outgoing, line.first as usize, own);
+            p
+        }
+        Verb::Words => {
+            write(area, memory, holding, outgoing, line.first as usize, own);
+            p
+        }
+        Verb::Show => play_of(
+            b,
+            show(
+                area,
+                memory,
+                holding,
+                outgoing,
+                (line.first % 4294967296) as u32,
+                (line.second % 4294967296) as u32,
+                out,
+                p.at,
+            ),
+        ),
+        Verb::Look => play_of(
+            b,
+            look(
+                area,
+                memory,
+                holding,
+                outgoing,
+                (line.first % 4294967296) as u32,
+                (line.second % 4294967296) as u32,
+                out,
+                p.at,
+            ),
+        ),
+        Verb::Interrupt => play_of(b, texts::put_interrupt(out, p.at, board::interrupt(b))),
+        Verb::Record => play_of(b, show_record(b, out, p.at)),
+        Verb::Say => play_of(b, say(own, out, p.at)),
+    }
+}
+
+// ---- a run
+
+// The board; where the next text goes; the number of the line that is being read; its reader; whether a line was wrong.
+pub struct Session {
+    pub board: Board,
+    pub at: usize,
+    pub line: u64,
+    pub reader: Reader,
+    pub stopped: bool,
+}
+
+pub fn start() -> Session
+    ensures { λ r. ⌜ r ≡ run.start ⌝ }
+{
+    Session {
+        board: board::start(),
+        at: 0,
+        line: 1,
+        reader: lines::start(),
+        stopped: false,
+    }
+}
+
+// What was printed is taken: the next text goes to the beginning.
+pub fn emptied(s: Session) -> Session
+    ensures { λ r. ⌜ r ≡ run.emptied s ⌝ }
+{
+    Session { at: 0, ..s }
+}
+
+fn with_reader(s: Session, reader: Reader) -> Session
+    ensures { λ r. ⌜ r ≡ run.withReader s reader ⌝ }
+{
+    Session { reader, ..s }
+}
+
+// What was expected, as it is printed. Where nothing is wrong nothing is printed.
+fn expected(wrong: Wrong) -> Expected
+    ensures { λ r. ⌜ r ≡ run.expectedOf wrong ⌝ }
+{
+    match wrong {
+        Wrong::Nothing => Expected::End,
+        Wrong::First => Expected::First,
+        Wrong::Number => Expected::Number,
+        Wrong::Size => Expected::Size,
+        Wrong::Short => Expected::Short,
+        Wrong::Area => Expected::Area,
+        Wrong::Place => Expected::Place,
+        Wrong::Bytes => Expected::Bytes,
+        Wrong::Room => Expected::Room,
+        Wrong::End => Expected::End,
+    }
+}
+
+// A wrong line: its fault is printed, and the session stops.
+fn stop(s: Session, reader: Reader, out: &mut [u8]) -> Session
+    ensures { λ r. ⌜ ((m h og by : List ℕ) → Runs (run.stoppedBy s reader m h og by (now (out .entry))) r m h og by (now (out .exit))) ⌝ }
+{
+    let fault = reader.fault;
+    let wrong = fault.wrong;
+    let next = texts::put_fault(out, s.at, s.line, fault.column as u64, expected(wrong));
+    Session {
+        at: next,
+        reader,
+        stopped: true,
+        ..s
+    }
+}
+
+// The session behind a line that was obeyed.
+fn next_line(s: Session, p: Play) -> Session
+    ensures { λ r. ⌜ r ≡ run.nextLine s p ⌝ }
+{
+    let board = p.board;
+    Session {
+        board,
+        at: p.at,
+        line: std::num::wrapping_add_u64(s.line, 1),
+        reader: lines::start(),
+        stopped: s.stopped,
+    }
+}
+
+// How many bytes a line has brought, of those that are there.
+fn own_length(filled: u32, most: usize) -> usize
+    ensures { λ r. ⌜ r ≡ min filled most ⌝ }
+{
+    let n = filled as usize;
+    if n < most {
+        return n;
+    }
+    most
+}
+
+// A line that is right is obeyed.
+fn obey_line(
+    s: Session,
+    line: Line,
+    memory: &mut [u8],
+    holding: &mut [u8],
+    outgoing: &mut [u8],
+    bytes: &[u8],
+    out: &mut [u8],
+) -> Session
+    ensures { λ r. ⌜ Runs (run.lineObeyed s line (now (memory .entry)) (now (holding .entry)) (now (outgoing .entry)) (now (bytes .entry)) (now (out .entry))) r (now (memory .exit)) (now (holding .exit)) (now (outgoing .exit)) (now (bytes .entry)) (now (out .exit)) ⌝ }
+{
+    let b = s.board;
+    let verb = line.verb;
+    let n = own_length(line.filled, bytes.len());
+    let p = obey(
+        verb,
+        line,
+        play_of(b, s.at),
+        memory,
+        holding,
+        outgoing,
+        &bytes[..n],
+        out,
+    );
+    next_line(s, p)
+}
+
+// A line's end.
+fn end_line(
+    s: Session,
+    memory: &mut [u8],
+    holding: &mut [u8],
+    outgoing: &mut [u8],
+    bytes: &mut [u8],
+    out: &mut [u8],
+) -> Session
+    ensures { λ r. ⌜ Runs (run.lineEnded (run.stateOf s (now (memory .entry)) (now (holding .entry)) (now (outgoing .entry)) (now (bytes .entry)) (now (out .entry)))) r (now (memory .exit)) (now (holding .exit)) (now (outgoing .exit)) (now (bytes .exit)) (now (out .exit)) ⌝ }
+{
+    let r = s.reader;
+    let reader = lines::end(bytes, r);
+    if lines::is_right(reader) {
+        let line = reader.line;
+        return obey_line(s, line, memory, holding, outgoing, bytes, out);
+    }
+    stop(s, reader, out)
+}
+
+// A character.
+fn feed(
+    s: Session,
+    memory: &mut [u8],
+    holding: &mut [u8],
+    outgoing: &mut [u8],
+    bytes: &mut [u8],
+    c: u8,
+    out: &mut [u8],
+) -> Session
+    ensures { λ r. ⌜ Runs (run.fed (run.stateOf s (now (memory .entry)) (now (holding .entry)) (now (outgoing .entry)) (now (bytes .entry)) (now (out .entry))) c) r (now (memory .exit)) (now (holding .exit)) (now (outgoing .exit)) (now (bytes .exit)) (now (out .exit)) ⌝ }
+{
+    if s.stopped {
+        return s;
+    }
+    if c == 10 {
+        return end_line(s, memory, holding, outgoing, bytes, out);
+    }
+    let r = s.reader;
+    with_reader(s, lines::read(bytes, r, c))
+}
+
+// A stretch of input.
+pub fn run(
+    s: Session,
+    memory: &mut [u8],
+    holding: &mut [u8],
+    outgoing: &mut [u8],
+    bytes: &mut [u8],
+    input: &[u8],
+    out: &mut [u8],
+) -> Session
+    ensures { λ r. ⌜ Runs (run.ran (run.stateOf s (now (memory .entry)) (now (holding .entry)) (now (outgoing .entry)) (now (bytes .entry)) (now (out .entry))) (now (input .entry))) r (now (memory .exit)) (now (holding .exit)) (now (outgoing .exit)) (now (bytes .exit)) (now (out .exit)) ⌝ }
+{
+    let mut t = s;
+    let mut i: usize = 0;
+    while i < input.len() {
+        t = feed(t, memory, holding, outgoing, bytes, input[i], out);
+        i += 1;
+    }
+    t
+}
