@@ -16,7 +16,7 @@ use Rattle.board.specs.declared.Said.{Said}
 use Rattle.board.specs.Board.{Left, leftAs, Leaves, recordOf, recordIn}
 use Rattle.session.specs.declared.Play.{Play}
 use Rattle.session.specs.declared.Session.{Session}
-use Rattle.lines.specs.declared.Line.{Line}
+use Rattle.wording.specs.declared.Line.{Line}
 use Rattle.lines.specs.declared.Reader.{Reader}
 use Rattle.lines.specs.Reader as lines
 use Rattle.texts.specs.Texts.{Puts}

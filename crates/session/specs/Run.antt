@@ -7,10 +7,10 @@ use lib.Dec.{eqb}
 use lib.ListN.{take}
 use lib.Seq.{sets}
 use Rattle.board.specs.Board as board
-use Rattle.lines.specs.declared.Line.{Line}
+use Rattle.wording.specs.declared.Line.{Line}
 use Rattle.lines.specs.declared.Reader.{Reader}
-use Rattle.lines.specs.declared.Wrong.{Wrong}
-use Rattle.lines.specs.declared.Wrong.the-variants as wrong
+use Rattle.wording.specs.declared.Wrong.{Wrong}
+use Rattle.wording.specs.declared.Wrong.the-variants as wrong
 use Rattle.lines.specs.Reader as lines
 use Rattle.texts.specs.declared.Expected.{Expected}
 use Rattle.texts.specs.declared.Expected.the-variants as expected

@@ -12,11 +12,11 @@ use Rattle.chip.specs.Call.{Call, reset, attention, arrive, turn}
 use Rattle.board.specs.declared.Board.{Board}
 use Rattle.board.specs.declared.Said.{Said}
 use Rattle.board.specs.Board.{Left, onBoard, recordOf, resized}
-use Rattle.lines.specs.declared.Area.{Area}
-use Rattle.lines.specs.declared.Area.the-variants as area
-use Rattle.lines.specs.declared.Line.{Line}
-use Rattle.lines.specs.declared.Verb.{Verb}
-use Rattle.lines.specs.declared.Verb.the-variants as verb
+use Rattle.wording.specs.declared.Area.{Area}
+use Rattle.wording.specs.declared.Area.the-variants as area
+use Rattle.wording.specs.declared.Line.{Line}
+use Rattle.wording.specs.declared.Verb.{Verb}
+use Rattle.wording.specs.declared.Verb.the-variants as verb
 use Rattle.texts.specs.Texts.{answerText, interruptText, showText, lookText}
 use Rattle.session.specs.declared.Play.{Play}
 

@@ -2,11 +2,11 @@
 // A session goes in and comes out, so a run in stretches is a run of the whole. It takes every session and slices of every length.
 use board::Board;
 use board::Said;
-use lines::Area;
-use lines::Line;
+use wording::Area;
+use wording::Line;
 use lines::Reader;
-use lines::Verb;
-use lines::Wrong;
+use wording::Verb;
+use wording::Wrong;
 use texts::Expected;
 ghost use mathlib.Core.Path.{_≡_};
 ghost use mathlib.Core.List.{List};
