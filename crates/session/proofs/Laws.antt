@@ -1,9 +1,9 @@
 -- What the proofs of the session share: scenes and states that are what is said, turns one by one, a stretch character by character.
 -- Assumes nothing.
 use mathlib.Core.Path.{_≡_, refl, sym, ap, subst, _∙_}
-use mathlib.Core.Bool.{Bool, true, false, cond}
+use mathlib.Core.Bool.{Bool, true, false, cond, false≢true, true≢false}
 use mathlib.Core.List.{List, [], _∷_, _++_}
-use Prim.Native.Nat.{ℕ, zero, suc, _+_, _<_, _≤_, min}
+use Prim.Native.Nat.{ℕ, zero, suc, _+_, _%_, _<_, _≤_, min}
 use native.Mathlib.Omega.{arith}
 use borrow.Author.Tests.{eq-eqb, ne-eqb}
 use lib.Dec.{eqb}
@@ -13,14 +13,16 @@ use Rattle.image.specs.Image.{stored}
 use Rattle.chip.specs.Call.{Call, turn}
 use Rattle.board.specs.declared.Board.{Board}
 use Rattle.board.specs.declared.Said.{Said}
-use Rattle.board.specs.Board.{Left, leftAs, Leaves, recordOf, recordIn}
+use Rattle.board.specs.Board.{Left, leftAs, Leaves, recordOf, recordIn, resized}
 use Rattle.session.specs.declared.Play.{Play}
 use Rattle.session.specs.declared.Session.{Session}
 use Rattle.wording.specs.declared.Line.{Line}
 use Rattle.lines.specs.declared.Reader.{Reader}
+use Rattle.lines.specs.declared.Verb.{Verb}
+use Rattle.lines.specs.declared.Verb.the-variants as verb
 use Rattle.lines.specs.Reader as lines
 use Rattle.texts.specs.Texts.{Puts}
-use Rattle.session.specs.Scene.{Scene, playOf, sceneOf, Plays, printed, tellBy, called, turnsOf, obeyed}
+use Rattle.session.specs.Scene.{Scene, playOf, sceneOf, Plays, behind, printed, tellBy, called, turnsOf, turnCount, wrote, many, obeyed, isCall, isWrite, isSize, callBy, textBy}
 use Rattle.session.specs.Run.{State, stateOf, Runs, withReader, nextLine, stoppedBy, lineObeyed, endedBy, lineEnded, readBy, fed, ran}
 
 -- ---- what was left is what is said
@@ -218,3 +220,83 @@ pub ran-all : (t : State) (xs : List ℕ) (i : ℕ) (s : Session) (m h og by o :
     → Runs (ran t xs) s m h og by o
 ran-all t xs i s m h og by o l e =
     subst (λ (ys : List ℕ). Runs (ran t ys) s m h og by o) (ap (λ (k : ℕ). take k xs) l ∙ take-all xs) e
+
+-- ---- the verbs, parted as the code parts them
+
+pub by-call : (v : Verb) (l : Line) (own : List ℕ) (s : Scene) → isCall v ≡ true
+    → callBy v own (l .first % many) (turnCount l) (l .second % 65536) s ≡ obeyed v l own s
+unfolding callBy obeyed
+by-call verb.Nothing l own s e = absurd (false≢true e)
+by-call verb.Size l own s e = absurd (false≢true e)
+by-call verb.Reset l own s e = refl
+by-call verb.Attention l own s e = refl
+by-call verb.Arrival l own s e = refl
+by-call verb.Turn l own s e = refl
+by-call verb.Bytes l own s e = absurd (false≢true e)
+by-call verb.Words l own s e = absurd (false≢true e)
+by-call verb.Show l own s e = absurd (false≢true e)
+by-call verb.Look l own s e = absurd (false≢true e)
+by-call verb.Interrupt l own s e = absurd (false≢true e)
+by-call verb.Record l own s e = absurd (false≢true e)
+by-call verb.Say l own s e = absurd (false≢true e)
+
+pub by-write : (v : Verb) (l : Line) (own : List ℕ) (s : Scene) → isWrite v ≡ true → wrote l own s ≡ obeyed v l own s
+unfolding obeyed
+by-write verb.Nothing l own s e = absurd (false≢true e)
+by-write verb.Size l own s e = absurd (false≢true e)
+by-write verb.Reset l own s e = absurd (false≢true e)
+by-write verb.Attention l own s e = absurd (false≢true e)
+by-write verb.Arrival l own s e = absurd (false≢true e)
+by-write verb.Turn l own s e = absurd (false≢true e)
+by-write verb.Bytes l own s e = refl
+by-write verb.Words l own s e = refl
+by-write verb.Show l own s e = absurd (false≢true e)
+by-write verb.Look l own s e = absurd (false≢true e)
+by-write verb.Interrupt l own s e = absurd (false≢true e)
+by-write verb.Record l own s e = absurd (false≢true e)
+by-write verb.Say l own s e = absurd (false≢true e)
+
+abbrev sized : Line → Scene → Scene
+sized l s = sceneOf (playOf (resized (s .play .board) (l .first)) (s .play .at)) (s .memory) (s .holding) (s .outgoing) (s .out)
+
+pub by-size : (v : Verb) (l : Line) (own : List ℕ) (s : Scene) → isSize v ≡ true → sized l s ≡ obeyed v l own s
+unfolding obeyed
+by-size verb.Nothing l own s e = absurd (false≢true e)
+by-size verb.Size l own s e = refl
+by-size verb.Reset l own s e = absurd (false≢true e)
+by-size verb.Attention l own s e = absurd (false≢true e)
+by-size verb.Arrival l own s e = absurd (false≢true e)
+by-size verb.Turn l own s e = absurd (false≢true e)
+by-size verb.Bytes l own s e = absurd (false≢true e)
+by-size verb.Words l own s e = absurd (false≢true e)
+by-size verb.Show l own s e = absurd (false≢true e)
+by-size verb.Look l own s e = absurd (false≢true e)
+by-size verb.Interrupt l own s e = absurd (false≢true e)
+by-size verb.Record l own s e = absurd (false≢true e)
+by-size verb.Say l own s e = absurd (false≢true e)
+
+-- what is left is printed; where nothing is said nothing is
+nothing-printed : (s : Scene) → printed [] s ≡ s
+nothing-printed s =
+    let e : behind [] (s .play .at) (s .out) ≡ s .play .at = omega arith in
+    ap (λ (k : ℕ). sceneOf (playOf (s .play .board) k) (s .memory) (s .holding) (s .outgoing) (s .out)) e
+
+pub by-text : (v : Verb) (l : Line) (own : List ℕ) (s : Scene) → isCall v ≡ false → isWrite v ≡ false → isSize v ≡ false
+    → printed (textBy v (l .area) (s .play .board) (s .memory) (s .holding) (s .outgoing) own (l .first % many) (l .second % many)) s ≡ obeyed v l own s
+unfolding textBy obeyed
+by-text verb.Nothing l own s e f g = nothing-printed s
+by-text verb.Size l own s e f g = absurd (true≢false g)
+by-text verb.Reset l own s e f g = absurd (true≢false e)
+by-text verb.Attention l own s e f g = absurd (true≢false e)
+by-text verb.Arrival l own s e f g = absurd (true≢false e)
+by-text verb.Turn l own s e f g = absurd (true≢false e)
+by-text verb.Bytes l own s e f g = absurd (true≢false f)
+by-text verb.Words l own s e f g = absurd (true≢false f)
+by-text verb.Show l own s e f g = refl
+by-text verb.Look l own s e f g = refl
+by-text verb.Interrupt l own s e f g = refl
+by-text verb.Record l own s e f g = refl
+by-text verb.Say l own s e f g = refl
+
+pub plays-as : (c d : Scene) (p : Play) (m h og o : List ℕ) → c ≡ d → Plays c p m h og o → Plays d p m h og o
+plays-as c d p m h og o e t = subst (λ (x : Scene). Plays x p m h og o) e t

@@ -1,6 +1,6 @@
 -- What a line does and prints: docs/replay.md, "Lines" and "Answers". Assumes nothing.
 use mathlib.Core.Path.{_≡_}
-use mathlib.Core.Bool.{Bool, cond}
+use mathlib.Core.Bool.{Bool, true, false, cond}
 use mathlib.Core.List.{List, [], _∷_, _++_}
 use Prim.Native.Nat.{ℕ, zero, suc, _+_, _-_, _%_, min}
 use lib.Dec.{eqb}
@@ -143,3 +143,80 @@ obeyed verb.Look l own s = printed (looked (l .area) (s .memory) (s .holding) (s
 obeyed verb.Interrupt l own s = printed (interruptText (anyOf (s .play .board .device .units .events))) s
 obeyed verb.Record l own s = printed (recordText (s .play .board)) s
 obeyed verb.Say l own s = printed (sayText own) s
+
+-- ---- how the code parts the verbs: calls, host writes, sizes, and what is only printed
+
+abbrev pub isCall : Verb → Bool
+isCall verb.Nothing = false
+isCall verb.Size = false
+isCall verb.Reset = true
+isCall verb.Attention = true
+isCall verb.Arrival = true
+isCall verb.Turn = true
+isCall verb.Bytes = false
+isCall verb.Words = false
+isCall verb.Show = false
+isCall verb.Look = false
+isCall verb.Interrupt = false
+isCall verb.Record = false
+isCall verb.Say = false
+
+abbrev pub isWrite : Verb → Bool
+isWrite verb.Nothing = false
+isWrite verb.Size = false
+isWrite verb.Reset = false
+isWrite verb.Attention = false
+isWrite verb.Arrival = false
+isWrite verb.Turn = false
+isWrite verb.Bytes = true
+isWrite verb.Words = true
+isWrite verb.Show = false
+isWrite verb.Look = false
+isWrite verb.Interrupt = false
+isWrite verb.Record = false
+isWrite verb.Say = false
+
+abbrev pub isSize : Verb → Bool
+isSize verb.Nothing = false
+isSize verb.Size = true
+isSize verb.Reset = false
+isSize verb.Attention = false
+isSize verb.Arrival = false
+isSize verb.Turn = false
+isSize verb.Bytes = false
+isSize verb.Words = false
+isSize verb.Show = false
+isSize verb.Look = false
+isSize verb.Interrupt = false
+isSize verb.Record = false
+isSize verb.Say = false
+
+unfoldable pub callBy : Verb → List ℕ → ℕ → ℕ → ℕ → Scene → Scene
+callBy verb.Nothing own verdict count report s = s
+callBy verb.Size own verdict count report s = s
+callBy verb.Reset own verdict count report s = called reset s
+callBy verb.Attention own verdict count report s = called attention s
+callBy verb.Arrival own verdict count report s = called (arrive own verdict) s
+callBy verb.Turn own verdict count report s = turnsOf count report s
+callBy verb.Bytes own verdict count report s = s
+callBy verb.Words own verdict count report s = s
+callBy verb.Show own verdict count report s = s
+callBy verb.Look own verdict count report s = s
+callBy verb.Interrupt own verdict count report s = s
+callBy verb.Record own verdict count report s = s
+callBy verb.Say own verdict count report s = s
+
+unfoldable pub textBy : Verb → Area → Board → List ℕ → List ℕ → List ℕ → List ℕ → ℕ → ℕ → List ℕ
+textBy verb.Nothing a b m h og own place count = []
+textBy verb.Size a b m h og own place count = []
+textBy verb.Reset a b m h og own place count = []
+textBy verb.Attention a b m h og own place count = []
+textBy verb.Arrival a b m h og own place count = []
+textBy verb.Turn a b m h og own place count = []
+textBy verb.Bytes a b m h og own place count = []
+textBy verb.Words a b m h og own place count = []
+textBy verb.Show a b m h og own place count = shown a m h og place count
+textBy verb.Look a b m h og own place count = looked a m h og place count
+textBy verb.Interrupt a b m h og own place count = interruptText (anyOf (b .device .units .events))
+textBy verb.Record a b m h og own place count = recordText b
+textBy verb.Say a b m h og own place count = sayText own

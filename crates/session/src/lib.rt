@@ -191,6 +191,134 @@ fn say(own: &[u8], out: &mut [u8], at: usize) -> usize
     texts::put_byte(out, next, 10)
 }
 
+// Whether a line makes a call.
+fn is_call(verb: Verb) -> bool
+    ensures { λ r. ⌜ r ≡ scene.isCall verb ⌝ }
+{
+    match verb {
+        Verb::Nothing => false,
+        Verb::Size => false,
+        Verb::Reset => true,
+        Verb::Attention => true,
+        Verb::Arrival => true,
+        Verb::Turn => true,
+        Verb::Bytes => false,
+        Verb::Words => false,
+        Verb::Show => false,
+        Verb::Look => false,
+        Verb::Interrupt => false,
+        Verb::Record => false,
+        Verb::Say => false,
+    }
+}
+
+// Whether the host writes.
+fn is_write(verb: Verb) -> bool
+    ensures { λ r. ⌜ r ≡ scene.isWrite verb ⌝ }
+{
+    match verb {
+        Verb::Nothing => false,
+        Verb::Size => false,
+        Verb::Reset => false,
+        Verb::Attention => false,
+        Verb::Arrival => false,
+        Verb::Turn => false,
+        Verb::Bytes => true,
+        Verb::Words => true,
+        Verb::Show => false,
+        Verb::Look => false,
+        Verb::Interrupt => false,
+        Verb::Record => false,
+        Verb::Say => false,
+    }
+}
+
+// Whether memory gets another size.
+fn is_size(verb: Verb) -> bool
+    ensures { λ r. ⌜ r ≡ scene.isSize verb ⌝ }
+{
+    match verb {
+        Verb::Nothing => false,
+        Verb::Size => true,
+        Verb::Reset => false,
+        Verb::Attention => false,
+        Verb::Arrival => false,
+        Verb::Turn => false,
+        Verb::Bytes => false,
+        Verb::Words => false,
+        Verb::Show => false,
+        Verb::Look => false,
+        Verb::Interrupt => false,
+        Verb::Record => false,
+        Verb::Say => false,
+    }
+}
+
+// A line that makes a call: reset, attention, arrival, or turns.
+fn call(
+    verb: Verb,
+    p: Play,
+    memory: &mut [u8],
+    holding: &mut [u8],
+    outgoing: &mut [u8],
+    own: &[u8],
+    verdict: u32,
+    count: u16,
+    report: u16,
+    out: &mut [u8],
+) -> Play
+    ensures { λ r. ⌜ Plays (scene.callBy verb (now (own .entry)) verdict count report (scene.sceneOf p (now (memory .entry)) (now (holding .entry)) (now (outgoing .entry)) (now (out .entry)))) r (now (memory .exit)) (now (holding .exit)) (now (outgoing .exit)) (now (out .exit)) ⌝ }
+{
+    match verb {
+        Verb::Nothing => p,
+        Verb::Size => p,
+        Verb::Reset => reset(p, out),
+        Verb::Attention => attend(p, memory, holding, outgoing, out),
+        Verb::Arrival => receive(p, memory, holding, outgoing, own, verdict, out),
+        Verb::Turn => turns(p, memory, holding, outgoing, count, report, out),
+        Verb::Bytes => p,
+        Verb::Words => p,
+        Verb::Show => p,
+        Verb::Look => p,
+        Verb::Interrupt => p,
+        Verb::Record => p,
+        Verb::Say => p,
+    }
+}
+
+// What a line prints that shows something or says it.
+fn print(
+    verb: Verb,
+    area: Area,
+    b: Board,
+    memory: &[u8],
+    holding: &[u8],
+    outgoing: &[u8],
+    own: &[u8],
+    place: u32,
+    count: u32,
+    out: &mut [u8],
+    at: usize,
+) -> usize
+    ensures { λ r. ⌜ Puts (scene.textBy verb area b (now (memory .entry)) (now (holding .entry)) (now (outgoing .entry)) (now (own .entry)) place count) at (now (out .entry)) r (now (out .exit)) ⌝ }
+{
+    match verb {
+        Verb::Nothing => at,
+        Verb::Size => at,
+        Verb::Reset => at,
+        Verb::Attention => at,
+        Verb::Arrival => at,
+        Verb::Turn => at,
+        Verb::Bytes => at,
+        Verb::Words => at,
+        Verb::Show => show(area, memory, holding, outgoing, place, count, out, at),
+        Verb::Look => look(area, memory, holding, outgoing, place, count, out, at),
+        Verb::Interrupt => texts::put_interrupt(out, at, board::interrupt(b)),
+        Verb::Record => show_record(b, out, at),
+        Verb::Say => say(own, out, at),
+    }
+}
+
 // A line that is right is obeyed; own: the bytes or the text that it brought.
 fn obey(
     verb: Verb,
@@ -204,69 +332,43 @@ fn obey(
 ) -> Play
     ensures { λ r. ⌜ Plays (scene.obeyed verb line (now (own .entry)) (scene.sceneOf p (now (memory .entry)) (now (holding .entry)) (now (outgoing .entry)) (now (out .entry)))) r (now (memory .exit)) (now (holding .exit)) (now (outgoing .exit)) (now (out .exit)) ⌝ }
 {
-    let b = p.board;
-    let area = line.area;
-    match verb {
-        Verb::Nothing => p,
-        Verb::Size => play_of(board::resized(b, line.first as usize), p.at),
-        Verb::Reset => reset(p, out),
-        Verb::Attention => attend(p, memory, holding, outgoing, out),
-        Verb::Arrival => receive(
+    if is_call(verb) {
+        return call(
+            verb,
             p,
             memory,
             holding,
             outgoing,
             own,
             (line.first % 4294967296) as u32,
-            out,
-        ),
-        Verb::Turn => turns(
-            p,
-            memory,
-            holding,
-            outgoing,
             turn_count(line),
             (line.second % 65536) as u16,
             out,
-        ),
-        Verb::Bytes => {
-            write(area, memory, holding, outgoing, line.first as usize, own);
-            p
-        }
-        Verb::Words => {
-            write(area, memory, holding, outgoing, line.first as usize, own);
-            p
-        }
-        Verb::Show => play_of(
-            b,
-            show(
-                area,
-                memory,
-                holding,
-                outgoing,
-                (line.first % 4294967296) as u32,
-                (line.second % 4294967296) as u32,
-                out,
-                p.at,
-            ),
-        ),
-        Verb::Look => play_of(
-            b,
-            look(
-                area,
-                memory,
-                holding,
-                outgoing,
-                (line.first % 4294967296) as u32,
-                (line.second % 4294967296) as u32,
-                out,
-                p.at,
-            ),
-        ),
-        Verb::Interrupt => play_of(b, texts::put_interrupt(out, p.at, board::interrupt(b))),
-        Verb::Record => play_of(b, show_record(b, out, p.at)),
-        Verb::Say => play_of(b, say(own, out, p.at)),
+        );
     }
+    let area = line.area;
+    if is_write(verb) {
+        write(area, memory, holding, outgoing, line.first as usize, own);
+        return p;
+    }
+    let b = p.board;
+    if is_size(verb) {
+        return play_of(board::resized(b, line.first as usize), p.at);
+    }
+    let next = print(
+        verb,
+        area,
+        b,
+        memory,
+        holding,
+        outgoing,
+        own,
+        (line.first % 4294967296) as u32,
+        (line.second % 4294967296) as u32,
+        out,
+        p.at,
+    );
+    play_of(b, next)
 }
 
 // ---- a run
