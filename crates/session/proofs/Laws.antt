@@ -18,8 +18,8 @@ use Rattle.session.specs.declared.Play.{Play}
 use Rattle.session.specs.declared.Session.{Session}
 use Rattle.wording.specs.declared.Line.{Line}
 use Rattle.lines.specs.declared.Reader.{Reader}
-use Rattle.lines.specs.declared.Verb.{Verb}
-use Rattle.lines.specs.declared.Verb.the-variants as verb
+use Rattle.wording.specs.declared.Verb.{Verb}
+use Rattle.wording.specs.declared.Verb.the-variants as verb
 use Rattle.lines.specs.Reader as lines
 use Rattle.texts.specs.Texts.{Puts}
 use Rattle.session.specs.Scene.{Scene, playOf, sceneOf, Plays, behind, printed, tellBy, called, turnsOf, turnCount, wrote, many, obeyed, isCall, isWrite, isSize, callBy, textBy}

@@ -2,12 +2,12 @@
 // A session goes in and comes out, so a run in stretches is a run of the whole. It takes every session and slices of every length.
 use board::Board;
 use board::Said;
+use lines::Reader;
+use texts::Expected;
 use wording::Area;
 use wording::Line;
-use lines::Reader;
 use wording::Verb;
 use wording::Wrong;
-use texts::Expected;
 ghost use mathlib.Core.Path.{_≡_};
 ghost use mathlib.Core.List.{List};
 ghost use Prim.Native.Nat.{ℕ, min};
