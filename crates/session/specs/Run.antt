@@ -15,9 +15,9 @@ use Rattle.lines.specs.Reader as lines
 use Rattle.texts.specs.declared.Expected.{Expected}
 use Rattle.texts.specs.declared.Expected.the-variants as expected
 use Rattle.texts.specs.Texts.{faultText}
-use Rattle.session.specs.declared.Play.{Play}
+use Rattle.scene.specs.declared.Play.{Play}
 use Rattle.session.specs.declared.Session.{Session}
-use Rattle.session.specs.Scene.{Scene, playOf, sceneOf, behind, obeyed}
+use Rattle.scene.specs.Scene.{Scene, playOf, sceneOf, behind, obeyed}
 
 -- ---- the state
 
