@@ -13,7 +13,7 @@ use Rattle.lines.specs.Reader as lines
 use Rattle.scene.specs.declared.Play.{Play}
 use Rattle.scene.specs.Scene.{Scene, playOf, sceneOf, Plays, obeyed}
 use Rattle.session.specs.declared.Session.{Session}
-use Rattle.session.specs.Run.{State, stateOf, Runs, withReader, nextLine, stoppedBy, lineObeyed, endedBy, lineEnded, readBy, fed, ran}
+use Rattle.session.specs.Run.{State, stateOf, Runs, withReader, nextLine, lineObeyed, judged, endedBy, lineEnded, readBy, fed, ran}
 
 -- ---- what was left is what is said
 
@@ -72,23 +72,16 @@ choose b x y e = ap (λ (k : Bool). cond k x y) e
 refuse : {A : Type 0} (b : Bool) (x y : A) → b ≡ false → cond b x y ≡ y
 refuse b x y e = ap (λ (k : Bool). cond k x y) e
 
+-- a line that was read to its end and judged
+pub ended : (s : Session) (m h og out : List ℕ) (e : lines.Read) (r : Reader) (by : List ℕ) (t : Session) (m′ h′ og′ o′ : List ℕ) → lines.Reads e r by
+    → Runs (judged s r m h og by out) t m′ h′ og′ by o′
+    → Runs (judged s (e .reader) m h og (e .bytes) out) t m′ h′ og′ by o′
+ended s m h og out e r by t m′ h′ og′ o′ x z =
+    subst (λ (k : lines.Read). Runs (judged s (k .reader) m h og (k .bytes) out) t m′ h′ og′ by o′) (read-is e r by x) z
+
 module _ (s : Session) (m h og by out : List ℕ) where
   abbrev before : State
   before = stateOf s m h og by out
-
-  pub ended-right : (e : lines.Read) (r : Reader) (by′ : List ℕ) (t : Session) (m′ h′ og′ o′ : List ℕ) → lines.Reads e r by′ → lines.isRight r ≡ true
-      → Runs (lineObeyed s (r .line) m h og by′ out) t m′ h′ og′ by′ o′
-      → Runs (endedBy before e) t m′ h′ og′ by′ o′
-  ended-right e r by′ t m′ h′ og′ o′ x y z =
-      subst (λ (k : lines.Read). Runs (endedBy before k) t m′ h′ og′ by′ o′) (read-is e r by′ x)
-      (subst (λ (k : State). Runs k t m′ h′ og′ by′ o′) (sym (choose (lines.isRight r) (lineObeyed s (r .line) m h og by′ out) (stoppedBy s r m h og by′ out) y)) z)
-
-  pub ended-wrong : (e : lines.Read) (r : Reader) (by′ : List ℕ) (t : Session) (m′ h′ og′ o′ : List ℕ) → lines.Reads e r by′ → lines.isRight r ≡ false
-      → Runs (stoppedBy s r m h og by′ out) t m′ h′ og′ by′ o′
-      → Runs (endedBy before e) t m′ h′ og′ by′ o′
-  ended-wrong e r by′ t m′ h′ og′ o′ x y z =
-      subst (λ (k : lines.Read). Runs (endedBy before k) t m′ h′ og′ by′ o′) (read-is e r by′ x)
-      (subst (λ (k : State). Runs k t m′ h′ og′ by′ o′) (sym (refuse (lines.isRight r) (lineObeyed s (r .line) m h og by′ out) (stoppedBy s r m h og by′ out) y)) z)
 
   abbrev otherwise : ℕ → State
   otherwise c = readBy before (lines.read (s .reader) c by)

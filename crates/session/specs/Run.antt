@@ -94,12 +94,12 @@ lineObeyed s l m h og by out = behindLine s by (obeyed (l .verb) l (take (l .fil
 
 -- ---- characters
 
--- a line that has ended is judged; "nothing of the bad line is done or printed"
+-- a line that has been read to its end is judged; "nothing of the bad line is done or printed"
+unfoldable pub judged : Session → Reader → List ℕ → List ℕ → List ℕ → List ℕ → List ℕ → State
+judged s r m h og by out = cond (lines.isRight r) (lineObeyed s (r .line) m h og by out) (stoppedBy s r m h og by out)
+
 abbrev pub endedBy : State → lines.Read → State
-endedBy st e =
-    cond (lines.isRight (e .reader))
-    (lineObeyed (st .session) (e .reader .line) (st .memory) (st .holding) (st .outgoing) (e .bytes) (st .out))
-    (stoppedBy (st .session) (e .reader) (st .memory) (st .holding) (st .outgoing) (e .bytes) (st .out))
+endedBy st e = judged (st .session) (e .reader) (st .memory) (st .holding) (st .outgoing) (e .bytes) (st .out)
 
 unfoldable pub lineEnded : State → State
 lineEnded st = endedBy st (lines.end (st .session .reader) (st .bytes))

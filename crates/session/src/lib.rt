@@ -132,6 +132,25 @@ fn obey_line(
     next_line(s, p)
 }
 
+// A line that has been read to its end: it is obeyed, or its fault is printed.
+fn judge(
+    s: Session,
+    reader: Reader,
+    memory: &mut [u8],
+    holding: &mut [u8],
+    outgoing: &mut [u8],
+    bytes: &[u8],
+    out: &mut [u8],
+) -> Session
+    ensures { λ r. ⌜ Runs (run.judged s reader (now (memory .entry)) (now (holding .entry)) (now (outgoing .entry)) (now (bytes .entry)) (now (out .entry))) r (now (memory .exit)) (now (holding .exit)) (now (outgoing .exit)) (now (bytes .entry)) (now (out .exit)) ⌝ }
+{
+    if lines::is_right(reader) {
+        let line = reader.line;
+        return obey_line(s, line, memory, holding, outgoing, bytes, out);
+    }
+    stop(s, reader, out)
+}
+
 // A line's end.
 fn end_line(
     s: Session,
@@ -145,11 +164,7 @@ fn end_line(
 {
     let r = s.reader;
     let reader = lines::end(bytes, r);
-    if lines::is_right(reader) {
-        let line = reader.line;
-        return obey_line(s, line, memory, holding, outgoing, bytes, out);
-    }
-    stop(s, reader, out)
+    judge(s, reader, memory, holding, outgoing, bytes, out)
 }
 
 // A character.
