@@ -1,9 +1,10 @@
 -- What a run prints in all, and how the program writes it out: docs/replay.md. Assumes nothing.
 use mathlib.Core.Bool.{Bool, cond}
 use mathlib.Core.List.{List, [], _∷_, _++_}
-use Prim.Native.Nat.{ℕ, _≤_}
+use Prim.Native.Nat.{ℕ, _+_, _≤_}
 use lib.Dec.{eqb}
 use lib.ListN.{length, take}
+use Rattle.memory.proofs.Bytes.{Bytes}
 use Rattle.lines.specs.declared.Reader.{Reader}
 use Rattle.lines.specs.Reader as lines
 use Rattle.scene.specs.Scene.{playOf, sceneOf}
@@ -59,3 +60,15 @@ Room st (xs ∷ xss) = (length (textOf st xs) ≤ length (st .out)) × Room (ran
 -- a state apart from what was printed
 abbrev pub quietly : State → State
 quietly st = stateOf (emptied (st .session)) (st .memory) (st .holding) (st .outgoing) (st .bytes) []
+
+-- ---- lines
+
+-- how many lines end in a stretch
+unfoldable pub newlines : List ℕ → ℕ
+newlines [] = 0
+newlines (c ∷ cs) = cond (eqb c 10) 1 0 + newlines cs
+
+-- each stretch is of bytes, and at most one line ends in it: so the program cuts its input
+abbrev pub Cut : List (List ℕ) → Type 0
+Cut [] = Unit {0}
+Cut (xs ∷ xss) = Bytes xs × (newlines xs ≤ 1) × Cut xss
