@@ -6,7 +6,8 @@ use session::Session;
 ghost use mathlib.Core.Path.{_≡_};
 ghost use Prim.Native.Nat.{_-_, _<_, _≤_};
 ghost use lib.ListN.{length, take, drop};
-ghost use Rattle.printing.specs.Run.{newlines};
+ghost use Rattle.session.specs.Run.{stateOf, Runs, ran};
+ghost use Rattle.printing.specs.Run.{newlines, emptiedIn};
 
 // The smaller of two numbers.
 fn least(a: usize, b: usize) -> usize
@@ -40,7 +41,7 @@ fn written(s: Session, out: &[u8]) -> bool {
 }
 
 // A stretch of input is run and what it prints is written out. The slice for texts has room for what any one line prints: `one-line-fits` in
-// the room `printing`.
+// the room `printing`, where this is a step of `inStretches`.
 fn run_stretch(
     s: Session,
     memory: &mut [u8],
@@ -51,6 +52,7 @@ fn run_stretch(
     out: &mut [u8],
 ) -> Session
     requires { ⌜ newlines (now input) ≤ 1 ⌝ }
+    ensures { λ r. ⌜ Runs (ran (emptiedIn (stateOf s (now (memory .entry)) (now (holding .entry)) (now (outgoing .entry)) (now (bytes .entry)) (now (out .entry)))) (now (input .entry))) r (now (memory .exit)) (now (holding .exit)) (now (outgoing .exit)) (now (bytes .exit)) (now (out .exit)) ⌝ }
 {
     let t = session::run(
         session::emptied(s),
