@@ -1,15 +1,15 @@
 -- A line prints its text and nothing else, wherever that goes; and what it does otherwise does not depend on what was printed.
 -- No contract cites this file. Assumes nothing.
 use mathlib.Core.Path.{_≡_, refl, sym, ap, _∙_}
-use mathlib.Core.List.{List, [], _++_}
+use mathlib.Core.List.{List, _++_}
 use Prim.Native.Nat.{ℕ, zero, suc, _%_}
-use Rattle.chip.specs.Call.{Call, reset, attention, arrive, turn}
+use Rattle.chip.specs.Call.{Call, reset, attention, turn}
 use Rattle.wording.specs.declared.Line.{Line}
 use Rattle.wording.specs.declared.Verb.{Verb}
 use Rattle.wording.specs.declared.Verb.the-variants as verb
 use Rattle.texts.specs.Texts.{Puts}
 use Rattle.texts.proofs.Laws.{puts-none, puts-cat}
-use Rattle.scene.specs.Scene.{Scene, called, turnsOf, turnCount, obeyed, areasBy}
+use Rattle.scene.specs.Scene.{Scene, called, turnsOf, turnCount, obeyed}
 use Rattle.printing.specs.Line.{callText, turnsText, lineText, quiet}
 
 -- ---- what is printed

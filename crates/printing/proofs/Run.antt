@@ -2,18 +2,17 @@
 -- Assumes nothing.
 use mathlib.Core.Path.{_≡_, refl, sym, ap, _∙_}
 use mathlib.Core.Bool.{Bool, true, false, cond}
-use mathlib.Core.List.{List, [], _∷_, _++_, append-nil, append-assoc}
+use mathlib.Core.List.{List, [], _∷_, _++_, append-assoc}
 use Prim.Native.Nat.{ℕ, _≤_}
 use lib.Dec.{eqb}
 use lib.ListN.{length, take}
-use lib.Seq.{length-sets}
 use Rattle.wording.specs.declared.Line.{Line}
 use Rattle.lines.specs.declared.Reader.{Reader}
 use Rattle.lines.specs.Reader as lines
 use Rattle.texts.specs.Texts.{Puts}
 use Rattle.texts.proofs.Laws.{puts-none, puts-cat, puts-is}
 use Rattle.texts.proofs.Lengths.{puts-whole}
-use Rattle.scene.specs.Scene.{Scene, playOf, sceneOf, obeyed}
+use Rattle.scene.specs.Scene.{Scene, playOf, sceneOf}
 use Rattle.printing.specs.Line.{lineText, quiet}
 use Rattle.printing.proofs.Line.{obeyed-puts, quiet-obeyed, text-quiet}
 use Rattle.session.specs.declared.Session.{Session}

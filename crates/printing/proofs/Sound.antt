@@ -1,15 +1,15 @@
--- A line leaves a sound scene sound, and every answer in it is short: `obeyed-sound`, `calls-short`. No contract cites this file.
+-- A line leaves a sound scene sound, and every answer in it is short: `obeyed-sound`, `called-short`. No contract cites this file.
 -- Assumes nothing.
 use mathlib.Core.Bool.{Bool, true, false, cond}
 use mathlib.Core.List.{List, [], _∷_, _++_}
-use Prim.Native.Nat.{ℕ, zero, suc, _%_, _≤_, _<_}
+use Prim.Native.Nat.{ℕ, zero, suc, _%_, _≤_}
 use native.Mathlib.Omega.{arith}
-use lib.ListN.{take, drop, set}
+use lib.ListN.{take, set}
 use lib.Seq.{sets}
 use Rattle.memory.proofs.Bytes.{Bytes, bytes-cons, bytes-tail, take-bytes, drop-bytes, set-bytes}
 use Rattle.device.specs.declared.Refusal.{Refusal}
 use Rattle.chip.specs.World.{worldOf}
-use Rattle.chip.specs.Call.{Call, reset, attention, arrive, turn, ran}
+use Rattle.chip.specs.Call.{Call, reset, attention, arrive, turn}
 use Rattle.closure.specs.Sound.{Sound, Fit}
 use Rattle.closure.proofs.Closed.{reset-closed, closed}
 use Rattle.closure.proofs.Answers.{sent-most}
@@ -20,8 +20,8 @@ use Rattle.wording.specs.declared.Area.the-variants as area
 use Rattle.wording.specs.declared.Line.{Line}
 use Rattle.wording.specs.declared.Verb.{Verb}
 use Rattle.wording.specs.declared.Verb.the-variants as verb
-use Rattle.scene.specs.Scene.{Scene, called, turnsOf, turnCount, areasBy, Areas, obeyed, many}
-use Rattle.printing.specs.Sound.{worldIn, SoundIn}
+use Rattle.scene.specs.Scene.{Scene, called, turnsOf, turnCount, areasBy, obeyed, many}
+use Rattle.printing.specs.Sound.{SoundIn}
 
 -- ---- lists of bytes
 

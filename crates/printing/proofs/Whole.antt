@@ -1,25 +1,22 @@
 -- What the program prints in all: `the-program-prints`. A stretch in which at most one line ends prints at most 655,350 characters, which is
 -- less than the slice for texts holds, so nothing is cut off; and in all the program prints what one run over the whole input prints.
 -- No contract cites this file. Assumes nothing.
-use mathlib.Core.Path.{_≡_, refl, sym, ap, _∙_}
+use mathlib.Core.Path.{_≡_, refl, ap, _∙_}
 use mathlib.Core.Bool.{Bool, true, false, cond}
-use mathlib.Core.List.{List, [], _∷_, _++_}
-use Prim.Native.Nat.{ℕ, _+_, _*_, _%_, _<_, _≤_, _^_, min}
+use mathlib.Core.List.{List, [], _∷_}
+use Prim.Native.Nat.{ℕ, _*_, _<_, _≤_, _^_}
 use native.Mathlib.Omega.{arith}
 use lib.Dec.{eqb}
 use lib.ListN.{length, take, length-append, length-take}
 use lib.Seq.{length-sets}
 use Rattle.memory.proofs.Bytes.{Bytes, take-bytes, bytes-tail}
-use Rattle.chip.specs.World.{worldOf}
 use Rattle.closure.proofs.Closed.{fresh-sound}
-use Rattle.wording.specs.declared.Line.{Line}
 use Rattle.lines.specs.declared.Reader.{Reader}
 use Rattle.lines.specs.Reader as lines
 use Rattle.texts.proofs.Lengths.{length-fault}
 use Rattle.scene.specs.Scene.{playOf, sceneOf}
 use Rattle.session.specs.declared.Session.{Session}
 use Rattle.session.specs.Run.{State, stateOf, start, expectedOf, faultOf, stoppedBy, lineObeyed, judged, lineEnded, fed, ran}
-use Rattle.printing.specs.Line.{lineText}
 use Rattle.printing.specs.Run.{judgedText, charText, textOf, emptiedIn, inStretches, joined, Room, newlines, Cut}
 use Rattle.printing.specs.Sound.{SoundIn, Narrow, Sane}
 use Rattle.printing.proofs.Sound.{obeyed-sound}

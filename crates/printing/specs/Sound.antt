@@ -1,5 +1,5 @@
 -- What every character and every line keep: a device in range, areas of bytes, and a reader whose numbers are small. Assumes nothing.
-use Prim.Native.Nat.{ℕ, _<_, _≤_, _^_}
+use Prim.Native.Nat.{_<_, _≤_, _^_}
 use lib.ListN.{length}
 use Rattle.memory.proofs.Bytes.{Bytes}
 use Rattle.chip.specs.World.{World, worldOf}
