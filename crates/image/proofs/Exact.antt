@@ -26,12 +26,12 @@ use Rattle.device.specs.declared.Settings.{Settings}
 use Rattle.device.specs.declared.Units.{Units}
 use Rattle.words.specs.Places.{bytesFrom, field}
 use Rattle.words.proofs.Laws.{field-below, piece, fit, digits-zero, from-bytes, length-from, whole, first-of, second-of, zero-append, one as field-one}
-use Rattle.phases.specs.Words.{flagsOf, odd, numberOf, cuTag, cuWord, cuShaped, ruTag, ruWord, ruRest, ruShaped, WordWide}
+use Rattle.phases.specs.Words.{flagsOf, odd, numberOf, cuTag, cuWord, cuShaped, ruTag, ruWord, ruRest, ruShaped, WordWide, FillingWide}
 use Rattle.image.specs.Ranges.{settingsFresh, unitsIdle, addressesFresh, sized, unitsFit, cuFits, frameFits, ruFits, unitsFresh, initialisedOrFresh, inRange, Wide}
 use Rattle.image.specs.Image.{front, eventByte, stateBits, settingBits, tagBytes, baseBytes, wordBytes, headBytes, unitBytes, addressBytes, imageOf, eventsOf, unitsOf, cuAt, ruAt, unitsAt, deviceFrom, deviceAt, headShaped, unitsShaped, spareZero, shaped, rangeFrom, decodeFull, decodeOf}
 use Rattle.image.specs.declared.Decoded.the-variants as is
 use Rattle.image.proofs.Steps.{full-taken, full-out, full-other, decode-full, device-full, length-head, length-units, length-image}
-use Rattle.phases.proofs.Units.{both, never, one-below, flag1, flag2, flag3, flag4, bits2, bits3, number-below, word-back, wide-of, cu-shaped, cu-back, cu-same, FillingWide, rest-below, ru-shaped, ru-back, ru-same}
+use Rattle.phases.proofs.Units.{both, never, one-below, flag1, flag2, flag3, flag4, bits2, bits3, number-below, word-back, wide-of, cu-shaped, cu-back, cu-same, rest-below, ru-shaped, ru-back, ru-same}
 
 -- ---- the events in their byte
 

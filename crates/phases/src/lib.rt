@@ -103,9 +103,9 @@ fn begun_word(b: Begun, kind: u8, size: u16, next: u16) -> Word
     let o = b.block;
     Word {
         at: o.0,
-        first: b.el,
+        first: b.interrupt,
         second: b.suspend,
-        third: b.interrupt,
+        third: b.el,
         fourth: b.pausing,
         fifth: false,
         sixth: false,
@@ -120,9 +120,9 @@ fn begun_of(w: Word) -> Begun
 {
     Begun {
         block: Offset(w.at),
-        el: w.first,
+        el: w.third,
         suspend: w.second,
-        interrupt: w.third,
+        interrupt: w.first,
         pausing: w.fourth,
     }
 }
@@ -257,8 +257,8 @@ fn storing_word(s: Storing, next: u16, full: bool) -> Word
     let f = s.frame;
     let w = frame_word(o, f, s.pausing);
     Word {
-        fourth: s.el,
-        fifth: s.suspend,
+        fourth: s.suspend,
+        fifth: s.el,
         sixth: full,
         next: next,
         ..w
@@ -277,8 +277,8 @@ pub fn ru_tag(u: Ru) -> u8
 {
     match u {
         Ru::Idle => 0,
-        Ru::NoResources => 1,
-        Ru::Suspended(_) => 2,
+        Ru::NoResources => 2,
+        Ru::Suspended(_) => 1,
         Ru::Ready(_) => 3,
         Ru::Held(_, _, _) => 4,
         Ru::Filling(_, _) => 5,
@@ -340,8 +340,8 @@ fn storing_of(w: Word) -> Storing
 {
     Storing {
         fd: Offset(w.at),
-        el: w.fourth,
-        suspend: w.fifth,
+        el: w.fifth,
+        suspend: w.fourth,
         pausing: w.first,
         frame: frame_of(w),
     }
@@ -363,8 +363,8 @@ pub fn ru_of(tag: u8, w: Word, rest: u64) -> Ru
 {
     match tag {
         0 => Ru::Idle,
-        1 => Ru::NoResources,
-        2 => Ru::Suspended(Offset(w.at)),
+        1 => Ru::Suspended(Offset(w.at)),
+        2 => Ru::NoResources,
         3 => Ru::Ready(Offset(w.at)),
         4 => Ru::Held(Offset(w.at), frame_of(w), w.first),
         5 => Ru::Filling(storing_of(w), filling_of(w, rest)),
@@ -378,8 +378,8 @@ fn ru_most(tag: u8) -> u64
 {
     match tag {
         0 => 0,
-        1 => 0,
-        2 => 0xFFFF,
+        1 => 0xFFFF,
+        2 => 0,
         3 => 0xFFFF,
         5 => 0xFFFFFFFFFFFFFFFF,
         6 => 0xFFFFFFFFFFFFFFFF,
