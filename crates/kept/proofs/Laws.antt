@@ -79,21 +79,63 @@ or-below a b g h = rw (raise-pair a b g h) (events-below _)
 
 -- ---- the parts of a status
 
-module _ (scb flags cu ru base : ℕ) (s : scb < 65536) (f : flags < 256) (c : cu < 256) (r : ru < 256) where
-  scb-part : statusBy scb flags cu ru base % 65536 ≡ scb
-  scb-part = omega arith
+-- in plain variables: events, tag, marks, tag, offset, base
+abbrev laid : (e c m r s b : ℕ) → ℕ
+laid e c m r s b = 16 * e + 256 * c + 4096 * m + 65536 * r + 16777216 * s + 1099511627776 * b
 
-  flags-part : statusBy scb flags cu ru base / 65536 % 256 ≡ flags
-  flags-part = omega arith
+module _ (e c m r s b : ℕ) (he : e < 16) (hc : c < 8) (hm : m < 4) (hr : r < 256) (hs : s < 65536) where
+  events-laid : laid e c m r s b / 16 % 16 ≡ e
+  events-laid =
+      let q : laid e c m r s b / 16 ≡ e + 16 * (c + 16 * m + 256 * r + 65536 * s + 4294967296 * b) = omega arith in
+      rw q (omega arith)
 
-  cu-part : statusBy scb flags cu ru base / 16777216 % 256 ≡ cu
-  cu-part = omega arith
+  cu-laid : laid e c m r s b / 256 % 8 ≡ c
+  cu-laid =
+      let q : laid e c m r s b / 256 ≡ c + 8 * (2 * m + 32 * r + 8192 * s + 536870912 * b) = omega arith in
+      rw q (omega arith)
 
-  ru-part : statusBy scb flags cu ru base / 4294967296 % 256 ≡ ru
-  ru-part = omega arith
+  marks-laid : laid e c m r s b / 4096 % 4 ≡ m
+  marks-laid =
+      let q : laid e c m r s b / 4096 ≡ m + 4 * (4 * r + 1024 * s + 67108864 * b) = omega arith in
+      rw q (omega arith)
+
+  ru-laid : laid e c m r s b / 65536 % 256 ≡ r
+  ru-laid =
+      let q : laid e c m r s b / 65536 ≡ r + 256 * (s + 65536 * b) = omega arith in
+      rw q (omega arith)
+
+  scb-laid : laid e c m r s b / 16777216 % 65536 ≡ s
+  scb-laid =
+      let q : laid e c m r s b / 16777216 ≡ s + 65536 * b = omega arith in
+      rw q (omega arith)
+
+  base-laid : laid e c m r s b / 1099511627776 ≡ b
+  base-laid = omega arith
+
+-- flags are four bits of events above two of their own, and a tag has three bits
+module _ (scb flags cu ru base : ℕ) (s : scb < 65536) (f : flags < 256) (g : flags % 16 < 4) (c : cu < 8) (r : ru < 256) where
+  high : flags / 16 < 16
+  high = omega arith
+
+  low : flags % 4 < 4
+  low = omega arith
+
+  scb-part : statusBy scb flags cu ru base / 16777216 % 65536 ≡ scb
+  scb-part = scb-laid (flags / 16) cu (flags % 4) ru scb base high c low r s
+
+  flags-part : statusBy scb flags cu ru base / 4096 % 4 + 16 * (statusBy scb flags cu ru base / 16 % 16) ≡ flags
+  flags-part =
+      let z : flags % 4 + 16 * (flags / 16) ≡ flags = omega arith in
+      rw (marks-laid (flags / 16) cu (flags % 4) ru scb base high c low r s, events-laid (flags / 16) cu (flags % 4) ru scb base high c low r s) z
+
+  cu-part : statusBy scb flags cu ru base / 256 % 8 ≡ cu
+  cu-part = cu-laid (flags / 16) cu (flags % 4) ru scb base high c low r s
+
+  ru-part : statusBy scb flags cu ru base / 65536 % 256 ≡ ru
+  ru-part = ru-laid (flags / 16) cu (flags % 4) ru scb base high c low r s
 
   base-part : statusBy scb flags cu ru base / 1099511627776 ≡ base
-  base-part = omega arith
+  base-part = base-laid (flags / 16) cu (flags % 4) ru scb base high c low r s
 
 pub cu-tag-below : (c : Cu) → cuTag c < 8
 cu-tag-below cu.Idle = omega arith
@@ -117,6 +159,9 @@ ru-tag-below (ru.Lacking s) = omega arith
 pub flags-below : (i l : Bool) (e : Events) → flagsBy i l e < 256
 flags-below i l e = omega (arith, one-below i, one-below l, events-below e)
 
+pub flags-low : (i l : Bool) (e : Events) → flagsBy i l e % 16 < 4
+flags-low i l e = omega (arith, one-below i, one-below l)
+
 -- ---- what is read of a state's numbers
 
 module _ (u : Units) (k : Kept) (h : KeptIs u k) where
@@ -125,19 +170,19 @@ module _ (u : Units) (k : Kept) (h : KeptIs u k) where
   status-is = ap (λ (x : Kept). x .status) (h .same)
 
   pub scb-is : scbIn k ≡ u .scb .0
-  scb-is = rw status-is (scb-part _ _ _ _ _ (h .wide .scb-wide) (flags-below (u .initialised) (u .rulast) (u .events)) (omega (arith, cu-tag-below (u .cu))) (omega (arith, ru-tag-below (u .ru))))
+  scb-is = rw status-is (scb-part _ _ _ _ _ (h .wide .scb-wide) (flags-below (u .initialised) (u .rulast) (u .events)) (flags-low (u .initialised) (u .rulast) (u .events)) (cu-tag-below (u .cu)) (omega (arith, ru-tag-below (u .ru))))
 
   pub flags-is : flagsIn k ≡ flagsOf u
-  flags-is = rw status-is (flags-part _ _ _ _ _ (h .wide .scb-wide) (flags-below (u .initialised) (u .rulast) (u .events)) (omega (arith, cu-tag-below (u .cu))) (omega (arith, ru-tag-below (u .ru))))
+  flags-is = rw status-is (flags-part _ _ _ _ _ (h .wide .scb-wide) (flags-below (u .initialised) (u .rulast) (u .events)) (flags-low (u .initialised) (u .rulast) (u .events)) (cu-tag-below (u .cu)) (omega (arith, ru-tag-below (u .ru))))
 
   cu-tag-is : cuTagIn k ≡ cuTag (u .cu)
-  cu-tag-is = rw status-is (cu-part _ _ _ _ _ (h .wide .scb-wide) (flags-below (u .initialised) (u .rulast) (u .events)) (omega (arith, cu-tag-below (u .cu))) (omega (arith, ru-tag-below (u .ru))))
+  cu-tag-is = rw status-is (cu-part _ _ _ _ _ (h .wide .scb-wide) (flags-below (u .initialised) (u .rulast) (u .events)) (flags-low (u .initialised) (u .rulast) (u .events)) (cu-tag-below (u .cu)) (omega (arith, ru-tag-below (u .ru))))
 
   ru-tag-is : ruTagIn k ≡ ruTag (u .ru)
-  ru-tag-is = rw status-is (ru-part _ _ _ _ _ (h .wide .scb-wide) (flags-below (u .initialised) (u .rulast) (u .events)) (omega (arith, cu-tag-below (u .cu))) (omega (arith, ru-tag-below (u .ru))))
+  ru-tag-is = rw status-is (ru-part _ _ _ _ _ (h .wide .scb-wide) (flags-below (u .initialised) (u .rulast) (u .events)) (flags-low (u .initialised) (u .rulast) (u .events)) (cu-tag-below (u .cu)) (omega (arith, ru-tag-below (u .ru))))
 
   pub base-is : baseIn k ≡ u .base .0
-  base-is = rw status-is (base-part _ _ _ _ _ (h .wide .scb-wide) (flags-below (u .initialised) (u .rulast) (u .events)) (omega (arith, cu-tag-below (u .cu))) (omega (arith, ru-tag-below (u .ru))))
+  base-is = rw status-is (base-part _ _ _ _ _ (h .wide .scb-wide) (flags-below (u .initialised) (u .rulast) (u .events)) (flags-low (u .initialised) (u .rulast) (u .events)) (cu-tag-below (u .cu)) (omega (arith, ru-tag-below (u .ru))))
 
   pub cu-is : CuIs (u .cu) (cuTagIn k) (k .cu)
   unfolding keptOf
@@ -177,19 +222,8 @@ ru-of u tag n rest h = rw (h .tag-is, h .word-is, h .rest-is, word-back (ruWord 
 
 -- ---- a state put together from numbers
 
--- a status of parts that fit
-whole : (scb flags cu ru base : ℕ) → scb < 65536 → flags < 256 → cu < 256 → ru < 256 → base < 16777216
-    → statusBy (scb % 65536) (flags % 256) (cu % 256) (ru % 256) (base % 16777216) ≡ statusBy scb flags cu ru base
-whole scb flags cu ru base a b c d e =
-    let p : scb % 65536 ≡ scb = omega arith in
-    let q : flags % 256 ≡ flags = omega arith in
-    let r : cu % 256 ≡ cu = omega arith in
-    let s : ru % 256 ≡ ru = omega arith in
-    let t : base % 16777216 ≡ base = omega arith in
-    rw (p, q, r, s, t)
-
 module _ (u : Units) (k : Kept) (h : KeptIs u k) where
-  cut-scb : k .status % 65536 ≡ u .scb .0
+  cut-scb : k .status / 16777216 % 65536 ≡ u .scb .0
   cut-scb = scb-is u k h
 
   cut-base : k .status / 1099511627776 ≡ u .base .0
@@ -201,15 +235,14 @@ module _ (u : Units) (k : Kept) (h : KeptIs u k) where
   module _ (c : Cu) (v : Ru) (i l : Bool) (e : Events) (flags cutag cuword rutag ruword rest : ℕ)
       (f : flags ≡ flagsBy i l e) (hc : CuIs c cutag cuword) (hv : RuIs v rutag ruword rest) where
     pub together : KeptIs (record { initialised = i; base = u .base; scb = u .scb; events = e; rulast = l; settings = u .settings; cu = c; ru = v })
-        (record { status = statusBy (k .status % 65536) (flags % 256) (cutag % 256) (rutag % 256) (k .status / 1099511627776 % 16777216); cu = cuword; ru = ruword; rest = rest })
+        (record { status = statusBy (k .status / 16777216 % 65536) (flags % 256) (cutag % 8) (rutag % 256) (k .status / 1099511627776 % 16777216); cu = cuword; ru = ruword; rest = rest })
     unfolding keptOf
     together =
-        let d : (k .status % 65536) % 65536 ≡ u .scb .0 = omega (arith, cut-scb) in
-        let s : statusBy (k .status % 65536) (flags % 256) (cutag % 256) (rutag % 256) (k .status / 1099511627776 % 16777216)
+        let s : statusBy (k .status / 16777216 % 65536) (flags % 256) (cutag % 8) (rutag % 256) (k .status / 1099511627776 % 16777216)
         ≡ statusBy (u .scb .0) (flagsBy i l e) (cuTag c) (ruTag v) (u .base .0) =
         rw (cut-base, f, hc .tag-is, hv .tag-is)
         (let p : flagsBy i l e % 256 ≡ flagsBy i l e = omega (arith, flags-below i l e) in
-        let q : cuTag c % 256 ≡ cuTag c = omega (arith, cu-tag-below c) in
+        let q : cuTag c % 8 ≡ cuTag c = omega (arith, cu-tag-below c) in
         let r : ruTag v % 256 ≡ ruTag v = omega (arith, ru-tag-below v) in
         let t : u .base .0 % 16777216 ≡ u .base .0 = omega (arith, h .wide .base-wide) in
         rw (p, q, r, t, cut-scb)) in

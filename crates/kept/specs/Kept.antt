@@ -20,9 +20,11 @@ flagsBy initialised rulast events = one initialised + 2 * one rulast + 16 * even
 abbrev pub flagsOf : Units → ℕ
 flagsOf u = flagsBy (u .initialised) (u .rulast) (u .events)
 
--- two bytes of the SCB's offset, one of flags, one of each unit's tag, three of the base
+-- eight bytes, in the order of the record from byte 5 on: bits 7-4 the events; bits 2-0 the CU's tag, bit 4 initialised, bit 5 RU served last; the
+-- RU's tag; two bytes of the SCB's offset; three of the base
 abbrev pub statusBy : (scb flags cu ru base : ℕ) → ℕ
-statusBy scb flags cu ru base = scb + 65536 * flags + 16777216 * cu + 4294967296 * ru + 1099511627776 * base
+statusBy scb flags cu ru base =
+    16 * (flags / 16) + 256 * cu + 4096 * (flags % 4) + 65536 * ru + 16777216 * scb + 1099511627776 * base
 
 abbrev pub statusOf : Units → ℕ
 statusOf u = statusBy (u .scb .0) (flagsOf u) (cuTag (u .cu)) (ruTag (u .ru)) (u .base .0)
@@ -48,16 +50,16 @@ ruServed u v by = withEvents (servedRu (withRu u v) true) (raise (u .events) by)
 -- ---- what is read of the status
 
 abbrev pub scbIn : Kept → ℕ
-scbIn k = k .status % 65536
+scbIn k = k .status / 16777216 % 65536
 
 abbrev pub flagsIn : Kept → ℕ
-flagsIn k = k .status / 65536 % 256
+flagsIn k = k .status / 4096 % 4 + 16 * (k .status / 16 % 16)
 
 abbrev pub cuTagIn : Kept → ℕ
-cuTagIn k = k .status / 16777216 % 256
+cuTagIn k = k .status / 256 % 8
 
 abbrev pub ruTagIn : Kept → ℕ
-ruTagIn k = k .status / 4294967296 % 256
+ruTagIn k = k .status / 65536 % 256
 
 abbrev pub baseIn : Kept → ℕ
 baseIn k = k .status / 1099511627776

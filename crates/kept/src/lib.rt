@@ -13,7 +13,7 @@ ghost use Rattle.device.specs.declared.Units.{Units};
 ghost use Rattle.phases.specs.Words.{odd};
 ghost use Rattle.kept.specs.Kept as kept;
 
-// The status: the SCB's offset, flags, the units' tags, the base. Then the command unit's word, and the receive unit's two.
+// The status: events, flags, the units' tags, the SCB's offset, the base. Then the command unit's word, and the receive unit's two.
 pub struct Kept {
     pub status: u64,
     pub cu: u64,
@@ -32,33 +32,33 @@ pub fn base(k: Kept) -> RealAddress
 pub fn scb(k: Kept) -> Offset
     ensures { λ r. ⌜ r .0 ≡ kept.scbIn k ⌝ }
 {
-    Offset((k.status % 65536) as u16)
+    Offset((k.status / 16777216 % 65536) as u16)
 }
 
 // Bit 0 initialised, bit 1 RU served last, bits 7 to 4 the events.
 pub fn flags(k: Kept) -> u64
     ensures { λ r. ⌜ r ≡ kept.flagsIn k ⌝ }
 {
-    k.status / 65536 % 256
+    k.status / 4096 % 4 + 16 * (k.status / 16 % 16)
 }
 
 // The events as a number below 16.
 pub fn events(k: Kept) -> u64
     ensures { λ r. ⌜ r ≡ kept.flagsIn k / 16 ⌝ }
 {
-    flags(k) / 16
+    k.status / 16 % 16
 }
 
 pub fn cu_tag(k: Kept) -> u64
     ensures { λ r. ⌜ r ≡ kept.cuTagIn k ⌝ }
 {
-    k.status / 16777216 % 256
+    k.status / 256 % 8
 }
 
 pub fn ru_tag(k: Kept) -> u64
     ensures { λ r. ⌜ r ≡ kept.ruTagIn k ⌝ }
 {
-    k.status / 4294967296 % 256
+    k.status / 65536 % 256
 }
 
 // ---- what is read of a unit's word
@@ -107,12 +107,13 @@ pub fn raise(events: u64, raised: u64) -> u64
 
 // The status of its parts. What would not fit into its field is cut, though no caller has such a number.
 pub fn status_of(scb: u64, flags: u64, cu: u64, ru: u64, base: u64) -> u64
-    ensures { λ r. ⌜ r ≡ kept.statusBy (scb % 65536) (flags % 256) (cu % 256) (ru % 256) (base % 16777216) ⌝ }
+    ensures { λ r. ⌜ r ≡ kept.statusBy (scb % 65536) (flags % 256) (cu % 8) (ru % 256) (base % 16777216) ⌝ }
 {
-    scb % 65536
-        + 65536 * (flags % 256)
-        + 16777216 * (cu % 256)
-        + 4294967296 * (ru % 256)
+    16 * (flags % 256 / 16)
+        + 256 * (cu % 8)
+        + 4096 * (flags % 256 % 4)
+        + 65536 * (ru % 256)
+        + 16777216 * (scb % 65536)
         + 1099511627776 * (base % 16777216)
 }
 
@@ -122,7 +123,13 @@ pub fn after_cu(k: Kept, tag: u64, word: u64, raised: u64) -> Kept
 {
     let flags = flags(k) % 2 + 16 * raise(events(k), raised % 16);
     Kept {
-        status: status_of(k.status, flags, tag, ru_tag(k), k.status / 1099511627776),
+        status: status_of(
+            k.status / 16777216,
+            flags,
+            tag,
+            ru_tag(k),
+            k.status / 1099511627776,
+        ),
         cu: word,
         ru: k.ru,
         rest: k.rest,
@@ -135,7 +142,13 @@ pub fn after_ru(k: Kept, tag: u64, word: u64, rest: u64, raised: u64) -> Kept
 {
     let flags = flags(k) % 2 + 2 + 16 * raise(events(k), raised % 16);
     Kept {
-        status: status_of(k.status, flags, cu_tag(k), tag, k.status / 1099511627776),
+        status: status_of(
+            k.status / 16777216,
+            flags,
+            cu_tag(k),
+            tag,
+            k.status / 1099511627776,
+        ),
         cu: k.cu,
         ru: word,
         rest: rest,
@@ -147,7 +160,13 @@ pub fn with_ru(k: Kept, tag: u64, word: u64, rest: u64) -> Kept
     ensures { λ r. ⌜ ((u : Units) (v : Ru) → kept.KeptIs u k → kept.RuIs v tag word rest → kept.KeptIs (change.withRu u v) r) ⌝ }
 {
     Kept {
-        status: status_of(k.status, flags(k), cu_tag(k), tag, k.status / 1099511627776),
+        status: status_of(
+            k.status / 16777216,
+            flags(k),
+            cu_tag(k),
+            tag,
+            k.status / 1099511627776,
+        ),
         cu: k.cu,
         ru: word,
         rest: rest,

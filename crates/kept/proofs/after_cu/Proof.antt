@@ -51,9 +51,9 @@ returns c u v by h hv e =
     let s : tie.Start = search needs in
     let k = s .args .k in
     let m : s .args .raised % 16 ≡ eventBits by = rw e (omega (arith, events-below by)) in
-    let x = c .before .before .before .raise .ensures .1 (u .events) by (c .before .before .before .before .events .ensures ∙ events-is u k h) m in
+    let x = c .before .before .before .before .raise .ensures .1 (u .events) by (c .before .before .before .before .before .events .ensures ∙ events-is u k h) m in
     let f : flagsIn k % 2 + 16 * eventBits (raise (u .events) by) ≡ flagsBy (u .initialised) false (raise (u .events) by) = omega (arith, low-flag u k h) in
-    rw (c .status-of .ensures, c .before .before .ru-tag .ensures, c .before .before .before .before .before .flags .ensures, x)
+    rw (c .status-of .ensures, c .before .before .ru-tag .ensures, c .before .before .before .before .before .before .flags .ensures, x)
     (together u k h v (u .ru) (u .initialised) false (raise (u .events) by) (flagsIn k % 2 + 16 * eventBits (raise (u .events) by)) (s .args .tag) (s .args .word)
     (ruTagIn k) (k .ru) (k .rest) f hv (ru-is u k h))
 

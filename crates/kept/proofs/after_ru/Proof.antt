@@ -55,9 +55,9 @@ returns c u v by h hv e =
     let s : tie.Start = search needs in
     let k = s .args .k in
     let m : s .args .raised % 16 ≡ eventBits by = rw e (omega (arith, events-below by)) in
-    let x = c .before .before .before .raise .ensures .1 (u .events) by (c .before .before .before .before .events .ensures ∙ events-is u k h) m in
+    let x = c .before .before .before .before .raise .ensures .1 (u .events) by (c .before .before .before .before .before .events .ensures ∙ events-is u k h) m in
     let f : flagsIn k % 2 + 2 + 16 * eventBits (raise (u .events) by) ≡ flagsBy (u .initialised) true (raise (u .events) by) = omega (arith, low-flag u k h) in
-    rw (c .status-of .ensures, c .before .before .cu-tag .ensures, c .before .before .before .before .before .flags .ensures, x)
+    rw (c .status-of .ensures, c .before .before .cu-tag .ensures, c .before .before .before .before .before .before .flags .ensures, x)
     (together u k h (u .cu) v (u .initialised) true (raise (u .events) by) (flagsIn k % 2 + 2 + 16 * eventBits (raise (u .events) by)) (cuTagIn k) (k .cu)
     (s .args .tag) (s .args .word) (s .args .rest) f (cu-is u k h) hv)
 
