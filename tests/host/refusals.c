@@ -4,7 +4,7 @@
 /* docs/record.md: bytes that are zero in every record */
 enum { SPARE_FIRST = 46, SPARE_LAST = 159 };
 
-static const enum call_kind KINDS[] = {CALL_ATTENTION, CALL_ARRIVAL, CALL_TURN};
+static const enum call_kind KINDS[] = {CALL_ATTENTION, CALL_ARRIVAL, CALL_TURN, CALL_RUN};
 
 /* A pattern, so that a changed byte shows. */
 static void fill(const struct area *area)
