@@ -135,11 +135,12 @@ out-all m d a at (suc n) =
     sets-past d at (bytesAt m a (min (suc n) (length d - at))) h ∙ sym (sets-past d at (bytesAt m a (suc n)) h))
     (below-or-not at (length d))
 
-pub run-step : (d : List ℕ) (at : ℕ) (src : List ℕ) (i : ℕ) → i < length src
-    → set (sets d at (take i src)) (at + i) (getD src i 0) ≡ sets d at (take (i + 1) src)
-run-step d at src i h =
-    let e : length (take i src) ≡ i = length-take-le i src (omega arith) in
-    sym (rw (add-one, take-suc src i 0 h, sets-append, e))
+pub run-step : (d : List ℕ) (to : ℕ) (src : List ℕ) (from i : ℕ) → from + i < length src
+    → set (sets d to (take i (drop from src))) (to + i) (getD src (from + i) 0) ≡ sets d to (take (i + 1) (drop from src))
+run-step d to src from i h =
+    let k : i < length (drop from src) = simp length-drop (omega arith) in
+    let e : length (take i (drop from src)) ≡ i = length-take-le i (drop from src) (omega arith) in
+    sym (rw (add-one, take-suc (drop from src) i 0 k, sets-append, e, getD-drop))
 
 pub run-all : (d : List ℕ) (at : ℕ) (src : List ℕ) → sets d at (take (min (length src) (length d - at)) src) ≡ sets d at src
 run-all d at [] = let k : min 0 (length d - at) ≡ 0 = omega arith in rw k

@@ -4,3 +4,4 @@ pub mod Fields
 pub mod Bytes
 pub mod Power
 pub mod Places
+pub mod Runs

@@ -2,8 +2,8 @@
 // The only room that indexes shared memory, and the only one that makes a real address.
 ghost use mathlib.Core.Path.{_≡_};
 ghost use mathlib.Core.List.{[], _∷_};
-ghost use Prim.Native.Nat.{_+_, _-_, _%_, _<_, min};
-ghost use lib.ListN.{take, drop};
+ghost use Prim.Native.Nat.{_+_, _-_, _*_, _%_, _≤_, _<_, min};
+ghost use lib.ListN.{length, take, drop};
 ghost use lib.Seq.{sets};
 ghost use Rattle.memory.specs.Memory.{byteAt, putByte, wordAt, bytesAt, putBytes, digits};
 ghost use Rattle.memory.specs.Address.{place, beyond, offsetAt, isNone, addressAt, realOf, origin, scp};
@@ -105,12 +105,26 @@ pub fn byte_at(m: &[u8], a: RealAddress) -> u8
     read(m, a.0 as usize)
 }
 
-// The word at a, low byte first. Each byte's address wraps by itself, so a word may lie across the end of memory.
+// The number that two bytes spell, the low one first.
+fn spelled(low: u8, high: u8) -> u16
+    ensures { λ r. ⌜ r ≡ low + 256 * high ⌝ }
+{
+    low as u16 + 256 * high as u16
+}
+
+// The word at a, low byte first. Each byte's address wraps by itself, so a word may lie across the end of memory: then its second byte is the
+// first of all. Elsewhere the two lie side by side, and one load reads both.
 pub fn word_at(m: &[u8], a: RealAddress) -> u16
     ensures { λ r. ⌜ r ≡ wordAt (now (m .entry)) (a .0) ⌝ }
 {
-    let p = a.0 as usize;
-    read(m, p) as u16 + 256 * read(m, p + 1) as u16
+    if m.len() == 0 {
+        return 0;
+    }
+    let i = slot(a.0 as usize, m.len());
+    if i < m.len() - 1 {
+        return spelled(m[i], m[i + 1]);
+    }
+    spelled(m[i], m[0])
 }
 
 // The word at a, which is an offset.
@@ -135,13 +149,23 @@ pub fn put_byte(m: &mut [u8], a: RealAddress, v: u8)
     write(m, a.0 as usize, v);
 }
 
-// The word w goes to a, low byte first.
+// The word w goes to a, low byte first. One store writes it, unless it lies across the end of memory.
 pub fn put_word(m: &mut [u8], a: RealAddress, w: u16)
     ensures { λ _. ⌜ now (m .exit) ≡ putBytes (now (m .entry)) (a .0) (digits 2 w) ⌝ }
 {
-    let p = a.0 as usize;
-    write(m, p, (w % 256) as u8);
-    write(m, p + 1, (w / 256) as u8);
+    if m.len() == 0 {
+        return;
+    }
+    let low = (w % 256) as u8;
+    let high = (w / 256) as u8;
+    let i = slot(a.0 as usize, m.len());
+    if i < m.len() - 1 {
+        m[i] = low;
+        m[i + 1] = high;
+        return;
+    }
+    m[i] = low;
+    m[0] = high;
 }
 
 // One more in the word at a, from 65,535 back to 0.
@@ -165,20 +189,28 @@ fn room(len: usize, at: usize, n: usize) -> usize
     n
 }
 
+// The k bytes of src from index from on go to dst from index to on. No index wraps, so that the machine may copy many bytes at once.
+fn copy_run(dst: &mut [u8], to: usize, src: &[u8], from: usize, k: usize)
+    requires { ⌜ (k ≤ length (now dst) - to) × (k ≤ length (now src) - from) ⌝ }
+    ensures { λ _. ⌜ now (dst .exit) ≡ sets (now (dst .entry)) to (take k (drop from (now (src .entry)))) ⌝ }
+{
+    let mut i = 0;
+    while i < k {
+        dst[to + i] = src[from + i];
+        i += 1;
+    }
+}
+
 // The bytes of src go to dst from index at on; what would pass the end of dst goes nowhere.
 pub fn put_run(dst: &mut [u8], at: usize, src: &[u8])
     ensures { λ _. ⌜ now (dst .exit) ≡ sets (now (dst .entry)) at (now (src .entry)) ⌝ }
 {
     let k = room(dst.len(), at, src.len());
-    let mut i = 0;
-    while i < k {
-        dst[at + i] = src[i];
-        i += 1;
-    }
+    copy_run(dst, at, src, 0, k);
 }
 
-// The n bytes of memory from a on go to dst from index at on; what would pass the end of dst goes nowhere.
-pub fn copy_out(m: &[u8], a: RealAddress, n: usize, dst: &mut [u8], at: usize)
+// What `copy_out` does, byte by byte, as each address wraps by itself.
+fn copy_around(m: &[u8], a: RealAddress, n: usize, dst: &mut [u8], at: usize)
     ensures { λ _. ⌜ now (dst .exit) ≡ sets (now (dst .entry)) at (bytesAt (now (m .entry)) (a .0) n) ⌝ }
 {
     let p = a.0 as usize;
@@ -190,8 +222,24 @@ pub fn copy_out(m: &[u8], a: RealAddress, n: usize, dst: &mut [u8], at: usize)
     }
 }
 
-// The n bytes of src from index at on, or as many as there are, go to memory from a on.
-pub fn copy_in(m: &mut [u8], a: RealAddress, src: &[u8], at: usize, n: usize)
+// The n bytes of memory from a on go to dst from index at on; what would pass the end of dst goes nowhere. Bytes that do not pass the end of
+// memory are one run.
+pub fn copy_out(m: &[u8], a: RealAddress, n: usize, dst: &mut [u8], at: usize)
+    ensures { λ _. ⌜ now (dst .exit) ≡ sets (now (dst .entry)) at (bytesAt (now (m .entry)) (a .0) n) ⌝ }
+{
+    if m.len() != 0 {
+        let i = slot(a.0 as usize, m.len());
+        let k = room(dst.len(), at, n);
+        if k <= m.len() - i {
+            copy_run(dst, at, m, i, k);
+            return;
+        }
+    }
+    copy_around(m, a, n, dst, at);
+}
+
+// What `copy_in` does, byte by byte, as each address wraps by itself.
+fn put_around(m: &mut [u8], a: RealAddress, src: &[u8], at: usize, n: usize)
     ensures { λ _. ⌜ now (m .exit) ≡ putBytes (now (m .entry)) (a .0) (take n (drop at (now (src .entry)))) ⌝ }
 {
     let p = a.0 as usize;
@@ -201,4 +249,19 @@ pub fn copy_in(m: &mut [u8], a: RealAddress, src: &[u8], at: usize, n: usize)
         write(m, p + i, src[at + i]);
         i += 1;
     }
+}
+
+// The n bytes of src from index at on, or as many as there are, go to memory from a on; they are one run where they do not pass its end.
+pub fn copy_in(m: &mut [u8], a: RealAddress, src: &[u8], at: usize, n: usize)
+    ensures { λ _. ⌜ now (m .exit) ≡ putBytes (now (m .entry)) (a .0) (take n (drop at (now (src .entry)))) ⌝ }
+{
+    if m.len() != 0 {
+        let i = slot(a.0 as usize, m.len());
+        let k = room(src.len(), at, n);
+        if k <= m.len() - i {
+            copy_run(m, i, src, at, k);
+            return;
+        }
+    }
+    put_around(m, a, src, at, n);
 }

@@ -1,48 +1,33 @@
--- `memory::copy_out` meets its contract. The invariant: the first i bytes are in `dst`. Assumes nothing.
-use mathlib.Core.Path.{_≡_}
-use Prim.Native.Nat.{_-_, _≤_}
-use native.Mathlib.Nat.{le-antisymm}
+-- `memory::copy_out` meets its contract: the bytes are one run where they do not pass the end of memory. Assumes nothing.
+use native.Mathlib.Nat.{le-of-lt}
 use borrow.Author.Needs.{needs}
-use lib.ListN.{length}
-use lib.Seq.{sets}
-use Rattle.memory.specs.Memory.{bytesAt}
-use Rattle.memory.proofs.Laws.{out-step, out-all}
+use Rattle.memory.proofs.Laws.{memory}
+use Rattle.memory.proofs.Runs.{out-run}
 use Rattle.memory.proofs.copy_out.Statement.{statement}
 use Rattle.memory.proofs.copy_out.Tie as tie
 
-abbrev Inv-loop : tie.InvT-loop
-Inv-loop m n dst₀ at p k i₀ dst i = (i ≤ k) × (length dst ≡ length dst₀) × (dst ≡ sets dst₀ at (bytesAt m p i))
-
-abbrev μ-loop : tie.MeasureT-loop
-μ-loop m n dst₀ at p k i₀ dst i = k - i
-
-loop-holds : tie.Need-loop-holds Inv-loop μ-loop
-unfolding bytesAt
-loop-holds c = search needs
-
-loop-again : tie.Need-loop-again Inv-loop μ-loop
-loop-again c = (search needs, search needs, rw out-step cc)
-
-returns : tie.Need-returns Inv-loop μ-loop
+returns : tie.Need-returns
 returns c =
-    let s : tie.Start Inv-loop μ-loop = search needs in
-    cc (le-antisymm (c .before .loop .inv .0) (c .loop-test .left), out-all (s .args .m .now) (s .args .dst .now) (s .args .a .0) (s .args .at) (s .args .n))
+    let s : tie.Start = search needs in
+    let n : tie.Then1 = search needs in
+    let i : tie.After-slot = search needs in
+    let k : tie.After-room = search needs in
+    let t : tie.Then2 = search needs in
+    cc
+    (out-run (s .args .m .now) (s .args .dst .now) (s .args .a .0) (i .slot .result) (s .args .at) (s .args .n) (k .room .result)
+    (i .slot .ensures) (n .if1 .taken) (k .room .ensures) (t .if2 .taken))
 
 pub copy-out-spec : {M : Type 1} → statement M
 copy-out-spec =
     tie.close
     (tie.spec
-    Inv-loop
-    μ-loop
     (λ c. search needs)
     (λ c κs. search needs)
-    loop-holds
-    (λ c. search needs)
+    (λ c κs. search needs)
+    (λ c. search (memory, le-of-lt))
     (λ c κs. search needs)
     (λ c. search needs)
+    returns
+    (λ c κs. search needs)
     (λ c. search needs)
-    (λ c. search needs)
-    (λ c. search needs)
-    loop-again
-    (λ c. search needs)
-    returns)
+    (λ c. search needs))
