@@ -3,3 +3,4 @@ pub mod Board
 pub mod Papers
 pub mod Swaps
 pub mod Status
+pub mod Run
