@@ -31,7 +31,7 @@ use Rattle.chip.proofs.Moves.{unchanged-stops}
 use Rattle.chip.proofs.Run.{Cause, going-quiet, sent-stops, edge-stops, stops-cause, run-stops, run-goes, run-most, run-some}
 use Rattle.chip.proofs.Run as cause
 use Rattle.lentoquist.specs.Calls.{Areas, areasOf, Called, packed, refusalOf, refused, keptBy, decodedOn, unlessRefused, calledOn, calledBy, keptRun, turnCall, runCall}
-use Rattle.lentoquist.proofs.Laws.{run-accepted}
+use Rattle.lentoquist.proofs.Laws as laws
 use Rattle.traces.specs.Bytes.{called, number, sentLength, edge, isRefused}
 use Rattle.closure.specs.Sound.{Sound, Lent}
 use Rattle.closure.specs.Refusals.{Holds, AreasRight, Untouched, When}
@@ -295,7 +295,7 @@ took (suc n) a w report l s e =
 run-same : (a : Areas) (d : Device) (report budget : ℕ) → Holds (a .kept) d → Allowed (length (a .memory)) → AreasRight a
     → runCall a report budget ≡ keptRun (runOf budget (worldIn d a) report)
 run-same a d report budget h s r =
-    run-accepted a report budget (d .units) (size-allowed (length (a .memory)) s) (right-lengths a (holds-length (a .kept) d h) r)
+    laws.run-accepted a report budget (d .units) (size-allowed (length (a .memory)) s) (right-lengths a (holds-length (a .kept) d h) r)
     (holds-decoded (a .kept) d h)
     ∙ ap (λ (x : Device). keptRun (runOf budget (worldIn x a) report)) (holds-back (a .kept) d h)
 
@@ -354,3 +354,24 @@ one-run a report budget x y s t =
     let z : x .answer ≡ y .answer = omega (arith, k, p) in
     let b : x .areas ≡ y .areas = s .areas ∙ ap (λ (n : ℕ). turnsOn n a report) k ∙ sym (t .areas) in
     λ i. record { answer = z i; areas = b i }
+
+taken-by : (x : Bool) (a : Areas) (report budget k : ℕ) → isRefused (runCall a report budget) ≡ x
+    → turnsTaken (runCall a report budget .answer) ≡ suc k → x ≡ false
+taken-by true a report budget k e t = absurd (omega (arith, t, run-untouched a report budget e .edge))
+taken-by false a report budget k e t = refl
+
+-- a run that took a turn was not refused, nor is a turn there
+pub taken-accepted : (a : Areas) (report budget k : ℕ) → turnsTaken (runCall a report budget .answer) ≡ suc k
+    → isRefused (turnCall a report) ≡ false
+taken-accepted a report budget k t =
+    sym (run-refused-as a report budget) ∙ taken-by (isRefused (runCall a report budget)) a report budget k refl t
+
+-- and where a turn is not refused, neither is the next
+pub turn-again : (a : Areas) (report : ℕ) → Lent a → isRefused (turnCall a report) ≡ false
+    → isRefused (turnCall (turnCall a report .areas) report) ≡ false
+turn-again a report l e =
+    let x = not-refused (turn report) a (l .kept) e in
+    next-accepted a (worldIn (x .3 .0) a) report l (record { memory = refl; holding = refl; outgoing = refl; kept = x .3 .1 }) e
+
+pub run-accepted : (a : Areas) (report budget : ℕ) → isRefused (turnCall a report) ≡ false → isRefused (runCall a report budget) ≡ false
+run-accepted a report budget e = run-refused-as a report budget ∙ e
