@@ -4,7 +4,7 @@ use mathlib.Core.Path.{_≡_, refl, sym, ap, _∙_, subst}
 use mathlib.Core.Bool.{Bool, true, false, not, false≢true}
 use mathlib.Core.List.{[]}
 use mathlib.Core.Logic.{_⊎_, inl, inr, ⊎-elim}
-use Prim.Native.Nat.{ℕ, zero, suc, _+_, _*_, _/_, _%_, _^_, _≤_, _<_}
+use Prim.Native.Nat.{ℕ, zero, suc, _+_, _*_, _%_, _≤_, _<_}
 use native.Mathlib.Omega.{arith}
 use borrow.Author.Tests.{eq-eqb}
 use lib.Dec.{eqb}
@@ -25,14 +25,14 @@ use Rattle.image.specs.declared.Decoded.the-variants as is
 use Rattle.image.proofs.Exact.{one-state}
 use Rattle.chip.specs.World.{World, Ran, worldOf, afterwards}
 use Rattle.chip.specs.Turn.{turnOf}
-use Rattle.chip.specs.Run.{stopsAt, Run, noTurn, lastTurn, oneMore, goesOn, runOf}
-use Rattle.chip.specs.Call.{turn, ran}
+use Rattle.chip.specs.Run.{stopsAt, Run, lastTurn, oneMore, goesOn, runOf}
+use Rattle.chip.specs.Call.{turn}
 use Rattle.chip.proofs.Moves.{unchanged-stops}
-use Rattle.chip.proofs.Run.{Cause, going-quiet, sent-stops, edge-stops, stops-cause, run-stops, run-goes, run-most, run-some}
+use Rattle.chip.proofs.Run.{Cause, going-quiet, sent-stops, edge-stops, stops-cause}
 use Rattle.chip.proofs.Run as cause
-use Rattle.lentoquist.specs.Calls.{Areas, areasOf, Called, packed, refusalOf, refused, keptBy, decodedOn, unlessRefused, calledOn, calledBy, keptRun, turnCall, runCall}
+use Rattle.lentoquist.specs.Calls.{Areas, areasOf, Called, packed, refusalOf, keptBy, decodedOn, unlessRefused, calledOn, calledBy, keptRun, turnCall, runCall}
 use Rattle.lentoquist.proofs.Laws as laws
-use Rattle.traces.specs.Bytes.{called, number, sentLength, edge, isRefused}
+use Rattle.traces.specs.Bytes.{number, edge, isRefused}
 use Rattle.closure.specs.Sound.{Sound, Lent}
 use Rattle.closure.specs.Refusals.{Holds, AreasRight, Untouched, When}
 use Rattle.closure.specs.Carried.{worldIn, Parts}
@@ -40,7 +40,7 @@ use Rattle.closure.specs.Runs.{Shows}
 use Rattle.closure.specs.Turns.{turnsOn, lastAnswer, turnsTaken, withoutTurns, Ends, sent, edged, workless, AsTurns}
 use Rattle.closure.proofs.Closed.{closed}
 use Rattle.closure.proofs.Answers.{number-accepted, sent-most}
-use Rattle.closure.proofs.Refusals.{packed-number, right-lengths, table, untouched}
+use Rattle.closure.proofs.Refusals.{refusal-below, packed-number, right-lengths, table, untouched}
 use Rattle.closure.proofs.Carried.{holds-decoded, holds-back, holds-length, not-refused, lent-kept, areas-as-long, answer-parts}
 use Rattle.closure.proofs.Runs.{shows-world, carry-shown}
 
@@ -82,13 +82,6 @@ low-part p t =
 one-below : (b : Bool) → one b < 2
 one-below true = omega arith
 one-below false = omega arith
-
-refusal-below : (r : Refusal) → refusalNumber r < 5
-refusal-below refusal.Accepted = omega arith
-refusal-below refusal.Memory = omega arith
-refusal-below refusal.Area = omega arith
-refusal-below refusal.Overlong = omega arith
-refusal-below refusal.Foreign = omega arith
 
 packed-below : (x : Answer) → x .length ≤ 2048 → packed x < 281474976710656
 unfolding packed
@@ -355,6 +348,8 @@ one-run a report budget x y s t =
     let b : x .areas ≡ y .areas = s .areas ∙ ap (λ (n : ℕ). turnsOn n a report) k ∙ sym (t .areas) in
     λ i. record { answer = z i; areas = b i }
 
+-- ---- for runs among other calls
+
 taken-by : (x : Bool) (a : Areas) (report budget k : ℕ) → isRefused (runCall a report budget) ≡ x
     → turnsTaken (runCall a report budget .answer) ≡ suc k → x ≡ false
 taken-by true a report budget k e t = absurd (omega (arith, t, run-untouched a report budget e .edge))
@@ -366,12 +361,52 @@ pub taken-accepted : (a : Areas) (report budget k : ℕ) → turnsTaken (runCall
 taken-accepted a report budget k t =
     sym (run-refused-as a report budget) ∙ taken-by (isRefused (runCall a report budget)) a report budget k refl t
 
--- and where a turn is not refused, neither is the next
+-- where a turn is not refused, neither is the next
 pub turn-again : (a : Areas) (report : ℕ) → Lent a → isRefused (turnCall a report) ≡ false
     → isRefused (turnCall (turnCall a report .areas) report) ≡ false
 turn-again a report l e =
     let x = not-refused (turn report) a (l .kept) e in
     next-accepted a (worldIn (x .3 .0) a) report l (record { memory = refl; holding = refl; outgoing = refl; kept = x .3 .1 }) e
 
+-- and where a turn is not refused, neither is a run
 pub run-accepted : (a : Areas) (report budget : ℕ) → isRefused (turnCall a report) ≡ false → isRefused (runCall a report budget) ≡ false
 run-accepted a report budget e = run-refused-as a report budget ∙ e
+
+-- ---- what a run leaves is accepted again
+
+closed-by : (x : Bool) (r : Ran) (rest : Run) → Sound (afterwards r) → Sound (rest .world) → Sound (goesOn x r rest .world)
+closed-by true r rest s t = s
+closed-by false r rest s t = t
+
+-- from a state in range it comes to a state in range
+pub run-closed : (n : ℕ) (w : World) (report : ℕ) → Sound w → Sound (runOf n w report .world)
+unfolding runOf
+run-closed zero w report s = s
+run-closed (suc n) w report s =
+    let t = closed (turn report) w tt s in
+    closed-by (stopsAt w report) (turnOf w report) (runOf n (afterwards (turnOf w report)) report) t
+    (run-closed n (afterwards (turnOf w report)) report t)
+
+-- so the record that it leaves holds a state in range
+pub run-again : (a : Areas) (report budget : ℕ) → Lent a → isRefused (runCall a report budget) ≡ false
+    → (d : Device) × Holds (runCall a report budget .areas .kept) d
+run-again a report budget l e =
+    let x = not-refused (turn report) a (l .kept) (sym (run-refused-as a report budget) ∙ e) in
+    let w = worldIn (x .3 .0) a in
+    let s : Shows a w = record { memory = refl; holding = refl; outgoing = refl; kept = x .3 .1 } in
+    let g = run-closed budget w report (shown-sound a w l s) in
+    let same = run-same a (x .3 .0) report budget (x .3 .1) (x .0) (x .1 .1) in
+    (runOf budget w report .world .device, record { wide = g .wide; range = g .range; image = ap (λ (c : Called). c .areas .kept) same })
+
+turns-lent : (k : ℕ) (a : Areas) (report : ℕ) → Lent a → Lent (turnsOn k a report)
+turns-lent zero a report l = l
+turns-lent (suc k) a report l = turns-lent k (turnCall a report .areas) report (lent-kept (turn report) a tt l)
+
+lent-by : (x : Bool) (a : Areas) (report budget : ℕ) → isRefused (runCall a report budget) ≡ x → Lent a → Lent (runCall a report budget .areas)
+lent-by true a report budget e l = rw (run-untouched a report budget e .areas) l
+lent-by false a report budget e l =
+    rw (run-is-turns a report budget l e .areas) (turns-lent (turnsTaken (runCall a report budget .answer)) a report l)
+
+-- and bytes stay bytes, refused or not
+pub run-lent : (a : Areas) (report budget : ℕ) → Lent a → Lent (runCall a report budget .areas)
+run-lent a report budget l = lent-by (isRefused (runCall a report budget)) a report budget refl l

@@ -1,8 +1,8 @@
 -- A held frame is settled where the host drives by runs of turns too: the runs are unrolled into their turns. Assumes nothing.
 use mathlib.Core.Path.{_≡_, refl, ap, _∙_, subst}
-use mathlib.Core.Bool.{true, false, not}
+use mathlib.Core.Bool.{false, not}
 use mathlib.Core.List.{List, [], _∷_, _++_}
-use Prim.Native.Nat.{ℕ, zero, suc, _+_, _≤_}
+use Prim.Native.Nat.{ℕ, zero, suc, _+_}
 use native.Mathlib.Omega.{arith}
 use Rattle.chip.specs.Call.{turn}
 use Rattle.lentoquist.specs.Calls.{Areas, turnCall, runCall}
@@ -12,7 +12,7 @@ use Rattle.closure.specs.Turns.{turnsOn}
 use Rattle.closure.proofs.Carried.{lent-kept}
 use Rattle.closure.proofs.Turns.{run-accepted, run-is-turns, taken-accepted, turn-again}
 use Rattle.progress.specs.Machine.{bit}
-use Rattle.held.specs.Kept.{Lent, lent, isAccepted, isTaken, stepKept, turnsIn, AreBytes, Fair, AllFair}
+use Rattle.held.specs.Kept.{Lent, lent, isTaken, stepKept, turnsIn, AreBytes, Fair, AllFair}
 use Rattle.held.specs.Runs.{Drive, calls, runs, takenIn, keptBy, keptOne, turnsDriven, turnsFrom, unrolled, RunFair, AllDrive, Within}
 use Rattle.held.proofs.Calls.{held-frame}
 

@@ -1,6 +1,6 @@
 -- A command list is done where the host drives by runs of turns too: the runs are unrolled into their turns. Assumes nothing.
-use mathlib.Core.Path.{_≡_, refl, sym, ap, _∙_, subst}
-use mathlib.Core.Bool.{Bool, true, false}
+use mathlib.Core.Path.{_≡_, refl, ap, _∙_, subst}
+use mathlib.Core.Bool.{false}
 use mathlib.Core.List.{List, [], _∷_, _++_}
 use Prim.Native.Nat.{ℕ, zero, suc, _+_, _*_, _≤_}
 use native.Mathlib.Omega.{arith}
@@ -15,15 +15,15 @@ use Rattle.traces.specs.Bytes.{called, isRefused}
 use Rattle.traces.specs.Event.{call, step}
 use Rattle.closure.specs.Sound.{Lent}
 use Rattle.closure.specs.Refusals.{Holds}
-use Rattle.closure.specs.Turns.{turnsOn, turnsTaken}
+use Rattle.closure.specs.Turns.{turnsOn}
 use Rattle.closure.proofs.Carried.{lent-kept}
 use Rattle.closure.proofs.Turns.{run-accepted, run-is-turns, taken-accepted, turn-again}
 use Rattle.progress.specs.Machine.{Kept, run}
 use Rattle.lists.specs.Uses.{NoClash, Listed, firstOf}
 use Rattle.lists.specs.Unit.{machine}
 use Rattle.lists.specs.Done.{Calm, Starts, Done, bytesOf}
-use Rattle.lists.specs.Lent.{Lending, refusedAt, left, leftBy, countsBy, turnsOf, eventsOf, worldIn, Shows, Lends, LendsBy, AllLend, CalmlyLends, CalmlyBy, AllCalmly}
-use Rattle.lists.specs.Runs.{Drive, calls, runs, takenIn, ranBy, leftOne, leftBehind, turnsDriven, turning, turnsFrom, unrolled, DriveLends, RunLends, AllDrive}
+use Rattle.lists.specs.Lent.{Lending, refusedAt, left, leftBy, countsBy, turnsOf, eventsOf, worldIn, Shows, Lends, AllLend, CalmlyLends, AllCalmly}
+use Rattle.lists.specs.Runs.{Drive, calls, runs, takenIn, ranBy, leftOne, leftBehind, turnsDriven, turning, turnsFrom, unrolled, RunLends, AllDrive}
 use Rattle.lists.proofs.Carry.{carries, areas-list-done}
 
 -- what is shown of the calls that drives come to: they lend as is asked, leave what the drives leave, and count as many turns
