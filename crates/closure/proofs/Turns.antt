@@ -410,3 +410,16 @@ lent-by false a report budget e l =
 -- and bytes stay bytes, refused or not
 pub run-lent : (a : Areas) (report budget : ℕ) → Lent a → Lent (runCall a report budget .areas)
 run-lent a report budget l = lent-by (isRefused (runCall a report budget)) a report budget refl l
+
+-- a run with a budget takes a turn
+pub run-takes : (a : Areas) (report budget : ℕ) → Lent a → isRefused (runCall a report budget) ≡ false → 0 < budget
+    → 0 < turnsTaken (runCall a report budget .answer)
+run-takes a report budget l e b =
+    let k = turnsTaken (runCall a report budget .answer) in
+    ⊎-elim (λ (x : k ≡ budget). omega (arith, x, b)) (λ (x : (j : ℕ) × (k ≡ suc j) × Ends (turnsOn j a report) report). omega (arith, x .1))
+    (run-is-turns a report budget l e .ended)
+
+-- of budget 1, one
+pub run-of-one : (a : Areas) (report : ℕ) → Lent a → isRefused (turnCall a report) ≡ false → turnsTaken (runCall a report 1 .answer) ≡ 1
+run-of-one a report l e =
+    let t = run-accepted a report 1 e in omega (arith, run-takes a report 1 l t (omega arith), run-is-turns a report 1 l t .most)

@@ -17,3 +17,4 @@ pub mod Lift
 pub mod Carry
 pub mod LentWitness
 pub mod Runs
+pub mod RunsWitness

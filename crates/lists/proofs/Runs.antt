@@ -1,5 +1,5 @@
 -- A command list is done where the host drives by runs of turns too: the runs are unrolled into their turns. Assumes nothing.
-use mathlib.Core.Path.{_≡_, refl, ap, _∙_, subst}
+use mathlib.Core.Path.{_≡_, refl, sym, ap, _∙_, subst}
 use mathlib.Core.Bool.{false}
 use mathlib.Core.List.{List, [], _∷_, _++_}
 use Prim.Native.Nat.{ℕ, zero, suc, _+_, _*_, _≤_}
@@ -91,6 +91,10 @@ spread (calls l ∷ ds) a p =
 spread (runs lent report budget ∷ ds) a p =
     run-by (takenIn lent report budget) lent report budget a (unrolled ds) (leftBehind ds (leftOne (runs lent report budget) a)) (turnsDriven ds) refl
     (p .0) (spread ds (leftOne (runs lent report budget) a) (p .1))
+
+-- so the turns that the answers say are the turns of the calls
+pub turns-unrolled : (ds : List Drive) (a : Areas) → AllDrive carries ds a → turnsDriven ds ≡ turnsOf (unrolled ds)
+turns-unrolled ds a p = sym (spread ds a p .counts)
 
 -- As `areas-list-done`, with runs of turns among the calls: the turns inside a run count as turns. What stands in the areas and in the record when
 -- 132 n turns have been taken, in calls and in runs, is what the definitions leave, and all n commands are done
