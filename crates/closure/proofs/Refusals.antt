@@ -36,7 +36,7 @@ use Rattle.closure.proofs.Answers.{number-accepted}
 
 -- ---- a packed answer taken apart gives back its number, its length and its edge
 
-refusal-below : (r : Refusal) → refusalNumber r < 5
+pub refusal-below : (r : Refusal) → refusalNumber r < 5
 refusal-below refusal.Accepted = omega arith
 refusal-below refusal.Memory = omega arith
 refusal-below refusal.Area = omega arith

@@ -22,10 +22,10 @@ use Rattle.closure.proofs.Carried.{accepted-holds, carry, carry-reset, 
 
 -- ---- one event
 
-shows-world : (a : Areas) (w : World) → Shows a w → worldIn (w .device) a ≡ w
+pub shows-world : (a : Areas) (w : World) → Shows a w → worldIn (w .device) a ≡ w
 shows-world a w s = rw (s .memory, s .holding, s .outgoing)
 
-carry-shown : (c : Call) (a : Areas) (w : World) → Fit c → Lent a → Shows a w → isRefused (called c a) ≡ false
+pub carry-shown : (c : Call) (a : Areas) (w : World) → Fit c → Lent a → Shows a w → isRefused (called c a) ≡ false
     → (Shows (called c a .areas) (afterwards (ran c w))) × (called c a .answer ≡ packed (ran c w .outcome .answer))
 carry-shown c a w f l s e =
     let x = carry c a (w .device) f l (s .kept) e in

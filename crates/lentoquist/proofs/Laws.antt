@@ -15,7 +15,8 @@ use Rattle.image.specs.declared.Decoded.the-variants as is
 use Rattle.chip.specs.World.{World, Ran, worldOf}
 use Rattle.chip.specs.Attention.{attentionOf}
 use Rattle.chip.specs.Arrival.{arrivalOf}
-use Rattle.lentoquist.specs.Calls.{Areas, Called, Calls, areasRight, refusalOf, refused, keptBy, calledBy}
+use Rattle.chip.specs.Run.{runOf}
+use Rattle.lentoquist.specs.Calls.{Areas, Called, Calls, areasRight, refusalOf, refused, keptBy, calledBy, keptRun, runCall}
 
 module _ (a : Areas) (f : List ℕ) (run : World → Ran) where
   -- 1: N is not allowed
@@ -46,6 +47,26 @@ module _ (a : Areas) (f : List ℕ) (run : World → Ran) where
       → calledBy (refusalOf a f) run a ≡ keptBy (run (worldOf (deviceAt (a .kept) u) (a .memory) (a .holding) (a .outgoing)))
   unfolding refusalOf
   accepted u s r l d = rw (s, r, l, d, d)
+
+-- a run is refused as a turn is: the same four, and the run that is not refused
+module _ (a : Areas) (report budget : ℕ) where
+  pub run-bad-size : sizeAllowed (length (a .memory)) ≡ false → runCall a report budget ≡ refused refusal.Memory a
+  unfolding runCall refusalOf
+  run-bad-size s = rw s
+
+  pub run-bad-area : sizeAllowed (length (a .memory)) ≡ true → areasRight a ≡ false → runCall a report budget ≡ refused refusal.Area a
+  unfolding runCall refusalOf
+  run-bad-area s r = rw (s, r)
+
+  pub run-no-image : sizeAllowed (length (a .memory)) ≡ true → areasRight a ≡ true → decodeOf (a .kept) ≡ is.Foreign
+      → runCall a report budget ≡ refused refusal.Foreign a
+  unfolding runCall refusalOf
+  run-no-image s r d = rw (s, r, d)
+
+  pub run-accepted : (u : Units) → sizeAllowed (length (a .memory)) ≡ true → areasRight a ≡ true → decodeOf (a .kept) ≡ is.Units u
+      → runCall a report budget ≡ keptRun (runOf budget (worldOf (deviceAt (a .kept) u) (a .memory) (a .holding) (a .outgoing)) report)
+  unfolding runCall refusalOf
+  run-accepted u s r d = rw (s, r, d, d)
 
 and-first : (x y z : Bool) → (x && y && z) ≡ true → x ≡ true
 and-first true y z e = refl

@@ -8,7 +8,8 @@ use Rattle.chip.specs.World.{Ran, worldOf}
 use Rattle.chip.specs.Attention.{attentionOf}
 use Rattle.chip.specs.Arrival.{arrivalOf}
 use Rattle.chip.specs.Turn.{turnOf}
-use Rattle.lentoquist.specs.Calls.{packed}
+use Rattle.chip.specs.Run.{runOf}
+use Rattle.lentoquist.specs.Calls.{packed, keptRun}
 
 -- whatever the areas that the call does not take
 pub record AttendsOn (u : Units) (m r : List ℕ) (a : ℕ) (m′ r′ : List ℕ) : Type 0 where
@@ -28,3 +29,10 @@ pub record TurnsOn (u : Units) (m h out r : List ℕ) (report : ℕ) (a : ℕ) (
   pub holding : h ≡ turnOf (worldOf (deviceAt r u) m h out) report .holding
   pub outgoing : out′ ≡ turnOf (worldOf (deviceAt r u) m h out) report .outgoing
   pub kept : r′ ≡ stored r (turnOf (worldOf (deviceAt r u) m h out) report .outcome .device)
+
+pub record RunsOn (u : Units) (m h out r : List ℕ) (report budget : ℕ) (a : ℕ) (m′ out′ r′ : List ℕ) : Type 0 where
+  pub answer : a ≡ keptRun (runOf budget (worldOf (deviceAt r u) m h out) report) .answer
+  pub memory : m′ ≡ runOf budget (worldOf (deviceAt r u) m h out) report .world .memory
+  pub holding : h ≡ runOf budget (worldOf (deviceAt r u) m h out) report .world .holding
+  pub outgoing : out′ ≡ runOf budget (worldOf (deviceAt r u) m h out) report .world .outgoing
+  pub kept : r′ ≡ stored r (runOf budget (worldOf (deviceAt r u) m h out) report .world .device)
