@@ -128,3 +128,65 @@ pub fn turn(
         stops: true,
     }
 }
+
+// ---- turns in a row
+
+// Turns with the same line report, until `budget` are taken or one ends the run. A turn that does not end it has nothing to tell, so that is the
+// answer where the budget ends it.
+pub fn run(
+    memory: &mut [u8],
+    holding: &[u8],
+    outgoing: &mut [u8],
+    setup: &mut [u8],
+    k: Kept,
+    report: u16,
+    budget: u16,
+) -> Turns
+    requires { ⌜ length (now setup) ≡ 104 ⌝ }
+    ensures { λ r. ⌜ ((d : Device) → does.DeviceIs d k (now (setup .entry)) → does.Runs (runs.runOf budget (world.worldOf d (now (memory .entry)) (now (holding .entry)) (now (outgoing .entry))) report) r (now (memory .exit)) (now (outgoing .exit)) (now (setup .exit))) ⌝ }
+{
+    let mut state = k;
+    let mut taken: u16 = 0;
+    while taken < budget {
+        let t = turn(memory, holding, outgoing, setup, state, report);
+        taken += 1;
+        state = t.kept;
+        if t.stops {
+            return Turns {
+                kept: state,
+                length: t.length,
+                edge: t.edge,
+                taken: taken,
+            };
+        }
+    }
+    Turns {
+        kept: state,
+        length: 0,
+        edge: false,
+        taken: taken,
+    }
+}
+
+// ---- arrival
+
+// A frame arrives with the line side's verdict. One of fewer than 14 bytes is dropped, and so is one that is not for us.
+pub fn arrival(
+    memory: &mut [u8],
+    holding: &mut [u8],
+    setup: &[u8],
+    k: Kept,
+    frame: &[u8],
+    verdict: u32,
+) -> Kept
+    requires { ⌜ length (now setup) ≡ 104 ⌝ }
+    ensures { λ r. ⌜ ((d : Device) (out : List ℕ) → does.DeviceIs d k (now (setup .entry)) → does.Arrives (arrivals.arrivalOf (world.worldOf d (now (memory .entry)) (now (holding .entry)) out) (now (frame .entry)) verdict) r (now (setup .entry)) (now (memory .exit)) (now (holding .exit))) ⌝ }
+{
+    if frame.len() < HEADER {
+        return k;
+    }
+    if kept_filter::matches(setup, frame) {
+        return kept_receive::arrive(memory, holding, setup, k, frame, verdict);
+    }
+    k
+}
