@@ -1,11 +1,11 @@
 -- Stores into a setup's bytes: each sets up what the definitions of the actions say. Assumes nothing.
 use mathlib.Core.Path.{_≡_, refl, sym, ap, _∙_}
-use mathlib.Core.Bool.{Bool, true, false, cond}
+use mathlib.Core.Bool.{true, false}
 use mathlib.Core.List.{List, [], _∷_, _++_}
-use Prim.Native.Nat.{ℕ, zero, suc, _+_, _*_, _/_, _%_, _≤_, _<_}
+use Prim.Native.Nat.{ℕ, suc, _+_, _*_, _/_, _%_, _≤_, _<_}
 use native.Mathlib.Omega.{arith}
 use lib.Dec.{T, eqb, ltb, eqb→eq}
-use lib.ListN.{length, getD, set, drop, replicate, length-replicate, length-append}
+use lib.ListN.{length, getD, set, replicate, length-replicate, length-append}
 use lib.Seq.{sets, sets-eq, length-sets, drop-at}
 use Rattle.scb.specs.Words.{one, field, bit}
 use Rattle.scb.proofs.Below.{all, below}

@@ -1,5 +1,5 @@
 -- `kept_actions::mc_setup` meets its contract. Assumes nothing.
-use mathlib.Core.Path.{_∙_, refl}
+use mathlib.Core.Path.{refl}
 use Prim.Native.Nat.{_*_}
 use borrow.Author.Tests.{le-leb, lt-leb}
 use Rattle.memory.specs.Memory.{bytesAt}

@@ -1,7 +1,4 @@
 -- `kept_actions::settings_by` meets its contract. Assumes nothing.
-use mathlib.Core.Path.{_≡_}
-use mathlib.Core.Bool.{true, false}
-use lib.Dec.{ltb}
 use Prim.Native.Nat.{_<_}
 use borrow.Author.Tests.{lt-ltb, le-ltb}
 use Rattle.actions.specs.Actions.{byteOf}
