@@ -230,11 +230,27 @@ module _ (u : Units) (h : UnitsWide u) where
       let p : f / 16 < 16 = omega (arith, flags-below (u .initialised) (u .rulast) (u .events)) in
       let q : f % 4 < 4 = omega arith in
       let c = cu-tag-below (u .cu) in
-      let v : ruTag (u .ru) < 256 = omega (arith, ru-tag-below (u .ru)) in
-      (laid-low (f / 16) (cuTag (u .cu)) (f % 4) (ruTag (u .ru)) (u .scb .0) (u .base .0) p c q,
-      laid-third (f / 16) (cuTag (u .cu)) (f % 4) (ruTag (u .ru)) (u .scb .0) (u .base .0) p c q,
-      laid-high (f / 16) (cuTag (u .cu)) (f % 4) (ruTag (u .ru)) (u .scb .0) (u .base .0) p c q,
-      laid-below (f / 16) (cuTag (u .cu)) (f % 4) (ruTag (u .ru)) (u .scb .0) (u .base .0) p c q v (h .scb-wide) (h .base-wide))
+      let v : ruTag (u .ru) < 256 = omega (arith, ru-tag-below (u .ru)) in (
+        laid-low (f / 16) (cuTag (u .cu)) (f % 4) (ruTag (u .ru)) (u .scb .0) (u .base .0) p c q,
+        laid-third (f / 16) (cuTag (u .cu)) (f % 4) (ruTag (u .ru)) (u .scb .0) (u .base .0) p c q,
+        laid-high (f / 16) (cuTag (u .cu)) (f % 4) (ruTag (u .ru)) (u .scb .0) (u .base .0) p c q,
+        laid-below (f / 16) (cuTag (u .cu)) (f % 4) (ruTag (u .ru)) (u .scb .0) (u .base .0) p c q v (h .scb-wide) (h .base-wide),
+      )
+
+-- the numbers of a state lead back to it
+pub units-by : (u : Units) (k : Kept) → KeptIs u k → unitsBy k (u .settings) ≡ u
+unfolding unitsBy
+units-by u k h =
+    rw (
+      initialised-is u k h,
+      base-is u k h,
+      scb-is u k h,
+      events-is u k h,
+      events-back (u .events),
+      rulast-is u k h,
+      cu-of (u .cu) (cuTagIn k) (k .cu) (cu-is u k h),
+      ru-of (u .ru) (ruTagIn k) (k .ru) (k .rest) (ru-is u k h),
+    )
 
 module _ (d : Device) (h : Wide d) (e : unitsFit (d .units) ≡ true) where
   pub wide-units : UnitsWide (d .units)
@@ -262,23 +278,8 @@ module _ (d : Device) (h : Wide d) (e : unitsFit (d .units) ≡ true) where
   kept-is = record { same = kept-back; wide = wide-units }
 
   pub units-back : unitsAt (imageOf d) ≡ d .units
-  unfolding unitsAt unitsBy
-  units-back =
-      let u = d .units in
-      let k = keptAt (imageOf d) in
-      rw (
-        initialised-is u k kept-is,
-        base-is u k kept-is,
-        scb-is u k kept-is,
-        events-is u k kept-is,
-        events-back (u .events),
-        rulast-is u k kept-is,
-        cu-of (u .cu) (cuTagIn k) (k .cu) (cu-is u k kept-is),
-        ru-of (u .ru) (ruTagIn k) (k .ru) (k .rest) (ru-is u k kept-is),
-        at152 d,
-        at153 d,
-        settings-back (u .settings),
-      )
+  unfolding unitsAt
+  units-back = rw (at152 d, at153 d, settings-back (d .units .settings)) (units-by (d .units) (keptAt (imageOf d)) kept-is)
 
   is5 : field (imageOf d) 5 8 ≡ statusOf (d .units)
   unfolding keptOf
@@ -372,10 +373,10 @@ cut r = refl
 one-mod : (n : ℕ) → one (odd n) ≡ n % 2
 one-mod n = at-bit (n % 2) (omega arith)
   where
-  at-bit : (k : ℕ) → k < 2 → one (eqb k 1) ≡ k
-  at-bit zero h = refl
-  at-bit (suc zero) h = refl
-  at-bit (suc (suc k)) h = absurd (omega arith)
+    at-bit : (k : ℕ) → k < 2 → one (eqb k 1) ≡ k
+    at-bit zero h = refl
+    at-bit (suc zero) h = refl
+    at-bit (suc (suc k)) h = absurd (omega arith)
 
 flags-same : (m e : ℕ) → m < 4 → e < 16 → let f = m + 16 * e in flagsBy (odd f) (odd (f / 2)) (eventsOf (f / 16)) ≡ f
 flags-same m e p q =

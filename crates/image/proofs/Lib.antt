@@ -3,3 +3,5 @@ pub mod Steps
 pub mod Units
 pub mod Exact
 pub mod Tests
+pub mod Lent
+pub mod Examples

@@ -1,0 +1,71 @@
+-- The two records that the document on the record shows, computed: the fresh one, and one at work. Assumes nothing.
+use mathlib.Core.Path.{_≡_, refl}
+use mathlib.Core.Bool.{true, false}
+use mathlib.Core.List.{[], _∷_, _++_}
+use lib.ListN.{replicate}
+use Rattle.memory.specs.Memory.{digits}
+use Rattle.scb.specs.Words.{joined, eventBits}
+use Rattle.device.specs.State.{fresh}
+use Rattle.device.specs.declared.Cu.the-variants as cu
+use Rattle.device.specs.declared.Device.{Device}
+use Rattle.device.specs.declared.Ru.the-variants as ru
+use Rattle.device.specs.declared.Units.{Units}
+use Rattle.device.specs.declared.Verdict.the-variants as verdict
+use Rattle.phases.specs.Words.{numberOf, cuWord, ruWord, ruRest}
+use Rattle.kept.specs.Kept.{keptOf}
+use Rattle.kept.specs.SetUp.{setupBytes}
+use Rattle.image.specs.Ranges.{unitsFit, cuFits, frameFits, ruFits, initialisedOrFresh, inRange}
+use Rattle.image.specs.Image.{front, unitBytes, imageOf}
+
+-- ---- the fresh record
+
+pub fresh-record : imageOf fresh ≡ 0x42 ∷ 0x47 ∷ 0x54 ∷ 0x01 ∷ replicate 149 0 ++ (0x40 ∷ replicate 6 0xFF ++ replicate 96 0)
+unfolding imageOf unitBytes front setupBytes keptOf digits eventBits joined numberOf cuWord ruWord ruRest
+fresh-record = refl
+
+-- ---- a record at work: a Transmit at its descriptors, and a bad frame that is being saved
+
+abbrev pub units : Units
+units =
+    record {
+      initialised = true;
+      base = record { 0 = 0x012345 };
+      scb = record { 0 = 0x0100 };
+      events = record { cx = false; fr = true; cna = false; rnr = false };
+      rulast = true;
+      settings = record { savebad = true; promiscuous = false; nobroadcast = false; minimum = 64 };
+      cu =
+          cu.Sending (record { block = record { 0 = 0x0200 }; el = true; suspend = false; interrupt = true; pausing = false })
+          (record { next = record { 0 = 0x0340 }; used = 2; filled = 110 });
+      ru =
+          ru.Filling
+          (record {
+            fd = record { 0 = 0x0400 };
+            el = false;
+            suspend = true;
+            pausing = true;
+            frame = record { length = 60; verdict = verdict.Crc; short = false; savebad = true };
+          })
+          (record { next = record { 0 = 0x0520 }; used = 1; filled = 34 });
+    }
+
+abbrev pub working : Device
+working =
+    record {
+      units = units;
+      own = 0x02 ∷ 0x07 ∷ 0x01 ∷ 0x00 ∷ 0x00 ∷ 0x2A ∷ [];
+      listed = 0x01 ∷ 0x00 ∷ 0x5E ∷ 0x00 ∷ 0x00 ∷ 0x01 ∷ replicate 90 0;
+    }
+
+pub working-record : imageOf working
+    ≡ 0x42 ∷ 0x47 ∷ 0x54 ∷ 0x01 ∷ 0x00 ∷ 0x40 ∷ 0x34 ∷ 0x05 ∷ 0x00 ∷ 0x01 ∷ 0x45 ∷ 0x23 ∷ 0x01 ∷ 0x00 ∷ 0x00 ∷ 0x00
+    ∷ 0x00 ∷ 0x02 ∷ 0x05 ∷ 0x02 ∷ 0x6E ∷ 0x00 ∷ 0x40 ∷ 0x03 ∷ 0x00 ∷ 0x04 ∷ 0x0D ∷ 0x01 ∷ 0x3C ∷ 0x00 ∷ 0x20 ∷ 0x05
+    ∷ 0x22 ∷ 0x00 ∷ 0x01 ∷ 0x00 ∷ 0x00 ∷ 0x00 ∷ 0x00 ∷ 0x00
+    ∷ replicate 112 0
+    ++ (0x01 ∷ 0x40 ∷ 0x02 ∷ 0x07 ∷ 0x01 ∷ 0x00 ∷ 0x00 ∷ 0x2A ∷ 0x01 ∷ 0x00 ∷ 0x5E ∷ 0x00 ∷ 0x00 ∷ 0x01 ∷ replicate 90 0)
+unfolding imageOf unitBytes front setupBytes keptOf digits eventBits joined numberOf cuWord ruWord ruRest
+working-record = refl
+
+pub working-range : inRange working ≡ true
+unfolding inRange unitsFit cuFits frameFits ruFits initialisedOrFresh
+working-range = refl
