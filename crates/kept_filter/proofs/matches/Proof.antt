@@ -1,7 +1,6 @@
 -- `kept_filter::matches` meets its contract. Assumes nothing.
 use mathlib.Core.Path.{_≡_, _∙_, sym}
 use mathlib.Core.Bool.{true, false}
-use lib.ListN.{getD}
 use borrow.Author.Tests.{eq-eqb, ne-eqb}
 use Rattle.filter.specs.Match.{matches}
 use Rattle.kept_filter.proofs.Laws.{promiscuous-is, broadcast-is, own-is, listed-are}
@@ -15,23 +14,43 @@ matches-spec =
     tie.close
     (tie.spec
     (λ c. search needs)
-    (λ c. λ s h.
+    (λ c s h.
     let p : s .settings .promiscuous ≡ true = sym (promiscuous-is s _ h) ∙ eq-eqb _ 1 (c .if1 .taken) in
     rw p)
     (λ c κs. search needs)
     (λ c. search needs)
-    (λ c. λ s h.
-    let p : s .settings .promiscuous ≡ false = sym (promiscuous-is s _ h) ∙ ne-eqb _ 1 (c .before .before .before .if1 .left) in
-    rw (p, ← c .before .before .is-broadcast .ensures, c .before .if2 .taken) (broadcast-is s _ h))
+    (λ c s h.
+    let if2 = c .before in
+    let is-broadcast = if2 .before in
+    let if1 = is-broadcast .before in
+    let p : s .settings .promiscuous ≡ false = sym (promiscuous-is s _ h) ∙ ne-eqb _ 1 (if1 .if1 .left) in
+    rw (p, ← is-broadcast .is-broadcast .ensures, if2 .if2 .taken) (broadcast-is s _ h))
     (λ c κs. search needs)
-    (λ c. λ s h.
-    let p : s .settings .promiscuous ≡ false = sym (promiscuous-is s _ h) ∙ ne-eqb _ 1 (c .before .before .before .before .if1 .left) in
-    rw (p, ← c .before .before .before .is-broadcast .ensures, c .before .before .if2 .left, ← own-is s _ h _, ← c .before .is-own .ensures, c .if3 .taken))
+    (λ c s h.
+    let is-own = c .before in
+    let if2 = is-own .before in
+    let is-broadcast = if2 .before in
+    let if1 = is-broadcast .before in
+    let p : s .settings .promiscuous ≡ false = sym (promiscuous-is s _ h) ∙ ne-eqb _ 1 (if1 .if1 .left) in
+    rw (p, ← is-broadcast .is-broadcast .ensures, if2 .if2 .left, ← own-is s _ h _, ← is-own .is-own .ensures, c .if3 .taken))
     (λ c κs. search needs)
     (λ c κs. search needs)
-    (λ c. λ s h.
-    let p : s .settings .promiscuous ≡ false = sym (promiscuous-is s _ h) ∙ ne-eqb _ 1 (c .before .before .before .before .before .before .before .if1 .left) in
-    rw (p, ← c .before .before .before .before .before .before .is-broadcast .ensures, c .before .before .before .before .before .if2 .left, ← own-is s _ h _, ← c .before .before .before .before .is-own .ensures, c .before .before .before .if3 .left, ← c .before .before .is-group .ensures, c .before .if4 .taken, ← listed-are s _ h) (c .is-listed .ensures))
-    (λ c. λ s h.
-    let p : s .settings .promiscuous ≡ false = sym (promiscuous-is s _ h) ∙ ne-eqb _ 1 (c .before .before .before .before .before .before .if1 .left) in
-    rw (p, ← c .before .before .before .before .before .is-broadcast .ensures, c .before .before .before .before .if2 .left, ← own-is s _ h _, ← c .before .before .before .is-own .ensures, c .before .before .if3 .left, ← c .before .is-group .ensures, c .if4 .left)))
+    (λ c s h.
+    let if4 = c .before in
+    let is-group = if4 .before in
+    let if3 = is-group .before in
+    let is-own = if3 .before in
+    let if2 = is-own .before in
+    let is-broadcast = if2 .before in
+    let if1 = is-broadcast .before in
+    let p : s .settings .promiscuous ≡ false = sym (promiscuous-is s _ h) ∙ ne-eqb _ 1 (if1 .if1 .left) in
+    rw (p, ← is-broadcast .is-broadcast .ensures, if2 .if2 .left, ← own-is s _ h _, ← is-own .is-own .ensures, if3 .if3 .left, ← is-group .is-group .ensures, if4 .if4 .taken, ← listed-are s _ h) (c .is-listed .ensures))
+    (λ c s h.
+    let is-group = c .before in
+    let if3 = is-group .before in
+    let is-own = if3 .before in
+    let if2 = is-own .before in
+    let is-broadcast = if2 .before in
+    let if1 = is-broadcast .before in
+    let p : s .settings .promiscuous ≡ false = sym (promiscuous-is s _ h) ∙ ne-eqb _ 1 (if1 .if1 .left) in
+    rw (p, ← is-broadcast .is-broadcast .ensures, if2 .if2 .left, ← own-is s _ h _, ← is-own .is-own .ensures, if3 .if3 .left, ← is-group .is-group .ensures, c .if4 .left)))
