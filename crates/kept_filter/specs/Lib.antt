@@ -1,0 +1,1 @@
+-- Nothing is defined here: filter's Match says the answer, and kept's SetUp what the lent bytes hold.
