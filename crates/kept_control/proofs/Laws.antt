@@ -4,7 +4,7 @@ use mathlib.Core.Bool.{Bool, true, false, cond}
 use mathlib.Core.List.{List, [], _∷_}
 use Prim.Native.Nat.{ℕ, _+_, _*_, _/_, _%_, _<_, _≤_}
 use native.Mathlib.Omega.{arith}
-use lib.Bits.{bitAnd, bitOr, and-high, or-add-and}
+use lib.Bits.{bitOr, and-high, or-add-and}
 use lib.Dec.{eqb, ltb}
 use Rattle.memory.specs.Address.{place, offsetAt}
 use Rattle.memory.specs.Memory.{Write, wordTo, apply}
@@ -23,7 +23,7 @@ use Rattle.device.specs.declared.Cu.the-variants as cu
 use Rattle.device.specs.declared.Ru.{Ru}
 use Rattle.device.specs.declared.Ru.the-variants as ru
 use Rattle.device.specs.declared.Units.{Units}
-use Rattle.phases.specs.Words.{numberOf, flagBits, cuTag, cuWord, ruTag, ruWord, ruRest, WordWide}
+use Rattle.phases.specs.Words.{numberOf, cuTag, cuWord, ruTag, ruWord, ruRest, WordWide}
 use Rattle.phases.specs.declared.Word.{Word}
 use Rattle.phases.proofs.Units.{one-below}
 use Rattle.kept.specs.Kept.{CuIs, RuIs}

@@ -3,9 +3,7 @@
 use memory::Offset;
 use memory::RealAddress;
 ghost use mathlib.Core.Path.{_≡_};
-ghost use mathlib.Core.Bool.{cond};
-ghost use Prim.Native.Nat.{_%_, _<_};
-ghost use Rattle.memory.specs.Address as addresses;
+ghost use Prim.Native.Nat.{_<_};
 ghost use Rattle.memory.specs.Memory as bytes;
 ghost use Rattle.scb.specs.Words as words;
 ghost use Rattle.scb.specs.Numbers as numbers;
