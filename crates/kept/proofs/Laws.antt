@@ -25,14 +25,14 @@ one-odd false = refl
 
 -- ---- the events as a number below 16
 
-eventsAt : ℕ → Events
+unfoldable pub eventsAt : ℕ → Events
 eventsAt n = record { cx = odd (n / 8); fr = odd (n / 4); cna = odd (n / 2); rnr = odd n }
 
 pub events-below : (e : Events) → eventBits e < 16
 unfolding eventBits joined
 events-below e = omega (arith, one-below (e .cx), one-below (e .fr), one-below (e .cna), one-below (e .rnr))
 
-events-at : (a b c d : Bool) → let e : Events = record { cx = a; fr = b; cna = c; rnr = d } in eventsAt (eventBits e) ≡ e
+pub events-at : (a b c d : Bool) → let e : Events = record { cx = a; fr = b; cna = c; rnr = d } in eventsAt (eventBits e) ≡ e
 unfolding eventsAt eventBits joined
 events-at true true true true = refl
 events-at true true true false = refl
