@@ -290,8 +290,8 @@ fn is_bare(n: u64) -> bool
     kept::size_of(n) <= HEADER as u64
 }
 
-// A unit's word without its next offset and with flags set that were not. No caller has flags that do not fit below that offset; a sum
-// that does not is cut.
+// A unit's word without its next offset, and with flags set that were not. A sum that reaches that offset is cut, though no
+// unit has such a word.
 fn flagged(n: u64, flags: u64) -> u64
     requires { ⌜ flags < 281474976710656 ⌝ }
     ensures { λ r. ⌜ r ≡ (n % 281474976710656 + flags) % 281474976710656 ⌝ }

@@ -1,1 +1,0 @@
--- Nothing is defined here: filter's Match says the answer, and kept's SetUp what the lent bytes hold.
