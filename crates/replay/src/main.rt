@@ -4,8 +4,10 @@ use libc::STDIN_FILENO;
 use libc::STDOUT_FILENO;
 use session::Session;
 ghost use mathlib.Core.Path.{_≡_};
-ghost use Prim.Native.Nat.{_<_, _≤_};
-ghost use lib.ListN.{length};
+ghost use Prim.Native.Nat.{_-_, _<_, _≤_};
+ghost use lib.ListN.{length, take, drop};
+ghost use Rattle.session.specs.Run.{stateOf, Runs, ran};
+ghost use Rattle.printing.specs.Run.{newlines, emptiedIn};
 
 // The smaller of two numbers.
 fn least(a: usize, b: usize) -> usize
@@ -17,10 +19,10 @@ fn least(a: usize, b: usize) -> usize
     b
 }
 
-// Where the line that `from` lies in ends: behind its newline, or at the end of the input.
+// Where the line that `from` lies in ends: behind its newline, or at the end of the input. So at most one line ends up to there.
 fn line_end(input: &[u8], from: usize) -> usize
     requires { ⌜ from < length (now input) ⌝ }
-    ensures { λ r. ⌜ (from < r) × (r ≤ length (now (input .entry))) ⌝ }
+    ensures { λ r. ⌜ (from < r) × (r ≤ length (now (input .entry))) × (newlines (take (r - from) (drop from (now (input .entry)))) ≤ 1) ⌝ }
 {
     let mut i = from;
     while i < input.len() {
@@ -38,7 +40,8 @@ fn written(s: Session, out: &[u8]) -> bool {
     io::write_all(STDOUT_FILENO, &out[..n])
 }
 
-// A stretch of input is run and what it prints is written out. The slice for texts has room for what any one line prints.
+// A stretch of input is run and what it prints is written out. The slice for texts has room for what any one line prints: `one-line-fits` in
+// the room `printing`, where this is a step of `inStretches`.
 fn run_stretch(
     s: Session,
     memory: &mut [u8],
@@ -47,7 +50,10 @@ fn run_stretch(
     bytes: &mut [u8],
     input: &[u8],
     out: &mut [u8],
-) -> Session {
+) -> Session
+    requires { ⌜ newlines (now input) ≤ 1 ⌝ }
+    ensures { λ r. ⌜ Runs (ran (emptiedIn (stateOf s (now (memory .entry)) (now (holding .entry)) (now (outgoing .entry)) (now (bytes .entry)) (now (out .entry)))) (now (input .entry))) r (now (memory .exit)) (now (holding .exit)) (now (outgoing .exit)) (now (bytes .exit)) (now (out .exit)) ⌝ }
+{
     let t = session::run(
         session::emptied(s),
         memory,

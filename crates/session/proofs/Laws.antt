@@ -1,37 +1,21 @@
--- What the proofs of the session share: scenes and states that are what is said, turns one by one, a stretch character by character.
--- Assumes nothing.
+-- What the proofs of the session share: states that are what is said, a stretch character by character. Assumes nothing.
 use mathlib.Core.Path.{_≡_, refl, sym, ap, subst, _∙_}
-use mathlib.Core.Bool.{Bool, true, false, cond, false≢true, true≢false}
+use mathlib.Core.Bool.{Bool, true, false, cond}
 use mathlib.Core.List.{List, [], _∷_, _++_}
-use Prim.Native.Nat.{ℕ, zero, suc, _+_, _%_, _<_, _≤_, min}
+use Prim.Native.Nat.{ℕ, zero, suc, _+_, _<_, min}
 use native.Mathlib.Omega.{arith}
 use borrow.Author.Tests.{eq-eqb, ne-eqb}
 use lib.Dec.{eqb}
-use lib.ListN.{length, take, getD, replicate}
-use Rattle.device.specs.Limits.{recordSize}
-use Rattle.image.specs.Image.{stored}
-use Rattle.chip.specs.Call.{Call, turn}
-use Rattle.board.specs.declared.Board.{Board}
-use Rattle.board.specs.declared.Said.{Said}
-use Rattle.board.specs.Board.{Left, leftAs, Leaves, recordOf, recordIn, resized}
-use Rattle.session.specs.declared.Play.{Play}
-use Rattle.session.specs.declared.Session.{Session}
+use lib.ListN.{length, take, getD}
 use Rattle.wording.specs.declared.Line.{Line}
 use Rattle.lines.specs.declared.Reader.{Reader}
-use Rattle.wording.specs.declared.Verb.{Verb}
-use Rattle.wording.specs.declared.Verb.the-variants as verb
 use Rattle.lines.specs.Reader as lines
-use Rattle.texts.specs.Texts.{Puts}
-use Rattle.session.specs.Scene.{Scene, playOf, sceneOf, Plays, behind, printed, tellBy, called, turnsOf, turnCount, wrote, many, obeyed, isCall, isWrite, isSize, callBy, textBy}
-use Rattle.session.specs.Run.{State, stateOf, Runs, withReader, nextLine, stoppedBy, lineObeyed, endedBy, lineEnded, readBy, fed, ran}
+use Rattle.scene.specs.declared.Play.{Play}
+use Rattle.scene.specs.Scene.{Scene, playOf, sceneOf, Plays, obeyed}
+use Rattle.session.specs.declared.Session.{Session}
+use Rattle.session.specs.Run.{State, stateOf, Runs, withReader, nextLine, lineObeyed, judged, endedBy, lineEnded, readBy, fed, ran}
 
 -- ---- what was left is what is said
-
-left-is : (l : Left) (s : Said) (m h og : List ℕ) → Leaves l s m h og → leftAs s m h og ≡ l
-left-is l s m h og e = λ i. record { said = e .said i; memory = e .memory i; holding = e .holding i; outgoing = e .outgoing i }
-
-scene-is : (c : Scene) (p : Play) (m h og o : List ℕ) → Plays c p m h og o → sceneOf p m h og o ≡ c
-scene-is c p m h og o e = λ i. record { play = e .play i; memory = e .memory i; holding = e .holding i; outgoing = e .outgoing i; out = e .out i }
 
 state-is : (t : State) (s : Session) (m h og by o : List ℕ) → Runs t s m h og by o → stateOf s m h og by o ≡ t
 state-is t s m h og by o e =
@@ -43,48 +27,6 @@ state-is t s m h og by o e =
       bytes = e .bytes i;
       out = e .out i;
     }
-
--- an answer that is told of what a call left
-pub told : (l : Left) (s : Said) (m h og : List ℕ) (at : ℕ) (out : List ℕ) (p : Play) (o : List ℕ) → Leaves l s m h og
-    → Plays (tellBy at out (leftAs s m h og)) p m h og o
-    → Plays (tellBy at out l) p m h og o
-told l s m h og at out p o e t = subst (λ (x : Left). Plays (tellBy at out x) p m h og o) (left-is l s m h og e) t
-
--- a text that is printed
-pub prints : (text : List ℕ) (p : Play) (m h og out : List ℕ) (r : ℕ) (o : List ℕ) (q : Play) → Puts text (p .at) out r o → q ≡ playOf (p .board) r
-    → Plays (printed text (sceneOf p m h og out)) q m h og o
-prints text p m h og out r o q x e =
-    record { play = e ∙ ap (playOf (p .board)) (x .next); memory = refl; holding = refl; outgoing = refl; out = x .bytes }
-
--- ---- turns
-
-pub no-turns : (report : ℕ) (p : Play) (m h og o : List ℕ) → Plays (turnsOf 0 report (sceneOf p m h og o)) p m h og o
-unfolding turnsOf
-no-turns report p m h og o = record { play = refl; memory = refl; holding = refl; outgoing = refl; out = refl }
-
-suc-turns : (i report : ℕ) (c : Scene) (p : Play) (m h og o : List ℕ) (q : Play) (m′ h′ og′ o′ : List ℕ) → Plays (turnsOf i report c) p m h og o
-    → Plays (called (turn report) (sceneOf p m h og o)) q m′ h′ og′ o′
-    → Plays (turnsOf (suc i) report c) q m′ h′ og′ o′
-unfolding turnsOf
-suc-turns i report c p m h og o q m′ h′ og′ o′ e t =
-    subst (λ (x : Scene). Plays (called (turn report) x) q m′ h′ og′ o′) (scene-is (turnsOf i report c) p m h og o e) t
-
-pub more-turns : (i report : ℕ) (c : Scene) (p : Play) (m h og o : List ℕ) (q : Play) (m′ h′ og′ o′ : List ℕ) → Plays (turnsOf i report c) p m h og o
-    → Plays (called (turn report) (sceneOf p m h og o)) q m′ h′ og′ o′
-    → Plays (turnsOf (i + 1) report c) q m′ h′ og′ o′
-more-turns i report c p m h og o q m′ h′ og′ o′ e t =
-    let n : suc i ≡ i + 1 = omega arith in
-    subst (λ (k : ℕ). Plays (turnsOf k report c) q m′ h′ og′ o′) n (suc-turns i report c p m h og o q m′ h′ og′ o′ e t)
-
--- ---- the record in 256 bytes that were zeros
-
-record-by : (x : Bool) (b : Board) → b .made ≡ x → recordIn b (replicate recordSize 0) ≡ recordOf b
-unfolding recordIn recordOf stored
-record-by true b e = rw e
-record-by false b e = rw e
-
-pub record-zeros : (b : Board) → recordIn b (replicate recordSize 0) ≡ recordOf b
-record-zeros b = record-by (b .made) b refl
 
 -- ---- the bytes that a line brought
 
@@ -130,23 +72,16 @@ choose b x y e = ap (λ (k : Bool). cond k x y) e
 refuse : {A : Type 0} (b : Bool) (x y : A) → b ≡ false → cond b x y ≡ y
 refuse b x y e = ap (λ (k : Bool). cond k x y) e
 
+-- a line that was read to its end and judged
+pub ended : (s : Session) (m h og out : List ℕ) (e : lines.Read) (r : Reader) (by : List ℕ) (t : Session) (m′ h′ og′ o′ : List ℕ) → lines.Reads e r by
+    → Runs (judged s r m h og by out) t m′ h′ og′ by o′
+    → Runs (judged s (e .reader) m h og (e .bytes) out) t m′ h′ og′ by o′
+ended s m h og out e r by t m′ h′ og′ o′ x z =
+    subst (λ (k : lines.Read). Runs (judged s (k .reader) m h og (k .bytes) out) t m′ h′ og′ by o′) (read-is e r by x) z
+
 module _ (s : Session) (m h og by out : List ℕ) where
   abbrev before : State
   before = stateOf s m h og by out
-
-  pub ended-right : (e : lines.Read) (r : Reader) (by′ : List ℕ) (t : Session) (m′ h′ og′ o′ : List ℕ) → lines.Reads e r by′ → lines.isRight r ≡ true
-      → Runs (lineObeyed s (r .line) m h og by′ out) t m′ h′ og′ by′ o′
-      → Runs (endedBy before e) t m′ h′ og′ by′ o′
-  ended-right e r by′ t m′ h′ og′ o′ x y z =
-      subst (λ (k : lines.Read). Runs (endedBy before k) t m′ h′ og′ by′ o′) (read-is e r by′ x)
-      (subst (λ (k : State). Runs k t m′ h′ og′ by′ o′) (sym (choose (lines.isRight r) (lineObeyed s (r .line) m h og by′ out) (stoppedBy s r m h og by′ out) y)) z)
-
-  pub ended-wrong : (e : lines.Read) (r : Reader) (by′ : List ℕ) (t : Session) (m′ h′ og′ o′ : List ℕ) → lines.Reads e r by′ → lines.isRight r ≡ false
-      → Runs (stoppedBy s r m h og by′ out) t m′ h′ og′ by′ o′
-      → Runs (endedBy before e) t m′ h′ og′ by′ o′
-  ended-wrong e r by′ t m′ h′ og′ o′ x y z =
-      subst (λ (k : lines.Read). Runs (endedBy before k) t m′ h′ og′ by′ o′) (read-is e r by′ x)
-      (subst (λ (k : State). Runs k t m′ h′ og′ by′ o′) (sym (refuse (lines.isRight r) (lineObeyed s (r .line) m h og by′ out) (stoppedBy s r m h og by′ out) y)) z)
 
   abbrev otherwise : ℕ → State
   otherwise c = readBy before (lines.read (s .reader) c by)
@@ -220,83 +155,3 @@ pub ran-all : (t : State) (xs : List ℕ) (i : ℕ) (s : Session) (m h og by o :
     → Runs (ran t xs) s m h og by o
 ran-all t xs i s m h og by o l e =
     subst (λ (ys : List ℕ). Runs (ran t ys) s m h og by o) (ap (λ (k : ℕ). take k xs) l ∙ take-all xs) e
-
--- ---- the verbs, parted as the code parts them
-
-pub by-call : (v : Verb) (l : Line) (own : List ℕ) (s : Scene) → isCall v ≡ true
-    → callBy v own (l .first % many) (turnCount l) (l .second % 65536) s ≡ obeyed v l own s
-unfolding callBy obeyed
-by-call verb.Nothing l own s e = absurd (false≢true e)
-by-call verb.Size l own s e = absurd (false≢true e)
-by-call verb.Reset l own s e = refl
-by-call verb.Attention l own s e = refl
-by-call verb.Arrival l own s e = refl
-by-call verb.Turn l own s e = refl
-by-call verb.Bytes l own s e = absurd (false≢true e)
-by-call verb.Words l own s e = absurd (false≢true e)
-by-call verb.Show l own s e = absurd (false≢true e)
-by-call verb.Look l own s e = absurd (false≢true e)
-by-call verb.Interrupt l own s e = absurd (false≢true e)
-by-call verb.Record l own s e = absurd (false≢true e)
-by-call verb.Say l own s e = absurd (false≢true e)
-
-pub by-write : (v : Verb) (l : Line) (own : List ℕ) (s : Scene) → isWrite v ≡ true → wrote l own s ≡ obeyed v l own s
-unfolding obeyed
-by-write verb.Nothing l own s e = absurd (false≢true e)
-by-write verb.Size l own s e = absurd (false≢true e)
-by-write verb.Reset l own s e = absurd (false≢true e)
-by-write verb.Attention l own s e = absurd (false≢true e)
-by-write verb.Arrival l own s e = absurd (false≢true e)
-by-write verb.Turn l own s e = absurd (false≢true e)
-by-write verb.Bytes l own s e = refl
-by-write verb.Words l own s e = refl
-by-write verb.Show l own s e = absurd (false≢true e)
-by-write verb.Look l own s e = absurd (false≢true e)
-by-write verb.Interrupt l own s e = absurd (false≢true e)
-by-write verb.Record l own s e = absurd (false≢true e)
-by-write verb.Say l own s e = absurd (false≢true e)
-
-abbrev sized : Line → Scene → Scene
-sized l s = sceneOf (playOf (resized (s .play .board) (l .first)) (s .play .at)) (s .memory) (s .holding) (s .outgoing) (s .out)
-
-pub by-size : (v : Verb) (l : Line) (own : List ℕ) (s : Scene) → isSize v ≡ true → sized l s ≡ obeyed v l own s
-unfolding obeyed
-by-size verb.Nothing l own s e = absurd (false≢true e)
-by-size verb.Size l own s e = refl
-by-size verb.Reset l own s e = absurd (false≢true e)
-by-size verb.Attention l own s e = absurd (false≢true e)
-by-size verb.Arrival l own s e = absurd (false≢true e)
-by-size verb.Turn l own s e = absurd (false≢true e)
-by-size verb.Bytes l own s e = absurd (false≢true e)
-by-size verb.Words l own s e = absurd (false≢true e)
-by-size verb.Show l own s e = absurd (false≢true e)
-by-size verb.Look l own s e = absurd (false≢true e)
-by-size verb.Interrupt l own s e = absurd (false≢true e)
-by-size verb.Record l own s e = absurd (false≢true e)
-by-size verb.Say l own s e = absurd (false≢true e)
-
--- what is left is printed; where nothing is said nothing is
-nothing-printed : (s : Scene) → printed [] s ≡ s
-nothing-printed s =
-    let e : behind [] (s .play .at) (s .out) ≡ s .play .at = omega arith in
-    ap (λ (k : ℕ). sceneOf (playOf (s .play .board) k) (s .memory) (s .holding) (s .outgoing) (s .out)) e
-
-pub by-text : (v : Verb) (l : Line) (own : List ℕ) (s : Scene) → isCall v ≡ false → isWrite v ≡ false → isSize v ≡ false
-    → printed (textBy v (l .area) (s .play .board) (s .memory) (s .holding) (s .outgoing) own (l .first % many) (l .second % many)) s ≡ obeyed v l own s
-unfolding textBy obeyed
-by-text verb.Nothing l own s e f g = nothing-printed s
-by-text verb.Size l own s e f g = absurd (true≢false g)
-by-text verb.Reset l own s e f g = absurd (true≢false e)
-by-text verb.Attention l own s e f g = absurd (true≢false e)
-by-text verb.Arrival l own s e f g = absurd (true≢false e)
-by-text verb.Turn l own s e f g = absurd (true≢false e)
-by-text verb.Bytes l own s e f g = absurd (true≢false f)
-by-text verb.Words l own s e f g = absurd (true≢false f)
-by-text verb.Show l own s e f g = refl
-by-text verb.Look l own s e f g = refl
-by-text verb.Interrupt l own s e f g = refl
-by-text verb.Record l own s e f g = refl
-by-text verb.Say l own s e f g = refl
-
-pub plays-as : (c d : Scene) (p : Play) (m h og o : List ℕ) → c ≡ d → Plays c p m h og o → Plays d p m h og o
-plays-as c d p m h og o e t = subst (λ (x : Scene). Plays x p m h og o) e t

@@ -1,3 +1,2 @@
--- What a line does, and a run of lines.
-pub mod Scene
+-- A run of lines.
 pub mod Run

@@ -15,9 +15,9 @@ use Rattle.lines.specs.Reader as lines
 use Rattle.texts.specs.declared.Expected.{Expected}
 use Rattle.texts.specs.declared.Expected.the-variants as expected
 use Rattle.texts.specs.Texts.{faultText}
-use Rattle.session.specs.declared.Play.{Play}
+use Rattle.scene.specs.declared.Play.{Play}
 use Rattle.session.specs.declared.Session.{Session}
-use Rattle.session.specs.Scene.{Scene, playOf, sceneOf, behind, obeyed}
+use Rattle.scene.specs.Scene.{Scene, playOf, sceneOf, behind, obeyed}
 
 -- ---- the state
 
@@ -94,12 +94,12 @@ lineObeyed s l m h og by out = behindLine s by (obeyed (l .verb) l (take (l .fil
 
 -- ---- characters
 
--- a line that has ended is judged; "nothing of the bad line is done or printed"
+-- a line that has been read to its end is judged; "nothing of the bad line is done or printed"
+unfoldable pub judged : Session → Reader → List ℕ → List ℕ → List ℕ → List ℕ → List ℕ → State
+judged s r m h og by out = cond (lines.isRight r) (lineObeyed s (r .line) m h og by out) (stoppedBy s r m h og by out)
+
 abbrev pub endedBy : State → lines.Read → State
-endedBy st e =
-    cond (lines.isRight (e .reader))
-    (lineObeyed (st .session) (e .reader .line) (st .memory) (st .holding) (st .outgoing) (e .bytes) (st .out))
-    (stoppedBy (st .session) (e .reader) (st .memory) (st .holding) (st .outgoing) (e .bytes) (st .out))
+endedBy st e = judged (st .session) (e .reader) (st .memory) (st .holding) (st .outgoing) (e .bytes) (st .out)
 
 unfoldable pub lineEnded : State → State
 lineEnded st = endedBy st (lines.end (st .session .reader) (st .bytes))

@@ -2,6 +2,7 @@
 use mathlib.Core.Path.{_≡_, refl}
 use borrow.Author.Needs.{needs}
 use lib.ListN.{length}
+use Rattle.printing.specs.Run.{newlines}
 use Rattle.replay.proofs.run_all.Statement.{statement}
 use Rattle.replay.proofs.run_all.Tie as tie
 
@@ -17,6 +18,7 @@ abbrev μ-loop : tie.MeasureT-loop
 μ-loop memory₀ holding₀ outgoing₀ bytes₀ out₀ fd s₀ turns₀ more₀ t11 memory holding outgoing bytes out s turns more = turns
 
 pub run-all-spec : {M : Type 1} → statement M
+unfolding newlines
 run-all-spec =
     tie.close
     (tie.spec

@@ -1,0 +1,2 @@
+-- What a line does.
+pub mod Scene
