@@ -52,10 +52,12 @@ const ACKNOWLEDGED: u16 = 12;
 
 const CODES: u16 = 0x0770;
 
-// The tags from which on the command unit is Active and the receive unit is Ready.
+// The tags from which on the command unit is Active and the receive unit is Ready; and RUS of Ready.
 const ACTIVE: u64 = 2;
 
 const READY: u64 = 3;
+
+const RUS_READY: u16 = 4;
 
 // The events CNA and RNR in the number of the events; the lowest event, and the base, in the kept status.
 const CNA: u64 = 2;
@@ -66,6 +68,14 @@ const EVENT: u64 = 1048576;
 
 const BASE: u64 = 1099511627776;
 
+// The kept flags of an initialisation: initialised, CX and CNA.
+const INITIALISED: u64 = 161;
+
+// The setup after reset: the minimum length, and each byte of the own address.
+const MINIMUM: u8 = 64;
+
+const OWN: u8 = 255;
+
 // ---- the SCB's status
 
 // RUS of the receive unit's tag; 3 is no state's.
@@ -75,7 +85,7 @@ fn ru_number(tag: u64) -> u16
     if tag < READY {
         return tag as u16;
     }
-    4
+    RUS_READY
 }
 
 // The status word of its fields. The bits that are no field's are zero.
@@ -129,7 +139,7 @@ fn base_of(memory: &[u8], iscp: RealAddress) -> RealAddress
 fn initialised_at(k: Kept, base: RealAddress, scb: Offset) -> Kept
     ensures { λ r. ⌜ ((u : Units) → base .0 < 16777216 → kept.KeptIs u k → kept.KeptIs (change.initialisedAt u base scb attentions.initialEvents) r) ⌝ }
 {
-    let flags = kept::flags(k) / 2 % 2 * 2 + 161;
+    let flags = kept::flags(k) / 2 % 2 * 2 + INITIALISED;
     Kept {
         status: kept::status_of(scb.0 as u64, flags, 0, 0, base.0 as u64),
         cu: 0,
@@ -278,13 +288,13 @@ fn renew(setup: &mut [u8])
     ensures { λ _. ⌜ (length (now (setup .entry)) ≡ 104 → now (setup .exit) ≡ setups.setupBytes (setupOf states.fresh)) ⌝ }
 {
     let mut fresh: [u8; 104] = [0; 104];
-    fresh[1] = 64;
-    fresh[2] = 255;
-    fresh[3] = 255;
-    fresh[4] = 255;
-    fresh[5] = 255;
-    fresh[6] = 255;
-    fresh[7] = 255;
+    fresh[1] = MINIMUM;
+    fresh[2] = OWN;
+    fresh[3] = OWN;
+    fresh[4] = OWN;
+    fresh[5] = OWN;
+    fresh[6] = OWN;
+    fresh[7] = OWN;
     memory::put_run(setup, 0, &fresh);
 }
 

@@ -44,6 +44,11 @@ const READY: u64 = 3;
 
 const HELD: u64 = 4;
 
+// The number of Active in CUS, and the column of Ready in the control table.
+const CUS_ACTIVE: u8 = 2;
+
+const READY_COLUMN: u8 = 3;
+
 // The flags of a waiting SUSPEND in the units' words.
 const CU_PAUSING: u64 = 524288;
 
@@ -94,7 +99,7 @@ pub fn cu_number(tag: u64) -> u8
     ensures { λ r. ⌜ (r < 4) × ((c : Cu) → tag ≡ cuTag c → r ≡ words.cuNumber (states.cuState c)) ⌝ }
 {
     if WAITING < tag {
-        return 2;
+        return CUS_ACTIVE;
     }
     tag as u8
 }
@@ -184,7 +189,7 @@ fn ru_column(tag: u64) -> u8
     ensures { λ r. ⌜ (r < 4) × ((v : Ru) → tag ≡ ruTag v → r ≡ numbers.ruColumn (states.ruState v)) ⌝ }
 {
     if READY < tag {
-        return 3;
+        return READY_COLUMN;
     }
     tag as u8
 }

@@ -2,7 +2,7 @@
 use native.Mathlib.Omega.{arith}
 use Prim.Native.Nat.{_/_}
 use lib.Bits.{and-le-l}
-use Rattle.kept_attention.proofs.Laws.{acknowledges}
+use Rattle.kept_attention.proofs.States.{acknowledges}
 use borrow.Author.Needs.{needs}
 use Rattle.kept_attention.proofs.acknowledge.Statement.{statement}
 use Rattle.kept_attention.proofs.acknowledge.Tie as tie

@@ -5,7 +5,7 @@ use native.Mathlib.Omega.{arith}
 use Rattle.scb.specs.Words.{eventBits, raise}
 use Rattle.kept.specs.Kept.{flagsIn, flagsBy}
 use Rattle.kept.proofs.Laws.{events-is, together}
-use Rattle.kept_attention.proofs.Laws.{low-flags}
+use Rattle.kept_attention.proofs.States.{low-flags}
 use borrow.Author.Needs.{needs}
 use Rattle.kept_attention.proofs.after_codes.Statement.{statement}
 use Rattle.kept_attention.proofs.after_codes.Tie as tie

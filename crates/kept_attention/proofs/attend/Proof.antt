@@ -1,7 +1,7 @@
 -- `kept_attention::attend` meets its contract: the first attention, or a later one. Assumes nothing.
 use mathlib.Core.Path.{_∙_, sym}
 use Rattle.kept.proofs.Laws.{initialised-is}
-use Rattle.kept_attention.proofs.Laws.{attention-later, attends-first}
+use Rattle.kept_attention.proofs.Parts.{attention-later, attends-first}
 use borrow.Author.Needs.{needs}
 use Rattle.kept_attention.proofs.attend.Statement.{statement}
 use Rattle.kept_attention.proofs.attend.Tie as tie

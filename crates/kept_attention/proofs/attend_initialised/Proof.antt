@@ -3,7 +3,8 @@ use mathlib.Core.Path.{_∙_, ap, sym}
 use Prim.Native.Nat.{ℕ}
 use Rattle.scb.specs.Words.{resets}
 use Rattle.actions.specs.Setup.{setupOf}
-use Rattle.kept_attention.proofs.Laws.{setup-length, setup-fresh, attends-reset, attends-obeyed}
+use Rattle.kept_attention.proofs.States.{setup-length, setup-fresh}
+use Rattle.kept_attention.proofs.Parts.{attends-reset, attends-obeyed}
 use borrow.Author.Needs.{needs}
 use Rattle.kept_attention.proofs.attend_initialised.Statement.{statement}
 use Rattle.kept_attention.proofs.attend_initialised.Tie as tie

@@ -1,5 +1,5 @@
 -- `kept_attention::fresh` meets its contract. Assumes nothing.
-use Rattle.kept_attention.proofs.Laws.{fresh-is}
+use Rattle.kept_attention.proofs.States.{fresh-is}
 use Rattle.kept_attention.proofs.fresh.Statement.{statement}
 use Rattle.kept_attention.proofs.fresh.Tie as tie
 

@@ -1,6 +1,6 @@
 -- `kept_attention::initialised_at` meets its contract. Assumes nothing.
 use native.Mathlib.Omega.{arith}
-use Rattle.kept_attention.proofs.Laws.{initialises}
+use Rattle.kept_attention.proofs.States.{initialises}
 use borrow.Author.Needs.{needs}
 use Rattle.kept_attention.proofs.initialised_at.Statement.{statement}
 use Rattle.kept_attention.proofs.initialised_at.Tie as tie

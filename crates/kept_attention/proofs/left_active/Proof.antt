@@ -1,6 +1,6 @@
 -- `kept_attention::left_active` meets its contract: a tag tells whether the unit is Active. Assumes nothing.
 use native.Mathlib.Omega.{arith}
-use Rattle.kept_attention.proofs.Laws.{active-is, active-not}
+use Rattle.kept_attention.proofs.Codes.{active-is, active-not}
 use Rattle.kept_attention.proofs.left_active.Statement.{statement}
 use Rattle.kept_attention.proofs.left_active.Tie as tie
 

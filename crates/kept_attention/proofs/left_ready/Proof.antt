@@ -1,6 +1,6 @@
 -- `kept_attention::left_ready` meets its contract: a tag tells whether the unit is Ready. Assumes nothing.
 use native.Mathlib.Omega.{arith}
-use Rattle.kept_attention.proofs.Laws.{ready-is, ready-not}
+use Rattle.kept_attention.proofs.Codes.{ready-is, ready-not}
 use Rattle.kept_attention.proofs.left_ready.Statement.{statement}
 use Rattle.kept_attention.proofs.left_ready.Tie as tie
 

@@ -1,7 +1,7 @@
 -- `kept_attention::obey` meets its contract: the codes' writes, then status and command. Assumes nothing.
 use mathlib.Core.Path.{_∙_}
 use Rattle.kept_attention.specs.Attends.{codes}
-use Rattle.kept_attention.proofs.Laws.{obeys-all}
+use Rattle.kept_attention.proofs.Parts.{obeys-all}
 use borrow.Author.Needs.{needs}
 use Rattle.kept_attention.proofs.obey.Statement.{statement}
 use Rattle.kept_attention.proofs.obey.Tie as tie

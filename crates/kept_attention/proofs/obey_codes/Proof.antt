@@ -7,7 +7,7 @@ use Rattle.kept.specs.Kept.{CuIs, RuIs}
 use Rattle.kept.proofs.Laws.{base-is, scb-is, cu-is, ru-is}
 use Rattle.attention.specs.Attention.{leaving}
 use Rattle.kept_attention.specs.Attends.{leftActive, leftReady}
-use Rattle.kept_attention.proofs.Laws.{leaving-bits, codes-are}
+use Rattle.kept_attention.proofs.Codes.{leaving-bits, codes-are}
 use borrow.Author.Needs.{needs}
 use Rattle.kept_attention.proofs.obey_codes.Statement.{statement}
 use Rattle.kept_attention.proofs.obey_codes.Tie as tie

@@ -1,6 +1,6 @@
 -- `kept_attention::obeyed` meets its contract: codes of 0 leave the units as they are. Assumes nothing.
 use mathlib.Core.Path.{refl}
-use Rattle.kept_attention.proofs.Laws.{codes-none}
+use Rattle.kept_attention.proofs.Codes.{codes-none}
 use borrow.Author.Needs.{needs}
 use Rattle.kept_attention.proofs.obeyed.Statement.{statement}
 use Rattle.kept_attention.proofs.obeyed.Tie as tie

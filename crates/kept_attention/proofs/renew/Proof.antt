@@ -3,7 +3,7 @@ use mathlib.Core.Path.{_∙_}
 use Rattle.device.specs.State as states
 use Rattle.actions.specs.Setup.{setupOf}
 use Rattle.kept.specs.SetUp.{setupBytes}
-use Rattle.kept_attention.proofs.Laws.{run-over}
+use Rattle.kept_attention.proofs.States.{run-over}
 use borrow.Author.Needs.{needs}
 use Rattle.kept_attention.proofs.renew.Statement.{statement}
 use Rattle.kept_attention.proofs.renew.Tie as tie

@@ -1,7 +1,7 @@
 -- `kept_attention::ru_number` meets its contract. Assumes nothing.
 use mathlib.Core.Path.{_∙_}
 use native.Mathlib.Omega.{arith}
-use Rattle.kept_attention.proofs.Laws.{rus-own, rus-ready}
+use Rattle.kept_attention.proofs.States.{rus-own, rus-ready}
 use borrow.Author.Needs.{needs}
 use Rattle.kept_attention.proofs.ru_number.Statement.{statement}
 use Rattle.kept_attention.proofs.ru_number.Tie as tie

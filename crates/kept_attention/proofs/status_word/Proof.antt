@@ -1,5 +1,5 @@
 -- `kept_attention::status_word` meets its contract. Assumes nothing.
-use Rattle.kept_attention.proofs.Laws.{status-joined}
+use Rattle.kept_attention.proofs.States.{status-joined}
 use Rattle.kept_attention.proofs.status_word.Statement.{statement}
 use Rattle.kept_attention.proofs.status_word.Tie as tie
 

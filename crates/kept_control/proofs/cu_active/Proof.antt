@@ -1,6 +1,6 @@
 -- `kept_control::cu_active` meets its contract: a law for each arm. Assumes nothing.
 use native.Mathlib.Omega.{arith}
-use Rattle.kept_control.proofs.Laws.{active-from, active-stays}
+use Rattle.kept_control.proofs.CuCodes.{active-from, active-stays}
 use borrow.Author.Needs.{needs}
 use Rattle.kept_control.proofs.cu_active.Statement.{statement}
 use Rattle.kept_control.proofs.cu_active.Tie as tie

@@ -1,7 +1,7 @@
 -- `kept_control::cu_number` meets its contract. Assumes nothing.
 use mathlib.Core.Path.{_∙_}
 use native.Mathlib.Omega.{arith}
-use Rattle.kept_control.proofs.Laws.{cu-number-past, cu-number-own}
+use Rattle.kept_control.proofs.CuCodes.{cu-number-past, cu-number-own}
 use borrow.Author.Needs.{needs}
 use Rattle.kept_control.proofs.cu_number.Statement.{statement}
 use Rattle.kept_control.proofs.cu_number.Tie as tie

@@ -1,7 +1,7 @@
 -- `kept_control::cu_suspended` meets its contract: a law for each arm. Assumes nothing.
 use mathlib.Core.Path.{_∙_, sym}
 use native.Mathlib.Omega.{arith}
-use Rattle.kept_control.proofs.Laws.{suspend-inactive, suspend-waiting, suspend-begun}
+use Rattle.kept_control.proofs.CuCodes.{suspend-inactive, suspend-waiting, suspend-begun}
 use Rattle.kept_control.proofs.cu_suspended.Statement.{statement}
 use Rattle.kept_control.proofs.cu_suspended.Tie as tie
 

@@ -1,7 +1,7 @@
 -- `kept_control::obey_cuc` meets its contract: a law for each state that the table leads to. Assumes nothing.
 use mathlib.Core.Path.{_∙_, sym}
 use Rattle.device.specs.State.{cuState}
-use Rattle.kept_control.proofs.Laws.{cuc-idle, cuc-suspended, cuc-active}
+use Rattle.kept_control.proofs.CuCodes.{cuc-idle, cuc-suspended, cuc-active}
 use borrow.Author.Needs.{needs}
 use Rattle.kept_control.proofs.obey_cuc.Statement.{statement}
 use Rattle.kept_control.proofs.obey_cuc.Tie as tie

@@ -1,7 +1,7 @@
 -- `kept_control::obey_ruc` meets its contract: a law for each state that the table leads to. Assumes nothing.
 use mathlib.Core.Path.{_∙_, sym}
 use Rattle.device.specs.State.{ruState}
-use Rattle.kept_control.proofs.Laws.{ruc-idle, ruc-suspended, ruc-none, ruc-ready}
+use Rattle.kept_control.proofs.RuCodes.{ruc-idle, ruc-suspended, ruc-none, ruc-ready}
 use borrow.Author.Needs.{needs}
 use Rattle.kept_control.proofs.obey_ruc.Statement.{statement}
 use Rattle.kept_control.proofs.obey_ruc.Tie as tie

@@ -1,7 +1,7 @@
 -- `kept_control::ru_column` meets its contract. Assumes nothing.
 use mathlib.Core.Path.{_∙_}
 use native.Mathlib.Omega.{arith}
-use Rattle.kept_control.proofs.Laws.{ru-column-past, ru-column-own}
+use Rattle.kept_control.proofs.RuCodes.{ru-column-past, ru-column-own}
 use borrow.Author.Needs.{needs}
 use Rattle.kept_control.proofs.ru_column.Statement.{statement}
 use Rattle.kept_control.proofs.ru_column.Tie as tie

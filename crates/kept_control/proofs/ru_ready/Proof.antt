@@ -1,6 +1,6 @@
 -- `kept_control::ru_ready` meets its contract: a law for each arm. Assumes nothing.
 use native.Mathlib.Omega.{arith}
-use Rattle.kept_control.proofs.Laws.{ready-from, ready-stays}
+use Rattle.kept_control.proofs.RuCodes.{ready-from, ready-stays}
 use borrow.Author.Needs.{needs}
 use Rattle.kept_control.proofs.ru_ready.Statement.{statement}
 use Rattle.kept_control.proofs.ru_ready.Tie as tie

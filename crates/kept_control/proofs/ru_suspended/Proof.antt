@@ -1,7 +1,7 @@
 -- `kept_control::ru_suspended` meets its contract: a law for each arm. Assumes nothing.
 use mathlib.Core.Path.{_∙_, sym}
 use native.Mathlib.Omega.{arith}
-use Rattle.kept_control.proofs.Laws.{suspend-unready, suspend-ready, suspend-held}
+use Rattle.kept_control.proofs.RuCodes.{suspend-unready, suspend-ready, suspend-held}
 use Rattle.kept_control.proofs.ru_suspended.Statement.{statement}
 use Rattle.kept_control.proofs.ru_suspended.Tie as tie
 
