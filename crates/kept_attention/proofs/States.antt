@@ -65,6 +65,10 @@ status-joined events cus rus a b c =
 
 -- ---- a state put together from numbers
 
+-- the events stand lowest in a status
+without : (x y z a b c d f : ℕ) → z + y ≡ x → 16 * x + a + b + c + d + f - 16 * z ≡ 16 * y + a + b + c + d + f
+without x y z a b c d f e = omega arith
+
 module _ (u : Units) (k : Kept) (h : KeptIs u k) where
   -- the flags below the events
   pub low-flags : flagsIn k % 4 ≡ one (u .initialised) + 2 * one (u .rulast)
@@ -75,15 +79,19 @@ module _ (u : Units) (k : Kept) (h : KeptIs u k) where
 
   pub acknowledges : (command : ℕ) → command < 65536
       → KeptIs (withEvents u (acknowledged (u .events) command))
-      (record { status = k .status - 1048576 * bitAnd (flagsIn k / 16) (command / 4096); cu = k .cu; ru = k .ru; rest = k .rest })
+      (record { status = k .status - 16 * bitAnd (flagsIn k / 16) (command / 4096); cu = k .cu; ru = k .ru; rest = k .rest })
   unfolding keptOf
   acknowledges command l =
       let e = acknowledged (u .events) command in
       let s : k .status ≡ statusBy (u .scb .0) (flagsBy (u .initialised) (u .rulast) (u .events)) (cuTag (u .cu)) (ruTag (u .ru)) (u .base .0) =
       ap (λ (x : Kept). x .status) (h .same) in
-      let t : k .status - 1048576 * bitAnd (eventBits (u .events)) (command / 4096)
+      let t : k .status - 16 * bitAnd (eventBits (u .events)) (command / 4096)
       ≡ statusBy (u .scb .0) (flagsBy (u .initialised) (u .rulast) e) (cuTag (u .cu)) (ruTag (u .ru)) (u .base .0) =
-      omega (arith, s, cleared (u .events) command l) in
+      let q : flagsBy (u .initialised) (u .rulast) (u .events) / 16 ≡ eventBits (u .events) = omega (arith, one-below (u .initialised), one-below (u .rulast)) in
+      let q' : flagsBy (u .initialised) (u .rulast) e / 16 ≡ eventBits e = omega (arith, one-below (u .initialised), one-below (u .rulast)) in
+      let r : flagsBy (u .initialised) (u .rulast) (u .events) % 4 ≡ one (u .initialised) + 2 * one (u .rulast) = omega (arith, one-below (u .initialised), one-below (u .rulast)) in
+      let r' : flagsBy (u .initialised) (u .rulast) e % 4 ≡ one (u .initialised) + 2 * one (u .rulast) = omega (arith, one-below (u .initialised), one-below (u .rulast)) in
+      rw (s, q, q', r, r') (without (eventBits (u .events)) (eventBits e) (bitAnd (eventBits (u .events)) (command / 4096)) _ _ _ _ _ (cleared (u .events) command l)) in
       record {
         same =
             rw (events-is u k h, t, ap (λ (x : Kept). x .cu) (h .same), ap (λ (x : Kept). x .ru) (h .same), ap (λ (x : Kept). x .rest) (h .same));

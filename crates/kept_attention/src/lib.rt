@@ -64,7 +64,9 @@ const CNA: u64 = 2;
 
 const RNR: u64 = 1;
 
-const EVENT: u64 = 1048576;
+const EVENT: u64 = 16;
+
+const OFFSET: u64 = 16777216;
 
 const BASE: u64 = 1099511627776;
 
@@ -209,7 +211,7 @@ fn after_codes(k: Kept, c: CuObeyed, r: RuObeyed, raised: u64) -> Kept
 {
     let flags = kept::flags(k) % 4 + 16 * kept::raise(kept::events(k), raised);
     Kept {
-        status: kept::status_of(k.status, flags, c.tag, r.tag, k.status / BASE),
+        status: kept::status_of(k.status / OFFSET, flags, c.tag, r.tag, k.status / BASE),
         cu: c.word,
         ru: r.word,
         rest: r.rest,
