@@ -49,15 +49,20 @@ const HEADER: usize = 14;
 fn conclude(memory: &mut [u8], k: Kept, raised: u64, length: u16) -> Turned
     ensures { λ r. ⌜ ((u : Units) (by : Events) → keeps.KeptIs u k → raised ≡ words.eventBits by → does.Concludes u by k length (now (memory .entry)) r (now (memory .exit))) ⌝ }
 {
-    let edge = raised != 0;
-    if edge {
+    if raised != 0 {
         kept_attention::write_status(memory, k);
+        return Turned {
+            kept: k,
+            length: length,
+            edge: true,
+            stops: true,
+        };
     }
     Turned {
         kept: k,
         length: length,
-        edge: edge,
-        stops: (length != 0) | edge,
+        edge: false,
+        stops: length != 0,
     }
 }
 
