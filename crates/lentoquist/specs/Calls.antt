@@ -14,8 +14,8 @@ use Rattle.device.specs.declared.Device.{Device}
 use Rattle.device.specs.declared.Refusal.{Refusal}
 use Rattle.device.specs.declared.Refusal.the-variants as refusal
 use Rattle.image.specs.Image.{imageOf, decodeOf, deviceAt}
-use Rattle.image.specs.declared.Decoded.{Decoded}
-use Rattle.image.specs.declared.Decoded.the-variants as is
+use Rattle.image.specs.Found.{Found}
+use Rattle.image.specs.Found as is
 use Rattle.chip.specs.World.{World, Ran, worldOf, resetOf}
 use Rattle.chip.specs.Attention.{attentionOf}
 use Rattle.chip.specs.Arrival.{arrivalOf}
@@ -68,7 +68,7 @@ unfoldable pub areasRight : Areas → Bool
 areasRight a = lengthsRight (length (a .holding)) (length (a .outgoing)) (length (a .kept))
 
 -- the record is the image of a state within docs/' ranges
-abbrev pub isImage : Decoded → Bool
+abbrev pub isImage : Found → Bool
 isImage (is.Units u) = true
 isImage is.Foreign = false
 
@@ -93,7 +93,7 @@ keptBy r =
       areas = areasOf (r .memory) (r .holding) (r .outgoing) (imageOf (r .outcome .device));
     }
 
-abbrev pub calledOn : (World → Ran) → Areas → Decoded → Called
+abbrev pub calledOn : (World → Ran) → Areas → Found → Called
 calledOn run a (is.Units u) =
     keptBy (run (worldOf (deviceAt (a .kept) u) (a .memory) (a .holding) (a .outgoing)))
 calledOn run a is.Foreign = refused refusal.Foreign a
