@@ -1,28 +1,22 @@
 -- What a call comes to, by what is lent: each refusal, and the call that is not refused. Assumes nothing.
-use mathlib.Core.Path.{_≡_, refl, _∙_}
+use mathlib.Core.Path.{_≡_, refl}
 use mathlib.Core.Bool.{Bool, true, false, _&&_}
-use mathlib.Core.List.{List, _++_}
+use mathlib.Core.List.{List}
 use Prim.Native.Nat.{ℕ}
-use native.Mathlib.Omega.{arith}
 use borrow.Author.Tests.{eqb-true}
 use lib.Dec.{eqb, leb}
-use lib.ListN.{length, replicate, take, drop, length-append}
-use Rattle.memory.specs.Memory.{digits}
+use lib.ListN.{length, take, drop}
 use Rattle.memory.specs.Size.{sizeAllowed}
 use Rattle.memory.proofs.Bytes.{Bytes}
 use Rattle.device.specs.Limits.{recordSize, longest}
-use Rattle.device.specs.State.{fresh}
 use Rattle.device.specs.declared.Device.{Device}
 use Rattle.device.specs.declared.Refusal.the-variants as refusal
 use Rattle.device.specs.declared.Units.{Units}
-use Rattle.actions.specs.Setup.{setupOf}
-use Rattle.kept.specs.SetUp.{setupBytes}
 use Rattle.kept.specs.declared.Kept.{Kept}
-use Rattle.image.specs.Image.{front, unitBytes, imageOf, decodeOf, deviceFrom, deviceAt, stored, storedUnits}
-use Rattle.image.proofs.Steps.{length-units, length-setup, length-image, stored-image, units-stored}
-use Rattle.image.proofs.Lent.{its-numbers, its-setup, units-put, setup-lent, setup-returned}
-use Rattle.unpacked.specs.Unpacked.{deviceBy, packedOf}
-use Rattle.unpacked.proofs.Laws.{device-by, same-bytes}
+use Rattle.image.specs.Image.{decodeOf, deviceFrom, deviceAt}
+use Rattle.image.proofs.Lent.{its-numbers, its-setup, setup-lent}
+use Rattle.unpacked.specs.Unpacked.{deviceBy}
+use Rattle.unpacked.proofs.Laws.{device-by}
 use Rattle.image.specs.Found as is
 use Rattle.chip.specs.World.{World, Ran, worldOf}
 use Rattle.chip.specs.Attention.{attentionOf}
@@ -76,27 +70,6 @@ pub read-device : (r : List ℕ) (k : Kept) (u : Units) → length r ≡ 256 →
 unfolding deviceAt deviceFrom
 read-device r k u l b f =
     rw (setup-lent r l) (device-by (deviceAt r u) k (drop 152 r) (its-numbers r u l b (f .found) k (f .numbers)) (its-setup r u l b (f .found)))
-
--- a fresh record with other numbers and another setup
-two-parts : (k : Kept) (s t : List ℕ) → take 152 (unitBytes k ++ (replicate 112 0 ++ s)) ++ t ≡ unitBytes k ++ (replicate 112 0 ++ t)
-unfolding unitBytes front digits
-two-parts k s t = refl
-
-units-length : (k : Kept) (s : List ℕ) → length s ≡ 104 → length (unitBytes k ++ (replicate 112 0 ++ s)) ≡ 256
-units-length k s e = simp length-append (omega (arith, length-units k))
-
-module _ (r : List ℕ) (d : Device) (l : length r ≡ 256) where
-  numbers-put : storedUnits (stored r fresh) (packedOf (d .units)) ≡ unitBytes (packedOf (d .units)) ++ (replicate 112 0 ++ setupBytes (setupOf fresh))
-  numbers-put =
-      rw (stored-image r fresh l) (units-stored (imageOf fresh) (packedOf (d .units)) (length-image fresh refl refl) ∙ units-put fresh (packedOf (d .units)))
-
-  pub written : let x = storedUnits (stored r fresh) (packedOf (d .units)) in take 152 x ++ (setupBytes (setupOf d) ++ drop 104 (drop 152 x)) ≡ imageOf d
-  unfolding imageOf
-  written =
-      let k = packedOf (d .units) in
-      let n = units-length k (setupBytes (setupOf fresh)) (length-setup (setupOf fresh) refl refl) in
-      rw (numbers-put, setup-returned (unitBytes k ++ (replicate 112 0 ++ setupBytes (setupOf fresh))) n (setupBytes (setupOf d)))
-      (two-parts k (setupBytes (setupOf fresh)) (setupBytes (setupOf d)) ∙ rw (same-bytes (d .units)))
 
 -- a promise may be shown of what the call comes to
 pub as-said : {x y : Called} {n : ℕ} {m h out r : List ℕ} → x ≡ y → Calls y n m h out r → Calls x n m h out r

@@ -58,17 +58,6 @@ fn device_of(kept: &[u8], k: Kept) -> Device
     unpacked::device_of(&kept[152..256], k)
 }
 
-// The image of a device goes to a record.
-fn store(kept: &mut [u8], d: Device)
-    requires { ⌜ length (now kept) ≡ 256 ⌝ }
-    ensures { λ _. ⌜ now (kept .exit) ≡ image.imageOf d ⌝ }
-{
-    let u = d.units;
-    image::renew(kept);
-    image::store(kept, unpacked::kept_of(u));
-    unpacked::put_setup(&mut kept[152..256], d);
-}
-
 // ---- the calls on a record that is an image
 
 // An attention to the device of the numbers k.
@@ -79,7 +68,7 @@ fn attention_on(memory: &mut [u8], kept: &mut [u8], k: Kept) -> u64
     let o = chip::attention(memory, device_of(kept, k));
     let after = o.device;
     let answer = o.answer;
-    store(kept, after);
+    unpacked::write(kept, after);
     packed(answer)
 }
 
@@ -98,7 +87,7 @@ fn arrival_on(
     let o = chip::arrival(memory, holding, device_of(kept, k), frame, verdict);
     let after = o.device;
     let answer = o.answer;
-    store(kept, after);
+    unpacked::write(kept, after);
     packed(answer)
 }
 
@@ -117,7 +106,7 @@ fn turn_on(
     let o = chip::turn(memory, holding, outgoing, device_of(kept, k), report);
     let after = o.device;
     let answer = o.answer;
-    store(kept, after);
+    unpacked::write(kept, after);
     packed(answer)
 }
 

@@ -4,10 +4,11 @@ use mathlib.Core.List.{List, _∷_, _++_}
 use Prim.Native.Nat.{ℕ, zero, suc, _+_, _*_, _/_, _%_, _^_, _<_}
 use native.Mathlib.Nat.{pow-suc, mod-eq-of-lt}
 use native.Mathlib.Omega.{arith}
-use lib.ListN.{length, set}
+use lib.ListN.{length, set, replicate, take, drop, length-append}
 use lib.Seq.{sets}
 use Rattle.memory.specs.Memory.{digits}
 use Rattle.memory.proofs.Laws.{sets-append}
+use Rattle.device.specs.State.{fresh}
 use Rattle.device.specs.declared.Device.{Device}
 use Rattle.device.specs.declared.Units.{Units}
 use Rattle.actions.specs.Setup.{Setup, setupOf}
@@ -19,9 +20,10 @@ use Rattle.kept.specs.Kept.{flagsOf, statusBy, keptOf, UnitsWide, KeptIs}
 use Rattle.kept.specs.SetUp.{settingsByte, setupBytes, SetIs}
 use Rattle.kept.specs.declared.Kept.{Kept}
 use Rattle.kept.proofs.Laws.{cu-tag-below, ru-tag-below, flags-below}
-use Rattle.image.specs.Image.{unitBytes}
+use Rattle.image.specs.Image.{front, unitBytes, imageOf, stored, storedUnits}
 use Rattle.image.proofs.Exact.{settings-back, units-by}
-use Rattle.image.proofs.Steps.{length-setup}
+use Rattle.image.proofs.Steps.{length-units, length-setup, length-image, stored-image, units-stored}
+use Rattle.image.proofs.Lent.{units-put, setup-returned}
 use Rattle.unpacked.specs.Unpacked.{settingsIn, deviceBy, cutBase, packedOf}
 
 -- ---- a device of numbers and bytes
@@ -102,3 +104,26 @@ status-of u f e h =
     let c : cuTag (u .cu) % 8 ≡ cuTag (u .cu) = mod-eq-of-lt (cu-tag-below (u .cu)) in
     let d : ruTag (u .ru) % 256 ≡ ruTag (u .ru) = omega (arith, ru-tag-below (u .ru)) in
     rw (e, a, b, c, d)
+
+-- ---- a device written to a record
+
+-- a fresh record with other numbers and another setup
+two-parts : (k : Kept) (s t : List ℕ) → take 152 (unitBytes k ++ (replicate 112 0 ++ s)) ++ t ≡ unitBytes k ++ (replicate 112 0 ++ t)
+unfolding unitBytes front digits
+two-parts k s t = refl
+
+units-length : (k : Kept) (s : List ℕ) → length s ≡ 104 → length (unitBytes k ++ (replicate 112 0 ++ s)) ≡ 256
+units-length k s e = simp length-append (omega (arith, length-units k))
+
+module _ (r : List ℕ) (d : Device) (l : length r ≡ 256) where
+  numbers-put : storedUnits (stored r fresh) (packedOf (d .units)) ≡ unitBytes (packedOf (d .units)) ++ (replicate 112 0 ++ setupBytes (setupOf fresh))
+  numbers-put =
+      rw (stored-image r fresh l) (units-stored (imageOf fresh) (packedOf (d .units)) (length-image fresh refl refl) ∙ units-put fresh (packedOf (d .units)))
+
+  pub written : let x = storedUnits (stored r fresh) (packedOf (d .units)) in take 152 x ++ (setupBytes (setupOf d) ++ drop 104 (drop 152 x)) ≡ imageOf d
+  unfolding imageOf
+  written =
+      let k = packedOf (d .units) in
+      let n = units-length k (setupBytes (setupOf fresh)) (length-setup (setupOf fresh) refl refl) in
+      rw (numbers-put, setup-returned (unitBytes k ++ (replicate 112 0 ++ setupBytes (setupOf fresh))) n (setupBytes (setupOf d)))
+      (two-parts k (setupBytes (setupOf fresh)) (setupBytes (setupOf d)) ∙ rw (same-bytes (d .units)))

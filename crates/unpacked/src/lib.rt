@@ -131,3 +131,23 @@ pub fn put_setup(setup: &mut [u8], d: Device)
     words::put_run6(setup, 2, own);
     words::put_run96(setup, 8, listed);
 }
+
+// The image of a device goes to a record of 256 bytes, whatever stood there.
+pub fn write(r: &mut [u8], d: Device)
+    requires { ⌜ length (now r) ≡ 256 ⌝ }
+    ensures { λ _. ⌜ now (r .exit) ≡ image.imageOf d ⌝ }
+{
+    let u = d.units;
+    image::renew(r);
+    image::store(r, kept_of(u));
+    put_setup(&mut r[152..256], d);
+}
+
+// The same of a record of any length; one of another length stays as it is.
+pub fn store(r: &mut [u8], d: Device)
+    ensures { λ _. ⌜ now (r .exit) ≡ image.stored (now (r .entry)) d ⌝ }
+{
+    if r.len() == 256 {
+        write(r, d);
+    }
+}

@@ -2,7 +2,8 @@
 use mathlib.Core.Path.{_≡_}
 use mathlib.Core.List.{List}
 use Prim.Native.Nat.{ℕ}
-use Rattle.image.specs.Image.{decodeOf, deviceAt, stored}
+use Rattle.kept.specs.Kept.{keptOf}
+use Rattle.image.specs.Image.{decodeOf, storedUnits}
 use Rattle.image.specs.Found.{Found}
 use Rattle.image.specs.Found as is
 
@@ -11,9 +12,9 @@ abbrev pub taken : Found → ℕ
 taken (is.Units u) = 1
 taken is.Foreign = 0
 
--- what is written back: the image of that state; a foreign record stays
+-- what is written back: the numbers of that state; a foreign record stays
 abbrev pub rewritten : Found → List ℕ → List ℕ
-rewritten (is.Units u) r = stored r (deviceAt r u)
+rewritten (is.Units u) r = storedUnits r (keptOf u)
 rewritten is.Foreign r = r
 
 pub record Both (before : List ℕ) (said : ℕ) (after : List ℕ) : Type 0 where

@@ -21,5 +21,5 @@ arrival-on-spec =
       answer = λ out. rw (c .before .before .before .before .before .before .before .before .before .before .before .arrival .ensures .outcome) at (c .packed .ensures);
       memory = λ out. rw e at (c .before .before .before .before .before .before .before .before .before .before .before .arrival .ensures .memory);
       holding = λ out. rw e at (c .before .before .before .before .before .before .before .before .before .before .before .arrival .ensures .holding);
-      kept = λ out. rw (c .before .before .before .before .before .before .before .before .before .before .before .arrival .ensures .outcome, e) at (c .before .before .before .store .ensures);
+      kept = λ out. rw (c .before .before .before .before .before .before .before .before .before .before .before .arrival .ensures .outcome, e) at (c .before .before .before .write .ensures);
     }))

@@ -19,5 +19,5 @@ attention-on-spec =
     record {
       answer = λ h out. rw (c .before .before .before .before .before .before .before .before .before .attention .ensures .outcome, e) at (c .packed .ensures);
       memory = λ h out. rw e at (c .before .before .before .before .before .before .before .before .before .attention .ensures .memory);
-      kept = λ h out. rw (c .before .before .before .before .before .before .before .before .before .attention .ensures .outcome, e) at (c .before .before .before .store .ensures);
+      kept = λ h out. rw (c .before .before .before .before .before .before .before .before .before .attention .ensures .outcome, e) at (c .before .before .before .write .ensures);
     }))

@@ -20,5 +20,5 @@ turn-on-spec =
       memory = rw e at (c .before .before .before .before .before .before .before .before .before .before .before .turn .ensures .memory);
       holding = rw e at (c .before .before .before .before .before .before .before .before .before .before .before .turn .ensures .holding);
       outgoing = rw e at (c .before .before .before .before .before .before .before .before .before .before .before .turn .ensures .outgoing);
-      kept = rw (c .before .before .before .before .before .before .before .before .before .before .before .turn .ensures .outcome, e) at (c .before .before .before .store .ensures);
+      kept = rw (c .before .before .before .before .before .before .before .before .before .before .before .turn .ensures .outcome, e) at (c .before .before .before .write .ensures);
     }))
