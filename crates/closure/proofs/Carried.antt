@@ -18,7 +18,7 @@ use Rattle.device.specs.declared.Device.{Device}
 use Rattle.device.specs.declared.Refusal.the-variants as refusal
 use Rattle.device.specs.declared.Units.{Units}
 use Rattle.image.specs.Image.{imageOf, decodeOf, deviceAt}
-use Rattle.image.specs.declared.Decoded.the-variants as is
+use Rattle.image.specs.Found as is
 use Rattle.image.proofs.Steps.{length-image, decode-other}
 use Rattle.image.proofs.Exact.{decode-image, device-back, image-bytes}
 use Rattle.chip.specs.World.{World, Ran, afterwards}

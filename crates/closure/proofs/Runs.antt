@@ -7,7 +7,7 @@ use Rattle.memory.proofs.Bytes.{Bytes}
 use Rattle.device.specs.State.{fresh}
 use Rattle.device.specs.declared.Units.{Units}
 use Rattle.image.specs.Image.{decodeOf, deviceAt}
-use Rattle.image.specs.declared.Decoded.the-variants as is
+use Rattle.image.specs.Found as is
 use Rattle.chip.specs.World.{World, worldOf, afterwards, resetOf}
 use Rattle.chip.specs.Call.{Call, reset, ran}
 use Rattle.lentoquist.specs.Calls.{Areas, areasOf, Called, packed}

@@ -1,11 +1,11 @@
 -- For a caller that lends the parts of a record: what is decoded is the numbers of a state, the last 104 bytes are its setup, and numbers and
 -- setup put back are the image of the state that they say. Assumes nothing.
 use mathlib.Core.Path.{_≡_, refl, sym, ap, subst, _∙_}
-use mathlib.Core.List.{List, [], _∷_, _++_}
-use Prim.Native.Nat.{ℕ, zero, suc, _+_, _*_, _%_, _<_}
+use mathlib.Core.List.{List, [], _++_, append-nil}
+use Prim.Native.Nat.{ℕ, _-_}
 use native.Mathlib.Omega.{arith}
-use lib.ListN.{length, replicate, take, drop}
-use lib.Seq.{sets}
+use lib.ListN.{length, replicate, take, drop, length-drop, drop-of-length-le}
+use lib.Seq.{take-all}
 use Rattle.memory.specs.Memory.{digits}
 use Rattle.memory.proofs.Bytes.{Bytes}
 use Rattle.device.specs.declared.Device.{Device}
@@ -17,10 +17,9 @@ use Rattle.kept.specs.declared.Kept.{Kept}
 use Rattle.image.specs.Ranges.{inRange, Wide}
 use Rattle.image.specs.Found.{Found}
 use Rattle.image.specs.Found as is
-use Rattle.image.specs.Image.{front, unitBytes, imageOf, deviceFrom, deviceAt, decodeOf, decodedBy, putKept, storedUnits}
+use Rattle.image.specs.Image.{front, unitBytes, imageOf, deviceFrom, deviceAt, decodeOf, decodedBy, putKept}
 use Rattle.image.specs.declared.Decoded.{Decoded}
 use Rattle.image.specs.declared.Decoded.the-variants as code
-use Rattle.image.proofs.Steps.{length-image, units-stored}
 use Rattle.image.proofs.Exact.{Image, exact, wide-units, fits}
 
 -- ---- what is decoded
@@ -88,3 +87,17 @@ module _ (d : Device) (u : Units) (k : Kept) (s : Setup) (h : KeptIs u k) (same 
   pub parts-put : take 152 (putKept (imageOf d) k) ++ setupBytes s ≡ imageOf (record { units = u; own = s .own; listed = s .listed })
   unfolding imageOf unitBytes front digits
   parts-put = rw (h .same, ← same)
+
+-- ---- the last 104 bytes of a record, lent and returned
+
+module _ (r : List ℕ) (l : length r ≡ 256) where
+  last-length : length (drop 152 r) ≡ 104
+  last-length = let e : length (drop 152 r) ≡ length r - 152 = length-drop 152 r in omega arith
+
+  pub setup-lent : take 104 (drop 152 r) ≡ drop 152 r
+  setup-lent = take-all 104 (drop 152 r) (omega (arith, last-length))
+
+  pub setup-returned : (b : List ℕ) → take 152 r ++ (b ++ drop 104 (drop 152 r)) ≡ take 152 r ++ b
+  setup-returned b =
+      let e : drop 104 (drop 152 r) ≡ [] = drop-of-length-le (drop 152 r) {i = 104} (omega (arith, last-length)) in
+      rw e (ap (λ (x : List ℕ). take 152 r ++ x) (append-nil b))

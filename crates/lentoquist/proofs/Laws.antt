@@ -3,20 +3,27 @@ use mathlib.Core.Path.{_≡_, refl}
 use mathlib.Core.Bool.{Bool, true, false, _&&_}
 use mathlib.Core.List.{List}
 use Prim.Native.Nat.{ℕ}
+use borrow.Author.Tests.{eqb-true}
 use lib.Dec.{eqb, leb}
-use lib.ListN.{length}
+use lib.ListN.{length, take, drop}
 use Rattle.memory.specs.Size.{sizeAllowed}
+use Rattle.memory.proofs.Bytes.{Bytes}
 use Rattle.device.specs.Limits.{recordSize, longest}
 use Rattle.device.specs.declared.Device.{Device}
 use Rattle.device.specs.declared.Refusal.the-variants as refusal
 use Rattle.device.specs.declared.Units.{Units}
-use Rattle.image.specs.Image.{imageOf, decodeOf, deviceAt, stored}
-use Rattle.image.specs.declared.Decoded.the-variants as is
+use Rattle.kept.specs.declared.Kept.{Kept}
+use Rattle.image.specs.Image.{decodeOf, deviceFrom, deviceAt}
+use Rattle.image.proofs.Lent.{its-numbers, its-setup, setup-lent}
+use Rattle.unpacked.specs.Unpacked.{deviceBy}
+use Rattle.unpacked.proofs.Laws.{device-by}
+use Rattle.image.specs.Found as is
 use Rattle.chip.specs.World.{World, Ran, worldOf}
 use Rattle.chip.specs.Attention.{attentionOf}
 use Rattle.chip.specs.Arrival.{arrivalOf}
 use Rattle.chip.specs.Run.{runOf}
 use Rattle.lentoquist.specs.Calls.{Areas, Called, Calls, areasRight, refusalOf, refused, keptBy, calledBy, keptRun, runCall}
+use Rattle.lentoquist.specs.Inner.{Finds}
 
 module _ (a : Areas) (f : List ℕ) (run : World → Ran) where
   -- 1: N is not allowed
@@ -72,10 +79,18 @@ and-first : (x y z : Bool) → (x && y && z) ≡ true → x ≡ true
 and-first true y z e = refl
 and-first false y z e = e
 
--- what is written back is the image
-pub whole-record : (a : Areas) (d : Device) → areasRight a ≡ true → stored (a .kept) d ≡ imageOf d
-unfolding areasRight stored
-whole-record a d r = rw (and-first (eqb (length (a .kept)) recordSize) _ _ r)
+-- a record that is not refused has 256 bytes
+pub record-length : (a : Areas) → areasRight a ≡ true → length (a .kept) ≡ 256
+unfolding areasRight
+record-length a r = eqb-true _ _ (and-first (eqb (length (a .kept)) recordSize) _ _ r)
+
+-- ---- a record as a device
+
+-- the numbers and the setup of an image are its device
+pub read-device : (r : List ℕ) (k : Kept) (u : Units) → length r ≡ 256 → Bytes r → Finds r k u → deviceBy (take 104 (drop 152 r)) k ≡ deviceAt r u
+unfolding deviceAt deviceFrom
+read-device r k u l b f =
+    rw (setup-lent r l) (device-by (deviceAt r u) k (drop 152 r) (its-numbers r u l b (f .found) k (f .numbers)) (its-setup r u l b (f .found)))
 
 -- a promise may be shown of what the call comes to
 pub as-said : {x y : Called} {n : ℕ} {m h out r : List ℕ} → x ≡ y → Calls y n m h out r → Calls x n m h out r

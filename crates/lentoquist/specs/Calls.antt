@@ -14,8 +14,8 @@ use Rattle.device.specs.declared.Device.{Device}
 use Rattle.device.specs.declared.Refusal.{Refusal}
 use Rattle.device.specs.declared.Refusal.the-variants as refusal
 use Rattle.image.specs.Image.{imageOf, decodeOf, deviceAt}
-use Rattle.image.specs.declared.Decoded.{Decoded}
-use Rattle.image.specs.declared.Decoded.the-variants as is
+use Rattle.image.specs.Found.{Found}
+use Rattle.image.specs.Found as is
 use Rattle.chip.specs.World.{World, Ran, worldOf, resetOf}
 use Rattle.chip.specs.Attention.{attentionOf}
 use Rattle.chip.specs.Arrival.{arrivalOf}
@@ -69,7 +69,7 @@ unfoldable pub areasRight : Areas → Bool
 areasRight a = lengthsRight (length (a .holding)) (length (a .outgoing)) (length (a .kept))
 
 -- the record is the image of a state within docs/' ranges
-abbrev pub isImage : Decoded → Bool
+abbrev pub isImage : Found → Bool
 isImage (is.Units u) = true
 isImage is.Foreign = false
 
@@ -95,7 +95,7 @@ keptBy r =
     }
 
 -- what is done to the world that the record says
-abbrev pub decodedOn : (World → Called) → Areas → Decoded → Called
+abbrev pub decodedOn : (World → Called) → Areas → Found → Called
 decodedOn does a (is.Units u) = does (worldOf (deviceAt (a .kept) u) (a .memory) (a .holding) (a .outgoing))
 decodedOn does a is.Foreign = refused refusal.Foreign a
 
@@ -106,7 +106,7 @@ unlessRefused refusal.Area does a = refused refusal.Area a
 unlessRefused refusal.Overlong does a = refused refusal.Overlong a
 unlessRefused refusal.Foreign does a = refused refusal.Foreign a
 
-abbrev pub calledOn : (World → Ran) → Areas → Decoded → Called
+abbrev pub calledOn : (World → Ran) → Areas → Found → Called
 calledOn run a decoded = decodedOn (λ w. keptBy (run w)) a decoded
 
 abbrev pub calledBy : Refusal → (World → Ran) → Areas → Called

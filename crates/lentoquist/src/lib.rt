@@ -1,12 +1,16 @@
 // The four calls that C links: refusals first, then the chip under the record's image. They take slices of every length and every content.
 // specs/Calls.antt says what each answers and leaves in every lent byte.
 use device::Answer;
+use device::Device;
 use device::Refusal;
-use device::Units;
 use image::Decoded;
+use kept::Kept;
 ghost use mathlib.Core.Path.{_≡_};
 ghost use Prim.Native.Nat.{_<_};
+ghost use lib.ListN.{length};
 ghost use Rattle.scb.specs.Words as words;
+ghost use Rattle.device.specs.declared.Units.{Units};
+ghost use Rattle.image.specs.Image as image;
 ghost use Rattle.lentoquist.specs.Calls as calls;
 ghost use Rattle.lentoquist.specs.Inner as inner;
 
@@ -44,52 +48,65 @@ fn lengths_right(holding: usize, outgoing: usize, kept: usize) -> bool
     (kept == 256) & (holding == 2048) & (outgoing == 2048)
 }
 
+// ---- a record as a device
+
+// The device of a record whose numbers are k.
+fn device_of(kept: &[u8], k: Kept) -> Device
+    requires { ⌜ length (now kept) ≡ 256 ⌝ }
+    ensures { λ x. ⌜ ((u : Units) → inner.Finds (now (kept .entry)) k u → x ≡ image.deviceAt (now (kept .entry)) u) ⌝ }
+{
+    unpacked::device_of(&kept[152..256], k)
+}
+
 // ---- the calls on a record that is an image
 
-// An attention to the device whose units are u.
-fn attention_on(memory: &mut [u8], kept: &mut [u8], u: Units) -> u64
-    ensures { λ r. ⌜ inner.AttendsOn u (now (memory .entry)) (now (kept .entry)) r (now (memory .exit)) (now (kept .exit)) ⌝ }
+// An attention to the device of the numbers k.
+fn attention_on(memory: &mut [u8], kept: &mut [u8], k: Kept) -> u64
+    requires { ⌜ length (now kept) ≡ 256 ⌝ }
+    ensures { λ r. ⌜ ((u : Units) → inner.Finds (now (kept .entry)) k u → inner.AttendsOn u (now (memory .entry)) (now (kept .entry)) r (now (memory .exit)) (now (kept .exit))) ⌝ }
 {
-    let o = chip::attention(memory, image::device_of(kept, u));
+    let o = chip::attention(memory, device_of(kept, k));
     let after = o.device;
     let answer = o.answer;
-    image::store(kept, after);
+    unpacked::write(kept, after);
     packed(answer)
 }
 
-// A frame that arrives at the device whose units are u.
+// A frame that arrives at the device of the numbers k.
 fn arrival_on(
     memory: &mut [u8],
     holding: &mut [u8],
     kept: &mut [u8],
-    u: Units,
+    k: Kept,
     frame: &[u8],
     verdict: u32,
 ) -> u64
-    ensures { λ r. ⌜ inner.ArrivesOn u (now (memory .entry)) (now (holding .entry)) (now (kept .entry)) (now (frame .entry)) verdict r (now (memory .exit)) (now (holding .exit)) (now (kept .exit)) ⌝ }
+    requires { ⌜ length (now kept) ≡ 256 ⌝ }
+    ensures { λ r. ⌜ ((u : Units) → inner.Finds (now (kept .entry)) k u → inner.ArrivesOn u (now (memory .entry)) (now (holding .entry)) (now (kept .entry)) (now (frame .entry)) verdict r (now (memory .exit)) (now (holding .exit)) (now (kept .exit))) ⌝ }
 {
-    let o = chip::arrival(memory, holding, image::device_of(kept, u), frame, verdict);
+    let o = chip::arrival(memory, holding, device_of(kept, k), frame, verdict);
     let after = o.device;
     let answer = o.answer;
-    image::store(kept, after);
+    unpacked::write(kept, after);
     packed(answer)
 }
 
-// A turn of the device whose units are u.
+// A turn of the device of the numbers k.
 fn turn_on(
     memory: &mut [u8],
     holding: &[u8],
     outgoing: &mut [u8],
     kept: &mut [u8],
-    u: Units,
+    k: Kept,
     report: u16,
 ) -> u64
-    ensures { λ r. ⌜ inner.TurnsOn u (now (memory .entry)) (now (holding .entry)) (now (outgoing .entry)) (now (kept .entry)) report r (now (memory .exit)) (now (outgoing .exit)) (now (kept .exit)) ⌝ }
+    requires { ⌜ length (now kept) ≡ 256 ⌝ }
+    ensures { λ r. ⌜ ((u : Units) → inner.Finds (now (kept .entry)) k u → inner.TurnsOn u (now (memory .entry)) (now (holding .entry)) (now (outgoing .entry)) (now (kept .entry)) report r (now (memory .exit)) (now (outgoing .exit)) (now (kept .exit))) ⌝ }
 {
-    let o = chip::turn(memory, holding, outgoing, image::device_of(kept, u), report);
+    let o = chip::turn(memory, holding, outgoing, device_of(kept, k), report);
     let after = o.device;
     let answer = o.answer;
-    image::store(kept, after);
+    unpacked::write(kept, after);
     packed(answer)
 }
 
@@ -102,9 +119,8 @@ pub extern "C" fn lq_reset(kept: &mut [u8]) -> u64
 {
     if kept.len() == 256 {
         let o = chip::reset();
-        let after = o.device;
         let answer = o.answer;
-        image::store(kept, after);
+        image::renew(kept);
         return packed(answer);
     }
     refuse(Refusal::Area)
@@ -126,10 +142,10 @@ pub extern "C" fn lq_attention(
     if !lengths_right(holding.len(), outgoing.len(), kept.len()) {
         return refuse(Refusal::Area);
     }
-    let Decoded::Units(u) = image::decode(kept) else {
+    let Decoded::Units(k) = image::decode(kept) else {
         return refuse(Refusal::Foreign);
     };
-    attention_on(memory, kept, u)
+    attention_on(memory, kept, k)
 }
 
 // A frame arrives, with the line side's verdict.
@@ -153,10 +169,10 @@ pub extern "C" fn lq_arrival(
     if frame.len() > 2048 {
         return refuse(Refusal::Overlong);
     }
-    let Decoded::Units(u) = image::decode(kept) else {
+    let Decoded::Units(k) = image::decode(kept) else {
         return refuse(Refusal::Foreign);
     };
-    arrival_on(memory, holding, kept, u, frame, verdict)
+    arrival_on(memory, holding, kept, k, frame, verdict)
 }
 
 // A turn, with the line report that counts if it is the end turn of a Transmit.
@@ -176,8 +192,8 @@ pub extern "C" fn lq_turn(
     if !lengths_right(holding.len(), outgoing.len(), kept.len()) {
         return refuse(Refusal::Area);
     }
-    let Decoded::Units(u) = image::decode(kept) else {
+    let Decoded::Units(k) = image::decode(kept) else {
         return refuse(Refusal::Foreign);
     };
-    turn_on(memory, holding, outgoing, kept, u, report)
+    turn_on(memory, holding, outgoing, kept, k, report)
 }

@@ -16,9 +16,10 @@ arrival-on-spec =
     (λ c. search needs)
     (λ c. search needs)
     (λ c. search needs)
-    (λ c. record {
+    (λ c. λ u f. let e = c .before .before .before .before .before .before .before .before .before .before .before .before .device-of .ensures u f in
+    record {
       answer = λ out. rw (c .before .before .before .before .before .before .before .before .before .before .before .arrival .ensures .outcome) at (c .packed .ensures);
-      memory = λ out. rw (c .before .before .before .before .before .before .before .before .before .before .before .before .device-of .ensures) at (c .before .before .before .before .before .before .before .before .before .before .before .arrival .ensures .memory);
-      holding = λ out. rw (c .before .before .before .before .before .before .before .before .before .before .before .before .device-of .ensures) at (c .before .before .before .before .before .before .before .before .before .before .before .arrival .ensures .holding);
-      kept = λ out. rw (c .before .before .before .before .before .before .before .before .before .before .before .arrival .ensures .outcome, c .before .before .before .before .before .before .before .before .before .before .before .before .device-of .ensures) at (c .before .before .before .store .ensures);
+      memory = λ out. rw e at (c .before .before .before .before .before .before .before .before .before .before .before .arrival .ensures .memory);
+      holding = λ out. rw e at (c .before .before .before .before .before .before .before .before .before .before .before .arrival .ensures .holding);
+      kept = λ out. rw (c .before .before .before .before .before .before .before .before .before .before .before .arrival .ensures .outcome, e) at (c .before .before .before .write .ensures);
     }))

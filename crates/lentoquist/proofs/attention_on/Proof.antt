@@ -15,8 +15,9 @@ attention-on-spec =
     (λ c κs. search needs)
     (λ c. search needs)
     (λ c. search needs)
-    (λ c. record {
-      answer = λ h out. rw (c .before .before .before .before .before .before .before .before .before .attention .ensures .outcome, c .before .before .before .before .before .before .before .before .before .before .device-of .ensures) at (c .packed .ensures);
-      memory = λ h out. rw (c .before .before .before .before .before .before .before .before .before .before .device-of .ensures) at (c .before .before .before .before .before .before .before .before .before .attention .ensures .memory);
-      kept = λ h out. rw (c .before .before .before .before .before .before .before .before .before .attention .ensures .outcome, c .before .before .before .before .before .before .before .before .before .before .device-of .ensures) at (c .before .before .before .store .ensures);
+    (λ c. λ u f. let e = c .before .before .before .before .before .before .before .before .before .before .device-of .ensures u f in
+    record {
+      answer = λ h out. rw (c .before .before .before .before .before .before .before .before .before .attention .ensures .outcome, e) at (c .packed .ensures);
+      memory = λ h out. rw e at (c .before .before .before .before .before .before .before .before .before .attention .ensures .memory);
+      kept = λ h out. rw (c .before .before .before .before .before .before .before .before .before .attention .ensures .outcome, e) at (c .before .before .before .write .ensures);
     }))

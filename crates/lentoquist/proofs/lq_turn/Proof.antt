@@ -6,8 +6,10 @@ use lib.Dec.{leb}
 use lib.ListN.{length}
 use borrow.Author.Tests.{not-true, not-false, le-leb, lt-leb}
 use Rattle.chip.specs.Turn.{turnOf}
+use Rattle.image.specs.Image.{decodeOf}
+use Rattle.image.proofs.Lent.{found-units, found-foreign}
 use Rattle.lentoquist.specs.Calls.{areasOf, areasRight, turnCall}
-use Rattle.lentoquist.proofs.Laws.{bad-size, bad-area, too-long, no-image, accepted, whole-record, as-said, attention-holding, attention-outgoing, arrival-outgoing}
+use Rattle.lentoquist.proofs.Laws.{bad-size, bad-area, too-long, no-image, accepted, record-length, as-said, attention-holding, attention-outgoing, arrival-outgoing}
 use borrow.Author.Needs.{needs}
 use Rattle.lentoquist.proofs.lq_turn.Statement.{statement}
 use Rattle.lentoquist.proofs.lq_turn.Tie as tie
@@ -19,26 +21,21 @@ lq-turn-spec =
     (tie.spec
     (λ c κs. search needs)
     (λ c κs. search needs)
-    (λ c. let s = c .before .before .before .before .before .before .before .args in let a = areasOf (s .memory .now) (s .holding .now) (s .outgoing .now) (s .kept .now) in as-said (bad-size a [] (λ w. turnOf w (s .report)) (sym (c .before .before .size-allowed .ensures) ∙ not-true _ (c .before .if1 .taken))) (record { answer = c .refuse .ensures; memory = refl; holding = refl; outgoing = refl; kept = refl }))
+    (λ c. let st : tie.Start = search needs in let s = st .args in let a = areasOf (s .memory .now) (s .holding .now) (s .outgoing .now) (s .kept .now) in as-said (bad-size a [] (λ w. turnOf w (s .report)) (sym (c .before .before .size-allowed .ensures) ∙ not-true _ (c .before .if1 .taken))) (record { answer = c .refuse .ensures; memory = refl; holding = refl; outgoing = refl; kept = refl }))
     (λ c κs. search needs)
     (λ c κs. search needs)
-    (λ c. let s = c .before .before .before .before .before .before .before .before .before .args in let a = areasOf (s .memory .now) (s .holding .now) (s .outgoing .now) (s .kept .now) in as-said (bad-area a [] (λ w. turnOf w (s .report)) (sym (c .before .before .before .before .size-allowed .ensures) ∙ not-false _ (c .before .before .before .if1 .left)) (sym (c .before .before .lengths-right .ensures) ∙ not-true _ (c .before .if2 .taken))) (record { answer = c .refuse2 .ensures; memory = refl; holding = refl; outgoing = refl; kept = refl }))
-    (λ c κs. search needs)
-    (λ c. search needs)
-    (λ c. search needs)
-    (λ c κs. search needs)
-    (λ c. search needs)
-    (λ c. let s = c .before .before .before .before .before .before .before .before .before .before .before .before .before .args in let a = areasOf (s .memory .now) (s .holding .now) (s .outgoing .now) (s .kept .now) in as-said (no-image a [] (λ w. turnOf w (s .report)) (sym (c .before .before .before .before .before .before .before .before .size-allowed .ensures) ∙ not-false _ (c .before .before .before .before .before .before .before .if1 .left)) (sym (c .before .before .before .before .before .before .lengths-right .ensures) ∙ not-false _ (c .before .before .before .before .before .if2 .left)) refl (sym (c .before .before .before .decode .ensures) ∙ c .before .enum-told .given .1)) (record { answer = c .refuse3 .ensures; memory = refl; holding = refl; outgoing = refl; kept = refl }))
+    (λ c. let st : tie.Start = search needs in let s = st .args in let a = areasOf (s .memory .now) (s .holding .now) (s .outgoing .now) (s .kept .now) in as-said (bad-area a [] (λ w. turnOf w (s .report)) (sym (c .before .before .before .before .size-allowed .ensures) ∙ not-false _ (c .before .before .before .if1 .left)) (sym (c .before .before .lengths-right .ensures) ∙ not-true _ (c .before .if2 .taken))) (record { answer = c .refuse2 .ensures; memory = refl; holding = refl; outgoing = refl; kept = refl }))
     (λ c κs. search needs)
     (λ c. search needs)
     (λ c. search needs)
+    (λ c κs. search needs)
+    (λ c. search needs)
+    (λ c. let st : tie.Start = search needs in let s = st .args in let a = areasOf (s .memory .now) (s .holding .now) (s .outgoing .now) (s .kept .now) in as-said (no-image a [] (λ w. turnOf w (s .report)) (sym (c .before .before .before .before .before .before .before .before .size-allowed .ensures) ∙ not-false _ (c .before .before .before .before .before .before .before .if1 .left)) (sym (c .before .before .before .before .before .before .lengths-right .ensures) ∙ not-false _ (c .before .before .before .before .before .if2 .left)) refl (found-foreign (decodeOf (s .kept .now)) (sym (c .before .before .before .decode .ensures) ∙ c .before .enum-told .given .1))) (record { answer = c .refuse3 .ensures; memory = refl; holding = refl; outgoing = refl; kept = refl }))
+    (λ c κs. let st : tie.Start = search needs in let s = st .args in let a = areasOf (s .memory .now) (s .holding .now) (s .outgoing .now) (s .kept .now) in record-length a (sym (c .before .before .before .before .before .before .before .before .before .before .lengths-right .ensures) ∙ not-false _ (c .before .before .before .before .before .before .before .before .before .if2 .left)))
     (λ c. search needs)
     (λ c. search needs)
-    (λ c. let s = c .before .before .before .before .before .before .before .before .before .before .before .before .before .before .before .before .before .before .before .before .before .before .before .before .args in let a = areasOf (s .memory .now) (s .holding .now) (s .outgoing .now) (s .kept .now) in as-said (accepted a [] (λ w. turnOf w (s .report)) _ (sym (c .before .before .before .before .before .before .before .before .before .before .before .before .before .before .before .before .before .before .before .size-allowed .ensures) ∙ not-false _ (c .before .before .before .before .before .before .before .before .before .before .before .before .before .before .before .before .before .before .if1 .left)) (sym (c .before .before .before .before .before .before .before .before .before .before .before .before .before .before .before .before .before .lengths-right .ensures) ∙ not-false _ (c .before .before .before .before .before .before .before .before .before .before .before .before .before .before .before .before .if2 .left)) refl (sym (c .before .before .before .before .before .before .before .before .before .before .before .before .before .before .decode .ensures) ∙ c .before .before .before .before .before .before .before .before .before .before .before .before .u .given .1))
-    (record {
-      answer = c .before .before .before .before .before .before .turn-on .ensures .answer;
-      memory = c .before .before .before .before .before .before .turn-on .ensures .memory;
-      holding = c .before .before .before .before .before .before .turn-on .ensures .holding;
-      outgoing = c .before .before .before .before .before .before .turn-on .ensures .outgoing;
-      kept = c .before .before .before .before .before .before .turn-on .ensures .kept ∙ whole-record a _ (sym (c .before .before .before .before .before .before .before .before .before .before .before .before .before .before .before .before .before .lengths-right .ensures) ∙ not-false _ (c .before .before .before .before .before .before .before .before .before .before .before .before .before .before .before .before .if2 .left));
-    })))
+    (λ c. search needs)
+    (λ c. search needs)
+    (λ c. let st : tie.Start = search needs in let s = st .args in let a = areasOf (s .memory .now) (s .holding .now) (s .outgoing .now) (s .kept .now) in let f = found-units (decodeOf (s .kept .now)) _ (sym (c .before .before .before .before .before .before .before .before .before .before .before .before .before .before .decode .ensures) ∙ c .before .before .before .before .before .before .before .before .before .before .before .before .k .given .1) in
+    let k = c .before .before .before .before .before .before .turn-on .ensures (f .units) (record { found = f .found; numbers = f .numbers }) in
+    as-said (accepted a [] (λ w. turnOf w (s .report)) (f .units) (sym (c .before .before .before .before .before .before .before .before .before .before .before .before .before .before .before .before .before .before .before .size-allowed .ensures) ∙ not-false _ (c .before .before .before .before .before .before .before .before .before .before .before .before .before .before .before .before .before .before .if1 .left)) (sym (c .before .before .before .before .before .before .before .before .before .before .before .before .before .before .before .before .before .lengths-right .ensures) ∙ not-false _ (c .before .before .before .before .before .before .before .before .before .before .before .before .before .before .before .before .if2 .left)) refl (f .found)) (record { answer = k .answer; memory = k .memory; holding = k .holding; outgoing = k .outgoing; kept = k .kept })))

@@ -14,10 +14,11 @@ turn-on-spec =
     (λ c. search needs)
     (λ c. search needs)
     (λ c. search needs)
-    (λ c. record {
-      answer = rw (c .before .before .before .before .before .before .before .before .before .before .before .turn .ensures .outcome, c .before .before .before .before .before .before .before .before .before .before .before .before .device-of .ensures) at (c .packed .ensures);
-      memory = rw (c .before .before .before .before .before .before .before .before .before .before .before .before .device-of .ensures) at (c .before .before .before .before .before .before .before .before .before .before .before .turn .ensures .memory);
-      holding = rw (c .before .before .before .before .before .before .before .before .before .before .before .before .device-of .ensures) at (c .before .before .before .before .before .before .before .before .before .before .before .turn .ensures .holding);
-      outgoing = rw (c .before .before .before .before .before .before .before .before .before .before .before .before .device-of .ensures) at (c .before .before .before .before .before .before .before .before .before .before .before .turn .ensures .outgoing);
-      kept = rw (c .before .before .before .before .before .before .before .before .before .before .before .turn .ensures .outcome, c .before .before .before .before .before .before .before .before .before .before .before .before .device-of .ensures) at (c .before .before .before .store .ensures);
+    (λ c. λ u f. let e = c .before .before .before .before .before .before .before .before .before .before .before .before .device-of .ensures u f in
+    record {
+      answer = rw (c .before .before .before .before .before .before .before .before .before .before .before .turn .ensures .outcome, e) at (c .packed .ensures);
+      memory = rw e at (c .before .before .before .before .before .before .before .before .before .before .before .turn .ensures .memory);
+      holding = rw e at (c .before .before .before .before .before .before .before .before .before .before .before .turn .ensures .holding);
+      outgoing = rw e at (c .before .before .before .before .before .before .before .before .before .before .before .turn .ensures .outgoing);
+      kept = rw (c .before .before .before .before .before .before .before .before .before .before .before .turn .ensures .outcome, e) at (c .before .before .before .write .ensures);
     }))
