@@ -24,7 +24,7 @@ holding-by true false c w report = refl
 holding-by false true c w report = refl
 holding-by false false c w report = refl
 
-holding-kept : (w : World) (report : ℕ) → turnOf w report .holding ≡ w .holding
+pub holding-kept : (w : World) (report : ℕ) → turnOf w report .holding ≡ w .holding
 unfolding turnOf
 holding-kept w report = holding-by (isActive (cuState (w .device .units .cu))) (isHolding (w .device .units .ru)) (w .device .units .rulast) w report
 

@@ -1,7 +1,7 @@
 -- The shapes of the contracts of the code's inner functions: a call on a record that is an image. Assumes nothing.
 use mathlib.Core.Path.{_≡_}
-use mathlib.Core.List.{List}
-use Prim.Native.Nat.{ℕ}
+use mathlib.Core.List.{List, []}
+use Prim.Native.Nat.{ℕ, _+_, _*_}
 use Rattle.device.specs.declared.Units.{Units}
 use Rattle.kept.specs.Kept.{keptOf}
 use Rattle.kept.specs.declared.Kept.{Kept}
@@ -10,9 +10,8 @@ use Rattle.image.specs.Image.{imageOf, decodeOf, deviceAt}
 use Rattle.chip.specs.World.{Ran, worldOf}
 use Rattle.chip.specs.Attention.{attentionOf}
 use Rattle.chip.specs.Arrival.{arrivalOf}
-use Rattle.chip.specs.Turn.{turnOf}
-use Rattle.chip.specs.Run.{runOf}
-use Rattle.lentoquist.specs.Calls.{packed, keptRun}
+use Rattle.chip.specs.Run.{Run, runOf}
+use Rattle.lentoquist.specs.Calls.{Areas, Called, areasOf, packed, refusalOf, unlessRefused}
 
 -- a record is the image of a device with these units, whose numbers these are
 pub record Finds (r : List ℕ) (k : Kept) (u : Units) : Type 0 where
@@ -31,15 +30,19 @@ pub record ArrivesOn (u : Units) (m h r f : List ℕ) (v : ℕ) (a : ℕ) (m′ 
   pub holding : (out : List ℕ) → h′ ≡ arrivalOf (worldOf (deviceAt r u) m h out) f v .holding
   pub kept : (out : List ℕ) → r′ ≡ imageOf (arrivalOf (worldOf (deviceAt r u) m h out) f v .outcome .device)
 
-pub record TurnsOn (u : Units) (m h out r : List ℕ) (report : ℕ) (a : ℕ) (m′ out′ r′ : List ℕ) : Type 0 where
-  pub answer : a ≡ packed (turnOf (worldOf (deviceAt r u) m h out) report .outcome .answer)
-  pub memory : m′ ≡ turnOf (worldOf (deviceAt r u) m h out) report .memory
-  pub holding : h ≡ turnOf (worldOf (deviceAt r u) m h out) report .holding
-  pub outgoing : out′ ≡ turnOf (worldOf (deviceAt r u) m h out) report .outgoing
-  pub kept : r′ ≡ imageOf (turnOf (worldOf (deviceAt r u) m h out) report .outcome .device)
+-- turns in a row, each of which adds a unit to the answer: none for a turn, that of bit 48 for a run
+abbrev pub keptTurns : (unit : ℕ) → Run → Called
+keptTurns unit r =
+    record {
+      answer = packed (r .answer) + r .taken * unit;
+      areas = areasOf (r .world .memory) (r .world .holding) (r .world .outgoing) (imageOf (r .world .device));
+    }
 
-pub record RunsOn (u : Units) (m h out r : List ℕ) (report budget : ℕ) (a : ℕ) (m′ out′ r′ : List ℕ) : Type 0 where
-  pub answer : a ≡ keptRun (runOf budget (worldOf (deviceAt r u) m h out) report) .answer
+unfoldable pub turnsCall : Areas → (report budget unit : ℕ) → Called
+turnsCall a report budget unit = unlessRefused (refusalOf a []) (λ w. keptTurns unit (runOf budget w report)) a
+
+pub record RunsOn (u : Units) (m h out r : List ℕ) (report budget unit : ℕ) (a : ℕ) (m′ out′ r′ : List ℕ) : Type 0 where
+  pub answer : a ≡ keptTurns unit (runOf budget (worldOf (deviceAt r u) m h out) report) .answer
   pub memory : m′ ≡ runOf budget (worldOf (deviceAt r u) m h out) report .world .memory
   pub holding : h ≡ runOf budget (worldOf (deviceAt r u) m h out) report .world .holding
   pub outgoing : out′ ≡ runOf budget (worldOf (deviceAt r u) m h out) report .world .outgoing

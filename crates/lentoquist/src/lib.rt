@@ -1,16 +1,15 @@
-// The four calls that C links: refusals first, then the chip under the record's image. They take slices of every length and every content.
+// The five calls that C links: refusals first, then the chip under the record's image. They take slices of every length and every content.
 // specs/Calls.antt says what each answers and leaves in every lent byte.
 use device::Answer;
-use device::Device;
 use device::Refusal;
 use image::Decoded;
 use kept::Kept;
 ghost use mathlib.Core.Path.{_≡_};
-ghost use Prim.Native.Nat.{_<_};
+ghost use Prim.Native.Nat.{_<_, _≤_};
 ghost use lib.ListN.{length};
 ghost use Rattle.scb.specs.Words as words;
+ghost use Rattle.device.specs.Answers as answers;
 ghost use Rattle.device.specs.declared.Units.{Units};
-ghost use Rattle.image.specs.Image as image;
 ghost use Rattle.lentoquist.specs.Calls as calls;
 ghost use Rattle.lentoquist.specs.Inner as inner;
 
@@ -48,28 +47,33 @@ fn lengths_right(holding: usize, outgoing: usize, kept: usize) -> bool
     (kept == 256) & (holding == 2048) & (outgoing == 2048)
 }
 
-// ---- a record as a device
-
-// The device of a record whose numbers are k.
-fn device_of(kept: &[u8], k: Kept) -> Device
-    requires { ⌜ length (now kept) ≡ 256 ⌝ }
-    ensures { λ x. ⌜ ((u : Units) → inner.Finds (now (kept .entry)) k u → x ≡ image.deviceAt (now (kept .entry)) u) ⌝ }
+// The answer of a call that is not refused.
+fn answer_of(length: u16, edge: bool) -> u64
+    ensures { λ x. ⌜ (x ≡ calls.packed (answers.answered length edge)) × (x < 281474976710656) ⌝ }
 {
-    unpacked::device_of(&kept[152..256], k)
+    packed(Answer {
+        number: Refusal::Accepted,
+        length: length,
+        edge: edge,
+    })
 }
 
-// ---- the calls on a record that is an image
+// ---- the calls on a record that is an image: the setup is lent as it stands there, the units' numbers go back at the end
+
+// Where in a record the setup begins; it goes on to the end.
+const SETUP: usize = 152;
+
+const RECORD: usize = 256;
 
 // An attention to the device of the numbers k.
 fn attention_on(memory: &mut [u8], kept: &mut [u8], k: Kept) -> u64
     requires { ⌜ length (now kept) ≡ 256 ⌝ }
     ensures { λ r. ⌜ ((u : Units) → inner.Finds (now (kept .entry)) k u → inner.AttendsOn u (now (memory .entry)) (now (kept .entry)) r (now (memory .exit)) (now (kept .exit))) ⌝ }
 {
-    let o = chip::attention(memory, device_of(kept, k));
-    let after = o.device;
-    let answer = o.answer;
-    unpacked::write(kept, after);
-    packed(answer)
+    let a = kept_attention::attend(memory, &mut kept[SETUP..RECORD], k);
+    let after = a.kept;
+    image::store(kept, after);
+    answer_of(0, a.edge)
 }
 
 // A frame that arrives at the device of the numbers k.
@@ -84,30 +88,64 @@ fn arrival_on(
     requires { ⌜ length (now kept) ≡ 256 ⌝ }
     ensures { λ r. ⌜ ((u : Units) → inner.Finds (now (kept .entry)) k u → inner.ArrivesOn u (now (memory .entry)) (now (holding .entry)) (now (kept .entry)) (now (frame .entry)) verdict r (now (memory .exit)) (now (holding .exit)) (now (kept .exit))) ⌝ }
 {
-    let o = chip::arrival(memory, holding, device_of(kept, k), frame, verdict);
-    let after = o.device;
-    let answer = o.answer;
-    unpacked::write(kept, after);
-    packed(answer)
+    let after = kept_chip::arrival(memory, holding, &kept[SETUP..RECORD], k, frame, verdict);
+    image::store(kept, after);
+    answer_of(0, false)
 }
 
-// A turn of the device of the numbers k.
-fn turn_on(
+// Turns of the device of the numbers k.
+fn turns_on(
     memory: &mut [u8],
     holding: &[u8],
     outgoing: &mut [u8],
     kept: &mut [u8],
     k: Kept,
     report: u16,
+    budget: u16,
+    unit: u64,
 ) -> u64
-    requires { ⌜ length (now kept) ≡ 256 ⌝ }
-    ensures { λ r. ⌜ ((u : Units) → inner.Finds (now (kept .entry)) k u → inner.TurnsOn u (now (memory .entry)) (now (holding .entry)) (now (outgoing .entry)) (now (kept .entry)) report r (now (memory .exit)) (now (outgoing .exit)) (now (kept .exit))) ⌝ }
+    requires { ⌜ (length (now kept) ≡ 256) × (unit ≤ 281474976710656) ⌝ }
+    ensures { λ r. ⌜ ((u : Units) → inner.Finds (now (kept .entry)) k u → inner.RunsOn u (now (memory .entry)) (now (holding .entry)) (now (outgoing .entry)) (now (kept .entry)) report budget unit r (now (memory .exit)) (now (outgoing .exit)) (now (kept .exit))) ⌝ }
 {
-    let o = chip::turn(memory, holding, outgoing, device_of(kept, k), report);
-    let after = o.device;
-    let answer = o.answer;
-    unpacked::write(kept, after);
-    packed(answer)
+    let t = kept_chip::run(
+        memory,
+        holding,
+        outgoing,
+        &mut kept[SETUP..RECORD],
+        k,
+        report,
+        budget,
+    );
+    let after = t.kept;
+    image::store(kept, after);
+    answer_of(t.length, t.edge) + t.taken as u64 * unit
+}
+
+// A run of turns: refusals first. `unit` is what a turn taken adds to the answer.
+fn run_on(
+    memory: &mut [u8],
+    holding: &mut [u8],
+    outgoing: &mut [u8],
+    kept: &mut [u8],
+    report: u16,
+    budget: u16,
+    unit: u64,
+) -> u64
+    requires { ⌜ unit ≤ 281474976710656 ⌝ }
+    ensures { λ r. ⌜ calls.Calls (inner.turnsCall (calls.areasOf (now (memory .entry)) (now (holding .entry)) (now (outgoing .entry)) (now (kept .entry))) report budget unit) r (now (memory .exit)) (now (holding .exit)) (now (outgoing .exit)) (now (kept .exit)) ⌝ }
+{
+    if !memory::size_allowed(memory.len()) {
+        return refuse(Refusal::Memory);
+    }
+    if !lengths_right(holding.len(), outgoing.len(), kept.len()) {
+        return refuse(Refusal::Area);
+    }
+    let Decoded::Units(k) = image::decode(kept) else {
+        return refuse(Refusal::Foreign);
+    };
+    turns_on(
+        memory, holding, outgoing, kept, k, report, budget, unit,
+    )
 }
 
 // ---- the exported calls
@@ -118,10 +156,8 @@ pub extern "C" fn lq_reset(kept: &mut [u8]) -> u64
     ensures { λ r. ⌜ calls.Renews (calls.resetCall (now (kept .entry))) r (now (kept .exit)) ⌝ }
 {
     if kept.len() == 256 {
-        let o = chip::reset();
-        let answer = o.answer;
         image::renew(kept);
-        return packed(answer);
+        return answer_of(0, false);
     }
     refuse(Refusal::Area)
 }
@@ -175,7 +211,10 @@ pub extern "C" fn lq_arrival(
     arrival_on(memory, holding, kept, k, frame, verdict)
 }
 
-// A turn, with the line report that counts if it is the end turn of a Transmit.
+// The turns of a run are counted from bit 48 of its answer on.
+const TURN: u64 = 281474976710656;
+
+// A turn, with the line report that counts if it is the end turn of a Transmit: a run of one turn, which no answer of a turn counts.
 #[no_mangle]
 pub extern "C" fn lq_turn(
     memory: &mut [u8],
@@ -186,14 +225,20 @@ pub extern "C" fn lq_turn(
 ) -> u64
     ensures { λ r. ⌜ calls.Calls (calls.turnCall (calls.areasOf (now (memory .entry)) (now (holding .entry)) (now (outgoing .entry)) (now (kept .entry))) report) r (now (memory .exit)) (now (holding .exit)) (now (outgoing .exit)) (now (kept .exit)) ⌝ }
 {
-    if !memory::size_allowed(memory.len()) {
-        return refuse(Refusal::Memory);
-    }
-    if !lengths_right(holding.len(), outgoing.len(), kept.len()) {
-        return refuse(Refusal::Area);
-    }
-    let Decoded::Units(k) = image::decode(kept) else {
-        return refuse(Refusal::Foreign);
-    };
-    turn_on(memory, holding, outgoing, kept, k, report)
+    run_on(memory, holding, outgoing, kept, report, 1, 0)
+}
+
+// Turns in a row, until `budget` are taken or one has sent a frame, reported an edge or found no work. The record is read and written once.
+#[no_mangle]
+pub extern "C" fn lq_run(
+    memory: &mut [u8],
+    holding: &mut [u8],
+    outgoing: &mut [u8],
+    kept: &mut [u8],
+    report: u16,
+    budget: u16,
+) -> u64
+    ensures { λ r. ⌜ calls.Calls (calls.runCall (calls.areasOf (now (memory .entry)) (now (holding .entry)) (now (outgoing .entry)) (now (kept .entry))) report budget) r (now (memory .exit)) (now (holding .exit)) (now (outgoing .exit)) (now (kept .exit)) ⌝ }
+{
+    run_on(memory, holding, outgoing, kept, report, budget, TURN)
 }
