@@ -9,7 +9,6 @@ use lib.ListN.{length, take, drop}
 use Rattle.memory.specs.Size.{sizeAllowed}
 use Rattle.memory.proofs.Bytes.{Bytes}
 use Rattle.device.specs.Limits.{recordSize, longest}
-use Rattle.device.specs.declared.Device.{Device}
 use Rattle.device.specs.declared.Refusal.the-variants as refusal
 use Rattle.device.specs.declared.Units.{Units}
 use Rattle.kept.specs.declared.Kept.{Kept}

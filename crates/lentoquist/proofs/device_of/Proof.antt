@@ -1,5 +1,5 @@
 -- `lentoquist::device_of` meets its contract. Assumes nothing.
-use mathlib.Core.Path.{_≡_, sym, _∙_}
+use mathlib.Core.Path.{_∙_}
 use native.Mathlib.Omega.{arith}
 use Rattle.memory.proofs.Bytes.{Bytes}
 use Rattle.lentoquist.proofs.Laws.{read-device}
