@@ -1,6 +1,6 @@
 -- The record is exact: the image of a state in range is decoded to that state, what is decoded is the image of what it is decoded to, and a
 -- foreign record is the image of no state in range. Assumes nothing.
-use mathlib.Core.Path.{_≡_, refl, sym, ap, _∙_}
+use mathlib.Core.Path.{_≡_, refl, sym, _∙_}
 use mathlib.Core.Bool.{Bool, true, false, not, _&&_, _||_}
 use mathlib.Core.List.{List, [], _∷_, _++_}
 use Prim.Native.Nat.{ℕ, zero, suc, _+_, _*_, _/_, _%_, _≤_, _<_}
@@ -26,18 +26,18 @@ use Rattle.device.specs.declared.Ru.{Ru}
 use Rattle.device.specs.declared.Ru.the-variants as ru
 use Rattle.device.specs.declared.Settings.{Settings}
 use Rattle.device.specs.declared.Units.{Units}
-use Rattle.actions.specs.Setup.{Setup, setupOf}
+use Rattle.actions.specs.Setup.{setupOf}
 use Rattle.words.specs.Places.{bytesFrom, field}
 use Rattle.words.proofs.Laws.{field-below, piece, fit, digits-zero, from-append, from-bytes, from-cons, length-from, whole, first-of, second-of, one as field-one}
-use Rattle.phases.specs.Words.{flagsOf as bitsOf, odd, numberOf, wordOf, cuTag, cuWord, cuOf, cuShaped, ruTag, ruWord, ruRest, ruOf, ruShaped, WordWide, FillingWide}
+use Rattle.phases.specs.Words.{flagsOf as bitsOf, odd, numberOf, cuTag, cuWord, cuShaped, ruTag, ruWord, ruShaped, FillingWide}
 use Rattle.phases.proofs.Units.{both, never, one-below, flag1, flag2, flag3, flag4, bits3, number-below, wide-of, cu-shaped, cu-same, rest-below, ru-shaped, ru-same, Same, RuSame}
-use Rattle.kept.specs.Kept.{flagsBy, flagsOf, statusBy, statusOf, keptOf, flagsIn, cuTagIn, ruTagIn, UnitsWide, KeptIs}
+use Rattle.kept.specs.Kept.{flagsBy, flagsOf, statusOf, keptOf, flagsIn, cuTagIn, ruTagIn, UnitsWide, KeptIs}
 use Rattle.kept.specs.SetUp.{settingsByte, setupBytes}
 use Rattle.kept.specs.declared.Kept.{Kept}
 use Rattle.kept.proofs.Laws.{cu-tag-below, ru-tag-below, flags-below, scb-is, base-is, cu-is, ru-is, cu-of, ru-of, events-is, initialised-is, rulast-is}
 use Rattle.image.specs.Ranges.{settingsFresh, unitsIdle, addressesFresh, sized, unitsFit, cuFits, frameFits, ruFits, unitsFresh, initialisedOrFresh, inRange, Wide}
 use Rattle.image.specs.Found as is
-use Rattle.image.specs.Image.{front, unitBytes, imageOf, keptAt, eventsOf, settingsOf, unitsBy, settingsAt, unitsAt, deviceFrom, deviceAt, statusIs, headShaped, unitsShaped, spareZero, shaped, rangeFrom, decodeFull, decodeOf}
+use Rattle.image.specs.Image.{front, unitBytes, imageOf, keptAt, eventsOf, settingsOf, unitsBy, unitsAt, deviceFrom, deviceAt, statusIs, headShaped, unitsShaped, spareZero, shaped, rangeFrom, decodeFull, decodeOf}
 use Rattle.image.proofs.Steps.{full-taken, full-out, full-other, decode-full, device-full, length-units, length-image}
 
 -- ---- the events and the settings in their bits

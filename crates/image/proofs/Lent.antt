@@ -1,6 +1,6 @@
 -- For a caller that lends the parts of a record: what is decoded is the numbers of a state, the last 104 bytes are its setup, and numbers and
 -- setup put back are the image of the state that they say. Assumes nothing.
-use mathlib.Core.Path.{_≡_, refl, sym, ap, subst, _∙_}
+use mathlib.Core.Path.{_≡_, refl, sym, ap, subst}
 use mathlib.Core.List.{List, [], _++_, append-nil}
 use Prim.Native.Nat.{ℕ, _-_}
 use native.Mathlib.Omega.{arith}
@@ -14,7 +14,7 @@ use Rattle.actions.specs.Setup.{Setup, setupOf}
 use Rattle.kept.specs.Kept.{keptOf, KeptIs}
 use Rattle.kept.specs.SetUp.{setupBytes, SetIs}
 use Rattle.kept.specs.declared.Kept.{Kept}
-use Rattle.image.specs.Ranges.{inRange, Wide}
+use Rattle.image.specs.Ranges.{Wide}
 use Rattle.image.specs.Found.{Found}
 use Rattle.image.specs.Found as is
 use Rattle.image.specs.Image.{front, unitBytes, imageOf, deviceFrom, deviceAt, decodeOf, decodedBy, putKept}

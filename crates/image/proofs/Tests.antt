@@ -14,11 +14,11 @@ use Rattle.device.specs.declared.Units.{Units}
 use Rattle.words.specs.Places.{bytesFrom, field}
 use Rattle.phases.specs.Words.{odd, wordOf, cuOf, cuShaped, ruOf, ruShaped}
 use Rattle.phases.proofs.Units.{both}
-use Rattle.kept.specs.Kept.{statusOf, flagsIn, cuTagIn, ruTagIn}
+use Rattle.kept.specs.Kept.{statusOf, cuTagIn, ruTagIn}
 use Rattle.kept.specs.SetUp.{settingsByte}
 use Rattle.image.specs.Ranges.{cuFits, ruFits, unitsFit, unitsFresh, addressesFresh, initialisedOrFresh, inRange}
 use Rattle.image.specs.Found as is
-use Rattle.image.specs.Image.{keptAt, settingsAt, unitsBy, unitsAt, deviceFrom, frontIs, statusIs, headShaped, unitsShaped, spareZero, shaped, rangeFrom, imaged, decodeFull, decodeOf, decodedBy}
+use Rattle.image.specs.Image.{keptAt, unitsBy, unitsAt, deviceFrom, frontIs, statusIs, headShaped, unitsShaped, spareZero, shaped, rangeFrom, imaged, decodeFull, decodeOf, decodedBy}
 use Rattle.image.specs.Numbers.{cuIs, ruIs, wordsAre, freshAt, tested}
 use Rattle.image.specs.declared.Decoded.the-variants as code
 use Rattle.image.proofs.Steps.{decode-full, decode-other, full-taken}

@@ -1,14 +1,14 @@
 -- The tests that the code makes of a unit's numbers are the shape and the range of the unit. Assumes nothing.
 use mathlib.Core.Path.{_≡_, refl, sym, ap, _∙_}
 use mathlib.Core.Bool.{Bool, true, false, not, cond, _&&_, _||_}
-use Prim.Native.Nat.{ℕ, zero, suc, _+_, _*_, _/_, _%_, _≤_, _<_}
+use Prim.Native.Nat.{ℕ, zero, suc, _/_, _%_, _≤_, _<_}
 use native.Mathlib.Omega.{arith}
 use borrow.Author.Tests.{eqb-true, ltb-true, leb-true, lt-ltb, le-leb, le-ltb, ne-eqb, eq-eqb}
 use lib.Dec.{eqb, leb, ltb}
 use Rattle.device.specs.Numbers.{verdictOf}
-use Rattle.device.specs.State.{goodBy, isGood}
+use Rattle.device.specs.State.{goodBy}
 use Rattle.phases.specs.Words.{odd, wordOf, cuOf, cuMost, cuKind, cuShaped, frameOf, ruOf, ruMost, ruFlags, restMost, ruShaped}
-use Rattle.phases.proofs.Units.{both, never}
+use Rattle.phases.proofs.Units.{both}
 use Rattle.image.specs.Ranges.{cuFits, ruFits, frameFits}
 use Rattle.image.specs.Numbers.{flagsIn, kindIn, sizeIn, sizedIn, goesOnIn, actingIs, sendingIs, endingIs, begunIs, frameIs, heldIs, fillingIs, closingIs, lackingIs, holdingIs, cuIs, ruIs}
 

@@ -1,5 +1,5 @@
 // The 256 bytes of the device record: which bytes are the image of a state in range, the numbers of that state, and writing them back.
-// With `phases` and `kept`, the only room that knows the layout. It assumes nothing: every call takes a slice of every length.
+// With `phases` and `kept`, the only room that knows the layout. `is_image` asks for 256 bytes; the others take a slice of every length.
 use kept::Kept;
 ghost use mathlib.Core.Bool.{cond};
 ghost use mathlib.Core.Path.{_≡_};

@@ -1,5 +1,6 @@
 -- The shapes of the contracts of the code's inner functions: a call on a record that is an image. Assumes nothing.
 use mathlib.Core.Path.{_≡_}
+use mathlib.Core.Bool.{Bool, true, false}
 use mathlib.Core.List.{List, []}
 use Prim.Native.Nat.{ℕ, _+_, _*_}
 use Rattle.device.specs.declared.Units.{Units}
@@ -29,6 +30,10 @@ pub record ArrivesOn (u : Units) (m h r f : List ℕ) (v : ℕ) (a : ℕ) (m′ 
   pub memory : (out : List ℕ) → m′ ≡ arrivalOf (worldOf (deviceAt r u) m h out) f v .memory
   pub holding : (out : List ℕ) → h′ ≡ arrivalOf (worldOf (deviceAt r u) m h out) f v .holding
   pub kept : (out : List ℕ) → r′ ≡ imageOf (arrivalOf (worldOf (deviceAt r u) m h out) f v .outcome .device)
+
+abbrev pub unitOf : (counted : Bool) → ℕ
+unitOf true = 281474976710656
+unitOf false = 0
 
 -- turns in a row, each of which adds a unit to the answer: none for a turn, that of bit 48 for a run
 abbrev pub keptTurns : (unit : ℕ) → Run → Called

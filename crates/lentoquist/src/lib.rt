@@ -5,7 +5,7 @@ use device::Refusal;
 use image::Decoded;
 use kept::Kept;
 ghost use mathlib.Core.Path.{_≡_};
-ghost use Prim.Native.Nat.{_<_, _≤_};
+ghost use Prim.Native.Nat.{_*_, _<_};
 ghost use lib.ListN.{length};
 ghost use Rattle.scb.specs.Words as words;
 ghost use Rattle.device.specs.Answers as answers;
@@ -93,6 +93,16 @@ fn arrival_on(
     answer_of(0, false)
 }
 
+// The turns of a run are counted from bit 48 of its answer on.
+fn turns_taken(taken: u16, counted: bool) -> u64
+    ensures { λ r. ⌜ (r ≡ taken * inner.unitOf counted) × (r < 18446462598732840961) ⌝ }
+{
+    if counted {
+        return taken as u64 * 281474976710656;
+    }
+    0
+}
+
 // Turns of the device of the numbers k.
 fn turns_on(
     memory: &mut [u8],
@@ -102,10 +112,10 @@ fn turns_on(
     k: Kept,
     report: u16,
     budget: u16,
-    unit: u64,
+    counted: bool,
 ) -> u64
-    requires { ⌜ (length (now kept) ≡ 256) × (unit ≤ 281474976710656) ⌝ }
-    ensures { λ r. ⌜ ((u : Units) → inner.Finds (now (kept .entry)) k u → inner.RunsOn u (now (memory .entry)) (now (holding .entry)) (now (outgoing .entry)) (now (kept .entry)) report budget unit r (now (memory .exit)) (now (outgoing .exit)) (now (kept .exit))) ⌝ }
+    requires { ⌜ length (now kept) ≡ 256 ⌝ }
+    ensures { λ r. ⌜ ((u : Units) → inner.Finds (now (kept .entry)) k u → inner.RunsOn u (now (memory .entry)) (now (holding .entry)) (now (outgoing .entry)) (now (kept .entry)) report budget (inner.unitOf counted) r (now (memory .exit)) (now (outgoing .exit)) (now (kept .exit))) ⌝ }
 {
     let t = kept_chip::run(
         memory,
@@ -118,10 +128,10 @@ fn turns_on(
     );
     let after = t.kept;
     image::store(kept, after);
-    answer_of(t.length, t.edge) + t.taken as u64 * unit
+    answer_of(t.length, t.edge) + turns_taken(t.taken, counted)
 }
 
-// A run of turns: refusals first. `unit` is what a turn taken adds to the answer.
+// A run of turns: refusals first. `counted` says whether its answer has the turns taken.
 fn run_on(
     memory: &mut [u8],
     holding: &mut [u8],
@@ -129,10 +139,9 @@ fn run_on(
     kept: &mut [u8],
     report: u16,
     budget: u16,
-    unit: u64,
+    counted: bool,
 ) -> u64
-    requires { ⌜ unit ≤ 281474976710656 ⌝ }
-    ensures { λ r. ⌜ calls.Calls (inner.turnsCall (calls.areasOf (now (memory .entry)) (now (holding .entry)) (now (outgoing .entry)) (now (kept .entry))) report budget unit) r (now (memory .exit)) (now (holding .exit)) (now (outgoing .exit)) (now (kept .exit)) ⌝ }
+    ensures { λ r. ⌜ calls.Calls (inner.turnsCall (calls.areasOf (now (memory .entry)) (now (holding .entry)) (now (outgoing .entry)) (now (kept .entry))) report budget (inner.unitOf counted)) r (now (memory .exit)) (now (holding .exit)) (now (outgoing .exit)) (now (kept .exit)) ⌝ }
 {
     if !memory::size_allowed(memory.len()) {
         return refuse(Refusal::Memory);
@@ -144,7 +153,7 @@ fn run_on(
         return refuse(Refusal::Foreign);
     };
     turns_on(
-        memory, holding, outgoing, kept, k, report, budget, unit,
+        memory, holding, outgoing, kept, k, report, budget, counted,
     )
 }
 
@@ -211,9 +220,6 @@ pub extern "C" fn lq_arrival(
     arrival_on(memory, holding, kept, k, frame, verdict)
 }
 
-// The turns of a run are counted from bit 48 of its answer on.
-const TURN: u64 = 281474976710656;
-
 // A turn, with the line report that counts if it is the end turn of a Transmit: a run of one turn, which no answer of a turn counts.
 #[no_mangle]
 pub extern "C" fn lq_turn(
@@ -225,7 +231,7 @@ pub extern "C" fn lq_turn(
 ) -> u64
     ensures { λ r. ⌜ calls.Calls (calls.turnCall (calls.areasOf (now (memory .entry)) (now (holding .entry)) (now (outgoing .entry)) (now (kept .entry))) report) r (now (memory .exit)) (now (holding .exit)) (now (outgoing .exit)) (now (kept .exit)) ⌝ }
 {
-    run_on(memory, holding, outgoing, kept, report, 1, 0)
+    run_on(memory, holding, outgoing, kept, report, 1, false)
 }
 
 // Turns in a row, until `budget` are taken or one has sent a frame, reported an edge or found no work. The record is read and written once.
@@ -240,5 +246,5 @@ pub extern "C" fn lq_run(
 ) -> u64
     ensures { λ r. ⌜ calls.Calls (calls.runCall (calls.areasOf (now (memory .entry)) (now (holding .entry)) (now (outgoing .entry)) (now (kept .entry))) report budget) r (now (memory .exit)) (now (holding .exit)) (now (outgoing .exit)) (now (kept .exit)) ⌝ }
 {
-    run_on(memory, holding, outgoing, kept, report, budget, TURN)
+    run_on(memory, holding, outgoing, kept, report, budget, true)
 }

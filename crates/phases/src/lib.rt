@@ -1,5 +1,5 @@
 // A unit as a tag and words of eight bytes, and back: what a phase uses stands below what it does not use, which is zero.
-// It assumes nothing: every tag and every number is read as some unit, and the shape says whether they are that unit's.
+// It assumes nothing: every tag and every number is read as some unit; specs/Words.antt says which of them are that unit's.
 use device::Action;
 use device::Begun;
 use device::Cu;
@@ -184,7 +184,7 @@ fn action_at(w: Word) -> Action
     device::action_of(w.kind as u16)
 }
 
-// The unit of a tag and a word. A tag past 6 is taken for 6; `cu_shaped` has refused it.
+// The unit of a tag and a word. A tag past 6 is taken for 6; no record that is taken has one.
 pub fn cu_of(tag: u8, w: Word) -> Cu
     ensures { λ x. ⌜ x ≡ words.cuOf tag w ⌝ }
 {
@@ -197,37 +197,6 @@ pub fn cu_of(tag: u8, w: Word) -> Cu
         5 => Cu::Ending(begun_of(w), w.size),
         _ => Cu::Failing(begun_of(w)),
     }
-}
-
-// The largest word of a tag: what the phase does not use stands above it.
-fn cu_most(tag: u8) -> u64
-    ensures { λ x. ⌜ x ≡ words.cuMost tag ⌝ }
-{
-    match tag {
-        0 => 0,
-        1 => 0xFFFF,
-        2 => 0xFFFF,
-        3 => 0x7FFFFFF,
-        4 => 0xFFFFFFFFFFFFFFFF,
-        5 => 0xFFFFFFFFFFFF,
-        _ => 0xFFFFF,
-    }
-}
-
-fn cu_kind(tag: u8, kind: u64) -> bool
-    ensures { λ x. ⌜ x ≡ words.cuKind tag kind ⌝ }
-{
-    match tag {
-        3 => kind != 4,
-        5 => kind == 0,
-        _ => tag < 7,
-    }
-}
-
-pub fn cu_shaped(tag: u8, n: u64) -> bool
-    ensures { λ x. ⌜ x ≡ words.cuShaped tag n ⌝ }
-{
-    (n <= cu_most(tag)) & (n / 65536 % 256 < 16) & cu_kind(tag, n / 16777216 % 256)
 }
 
 // ---- the receive unit
@@ -357,7 +326,7 @@ fn filling_of(w: Word, rest: u64) -> Walk
     }
 }
 
-// The unit of a tag and its words. A tag past 7 is taken for 7; `ru_shaped` has refused it.
+// The unit of a tag and its words. A tag past 7 is taken for 7; no record that is taken has one.
 pub fn ru_of(tag: u8, w: Word, rest: u64) -> Ru
     ensures { λ x. ⌜ x ≡ words.ruOf tag w rest ⌝ }
 {
@@ -371,45 +340,4 @@ pub fn ru_of(tag: u8, w: Word, rest: u64) -> Ru
         6 => Ru::Closing(storing_of(w), Offset(w.next), w.sixth),
         _ => Ru::Lacking(storing_of(w)),
     }
-}
-
-fn ru_most(tag: u8) -> u64
-    ensures { λ x. ⌜ x ≡ words.ruMost tag ⌝ }
-{
-    match tag {
-        0 => 0,
-        1 => 0xFFFF,
-        2 => 0,
-        3 => 0xFFFF,
-        5 => 0xFFFFFFFFFFFFFFFF,
-        6 => 0xFFFFFFFFFFFFFFFF,
-        _ => 0xFFFFFFFFFFFF,
-    }
-}
-
-// The flags that a phase uses are those below this number.
-fn ru_flags(tag: u8) -> u64
-    ensures { λ x. ⌜ x ≡ words.ruFlags tag ⌝ }
-{
-    match tag {
-        4 => 8,
-        6 => 64,
-        _ => 32,
-    }
-}
-
-fn rest_most(tag: u8) -> u64
-    ensures { λ x. ⌜ x ≡ words.restMost tag ⌝ }
-{
-    if tag == 5 { 0xFFFFFF } else { 0 }
-}
-
-pub fn ru_shaped(tag: u8, n: u64, rest: u64) -> bool
-    ensures { λ x. ⌜ x ≡ words.ruShaped tag n rest ⌝ }
-{
-    (tag < 8)
-        & (n <= ru_most(tag))
-        & (n / 65536 % 256 < ru_flags(tag))
-        & (n / 16777216 % 256 < 3)
-        & (rest <= rest_most(tag))
 }

@@ -1,5 +1,5 @@
 -- A device of the numbers and the bytes of a state is that state, and the numbers of units are theirs. Assumes nothing.
-use mathlib.Core.Path.{_≡_, refl, sym, ap, subst, _∙_}
+use mathlib.Core.Path.{_≡_, refl, sym, _∙_}
 use mathlib.Core.List.{List, _∷_, _++_}
 use Prim.Native.Nat.{ℕ, zero, suc, _+_, _*_, _/_, _%_, _^_, _<_}
 use native.Mathlib.Nat.{pow-suc, mod-eq-of-lt}
@@ -12,7 +12,7 @@ use Rattle.device.specs.State.{fresh}
 use Rattle.device.specs.declared.Device.{Device}
 use Rattle.device.specs.declared.Units.{Units}
 use Rattle.actions.specs.Setup.{Setup, setupOf}
-use Rattle.words.specs.Places.{bytesFrom, field}
+use Rattle.words.specs.Places.{bytesFrom}
 use Rattle.words.proofs.Laws.{from-cons, first-of, second-of, whole, sets-whole, one as field-one}
 use Rattle.phases.specs.Words.{cuTag, ruTag}
 use Rattle.phases.proofs.Units.{one-below}
@@ -24,7 +24,7 @@ use Rattle.image.specs.Image.{front, unitBytes, imageOf, stored, storedUnits}
 use Rattle.image.proofs.Exact.{settings-back, units-by}
 use Rattle.image.proofs.Steps.{length-units, length-setup, length-image, stored-image, units-stored}
 use Rattle.image.proofs.Lent.{units-put, setup-returned}
-use Rattle.unpacked.specs.Unpacked.{settingsIn, deviceBy, cutBase, packedOf}
+use Rattle.unpacked.specs.Unpacked.{settingsIn, deviceBy, packedOf}
 
 -- ---- a device of numbers and bytes
 

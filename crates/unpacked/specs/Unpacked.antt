@@ -5,7 +5,7 @@ use Rattle.device.specs.declared.Device.{Device}
 use Rattle.device.specs.declared.Settings.{Settings}
 use Rattle.device.specs.declared.Units.{Units}
 use Rattle.words.specs.Places.{bytesFrom, field}
-use Rattle.kept.specs.Kept as kept
+use Rattle.kept.specs.Kept.{keptOf}
 use Rattle.kept.specs.declared.Kept.{Kept}
 use Rattle.image.specs.Image.{settingsOf, unitsBy}
 
@@ -16,9 +16,6 @@ settingsIn b = settingsOf (field b 0 1) (field b 1 1)
 -- from byte 2 on the own address, from byte 8 on the listed ones
 unfoldable pub deviceBy : List ℕ → Kept → Device
 deviceBy b k = record { units = unitsBy k (settingsIn b); own = bytesFrom b 2 6; listed = bytesFrom b 8 96 }
-
-abbrev pub flagsOf : Units → ℕ
-flagsOf u = kept.flagsOf u
 
 -- units with no more than 24 bits of a base
 abbrev pub cutBase : Units → Units
@@ -35,4 +32,4 @@ cutBase u =
     }
 
 unfoldable pub packedOf : Units → Kept
-packedOf u = kept.keptOf (cutBase u)
+packedOf u = keptOf (cutBase u)

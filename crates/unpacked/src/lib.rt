@@ -9,6 +9,7 @@ ghost use mathlib.Core.Path.{_≡_};
 ghost use Prim.Native.Nat.{_<_};
 ghost use lib.ListN.{length};
 ghost use Rattle.actions.specs.Setup.{setupOf};
+ghost use Rattle.kept.specs.Kept as numbers;
 ghost use Rattle.kept.specs.SetUp as bytes;
 ghost use Rattle.image.specs.Image as image;
 ghost use Rattle.unpacked.specs.Unpacked as unpacked;
@@ -77,7 +78,7 @@ pub fn device_of(setup: &[u8], k: Kept) -> Device
 // ---- and back
 
 fn flags_of(u: Units) -> u64
-    ensures { λ x. ⌜ x ≡ unpacked.flagsOf u ⌝ }
+    ensures { λ x. ⌜ x ≡ numbers.flagsOf u ⌝ }
 {
     phases::flags(u.initialised, u.rulast, false, false, false, false) as u64
         + 16 * scb::event_bits(u.events) as u64

@@ -1,5 +1,5 @@
 -- `image::decode` meets its contract. Assumes nothing.
-use mathlib.Core.Path.{_≡_, sym, _∙_}
+use mathlib.Core.Path.{sym, _∙_}
 use Rattle.image.proofs.Tests.{decoded-units, decoded-foreign, decoded-other}
 use borrow.Author.Needs.{needs}
 use Rattle.image.proofs.decode.Statement.{statement}

@@ -1,7 +1,7 @@
 -- `image::is_image` meets its contract. Assumes nothing.
 use mathlib.Core.Path.{_≡_, sym, _∙_}
 use mathlib.Core.Bool.{true, false, _&&_}
-use Prim.Native.Nat.{_<_, _/_, _%_}
+use Prim.Native.Nat.{_<_}
 use lib.Dec.{ltb}
 use Rattle.words.specs.Places.{field}
 use Rattle.image.specs.Image.{keptAt, spareZero}

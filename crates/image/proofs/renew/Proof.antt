@@ -1,5 +1,5 @@
 -- `image::renew` meets its contract. Assumes nothing.
-use mathlib.Core.Path.{_≡_, sym, _∙_}
+use mathlib.Core.Path.{sym, _∙_}
 use Rattle.device.specs.State.{fresh}
 use Rattle.image.proofs.Steps.{stored-image, stored-other}
 use borrow.Author.Needs.{needs}

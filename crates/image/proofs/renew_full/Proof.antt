@@ -1,5 +1,5 @@
 -- `image::renew_full` meets its contract. Assumes nothing.
-use mathlib.Core.Path.{_≡_, sym, _∙_}
+use mathlib.Core.Path.{_∙_}
 use Rattle.image.proofs.Steps.{fresh-stores}
 use borrow.Author.Needs.{needs}
 use Rattle.image.proofs.renew_full.Statement.{statement}

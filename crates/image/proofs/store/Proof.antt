@@ -1,5 +1,5 @@
 -- `image::store` meets its contract. Assumes nothing.
-use mathlib.Core.Path.{_≡_, sym, _∙_}
+use mathlib.Core.Path.{sym, _∙_}
 use Rattle.image.proofs.Steps.{units-stored, units-other}
 use borrow.Author.Needs.{needs}
 use Rattle.image.proofs.store.Statement.{statement}

@@ -1,15 +1,12 @@
 -- `lentoquist::lq_attention` meets its promise: each refusal in its order, then the call itself. Assumes nothing.
-use mathlib.Core.Path.{_≡_, refl, sym, _∙_}
-use mathlib.Core.Bool.{true, false}
+use mathlib.Core.Path.{refl, sym, _∙_}
 use mathlib.Core.List.{[]}
-use lib.Dec.{leb}
-use lib.ListN.{length}
-use borrow.Author.Tests.{not-true, not-false, le-leb, lt-leb}
+use borrow.Author.Tests.{not-true, not-false}
 use Rattle.chip.specs.Attention.{attentionOf}
 use Rattle.image.specs.Image.{decodeOf}
 use Rattle.image.proofs.Lent.{found-units, found-foreign}
 use Rattle.lentoquist.specs.Calls.{areasOf, areasRight, attentionCall}
-use Rattle.lentoquist.proofs.Laws.{bad-size, bad-area, too-long, no-image, accepted, record-length, as-said, attention-holding, attention-outgoing, arrival-outgoing}
+use Rattle.lentoquist.proofs.Laws.{bad-size, bad-area, no-image, accepted, record-length, as-said, attention-holding, attention-outgoing}
 use borrow.Author.Needs.{needs}
 use Rattle.lentoquist.proofs.lq_attention.Statement.{statement}
 use Rattle.lentoquist.proofs.lq_attention.Tie as tie

@@ -1,5 +1,5 @@
 -- `unpacked::put_setup` meets its contract. Assumes nothing.
-use mathlib.Core.Path.{_≡_, sym, _∙_}
+use mathlib.Core.Path.{_∙_}
 use Prim.Native.Nat.{_<_}
 use Rattle.actions.specs.Setup.{setupOf}
 use Rattle.unpacked.proofs.Laws.{setup-stores}
