@@ -151,7 +151,7 @@ module _ (r : List ℕ) (k : Kept) (u : Units) (l : length r ≡ 256) (b : Bytes
   put-there : (d : Device) (n : Kept) (set : List ℕ) → DeviceIs d n set → storedUnits (take 152 r ++ set) n ≡ imageOf d
   put-there d n set e =
       let s : take 152 r ≡ unitBytes (keptOf (deviceAt r u .units)) ++ replicate 112 0 =
-          subst (λ (x : List ℕ). take 152 x ≡ unitBytes (keptOf (deviceAt r u .units)) ++ replicate 112 0) (sym (its-image r u l b (f .found) .same)) (first-part (deviceAt r u)) in
+      subst (λ (x : List ℕ). take 152 x ≡ unitBytes (keptOf (deviceAt r u .units)) ++ replicate 112 0) (sym (its-image r u l b (f .found) .same)) (first-part (deviceAt r u)) in
       rw s (put-whole (keptOf (deviceAt r u .units)) n set (setup-length (setupOf d) set (e .setup)) ∙ told d n set e)
 
   -- with other numbers and another setup, it is the image of the device that they are

@@ -152,9 +152,7 @@ fn run_on(
     let Decoded::Units(k) = image::decode(kept) else {
         return refuse(Refusal::Foreign);
     };
-    turns_on(
-        memory, holding, outgoing, kept, k, report, budget, counted,
-    )
+    turns_on(memory, holding, outgoing, kept, k, report, budget, counted)
 }
 
 // ---- the exported calls
