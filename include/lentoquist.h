@@ -1,7 +1,7 @@
 /*
  * Lentoquist: a software Intel 82586 LAN coprocessor, as its host sees it.
  *
- * Link with liblentoquist.a. There are four calls and no global state: all that the chip remembers between calls
+ * Link with liblentoquist.a. There are five calls and no global state: all that the chip remembers between calls
  * is in the areas that the caller lends.
  *
  * The areas

@@ -20,8 +20,8 @@ use Rattle.device.specs.declared.Device.{Device}
 use Rattle.device.specs.declared.Refusal.{Refusal}
 use Rattle.device.specs.declared.Refusal.the-variants as refusal
 use Rattle.image.specs.Image.{imageOf, decodeOf, deviceAt}
-use Rattle.image.specs.declared.Decoded.{Decoded}
-use Rattle.image.specs.declared.Decoded.the-variants as is
+use Rattle.image.specs.Found.{Found}
+use Rattle.image.specs.Found as is
 use Rattle.image.proofs.Exact.{one-state}
 use Rattle.chip.specs.World.{World, Ran, worldOf, afterwards}
 use Rattle.chip.specs.Turn.{turnOf}
@@ -107,7 +107,7 @@ data Like (x y : Called) : Type 0 where
   both-taken : number (x .answer) ≡ 0 → number (y .answer) ≡ 0 → Like x y
 
 module _ (a : Areas) (report budget : ℕ) where
-  like-on : (x : Decoded) → Like (decodedOn (λ w. keptRun (runOf budget w report)) a x) (calledOn (λ w. turnOf w report) a x)
+  like-on : (x : Found) → Like (decodedOn (λ w. keptRun (runOf budget w report)) a x) (calledOn (λ w. turnOf w report) a x)
   like-on (is.Units u) =
       let w = worldOf (deviceAt (a .kept) u) (a .memory) (a .holding) (a .outgoing) in
       both-taken (kept-number (runOf budget w report) (run-number budget w report)) (turned-number (turnOf w report) (number-accepted (turn report) w))
@@ -288,7 +288,7 @@ took (suc n) a w report l s e =
 run-same : (a : Areas) (d : Device) (report budget : ℕ) → Holds (a .kept) d → Allowed (length (a .memory)) → AreasRight a
     → runCall a report budget ≡ keptRun (runOf budget (worldIn d a) report)
 run-same a d report budget h s r =
-    laws.run-accepted a report budget (d .units) (size-allowed (length (a .memory)) s) (right-lengths a (holds-length (a .kept) d h) r)
+    laws.run-kept a report budget (d .units) (size-allowed (length (a .memory)) s) (right-lengths a (holds-length (a .kept) d h) r)
     (holds-decoded (a .kept) d h)
     ∙ ap (λ (x : Device). keptRun (runOf budget (worldIn x a) report)) (holds-back (a .kept) d h)
 

@@ -34,7 +34,7 @@ use Rattle.chip.specs.Run.{Run, stopsAt, goesOn, runOf}
 use Rattle.chip.proofs.Run.{run-one}
 use Rattle.kept_chip.proofs.Loop.{holding-kept}
 use Rattle.lentoquist.proofs.Answers.{run-plain}
-use Rattle.lentoquist.specs.Calls.{Areas, Called, Calls, areasRight, refusalOf, refused, keptBy, decodedOn, unlessRefused, calledBy, turnCall, runCall, packed}
+use Rattle.lentoquist.specs.Calls.{Areas, Called, Calls, areasRight, refusalOf, refused, keptBy, decodedOn, unlessRefused, calledBy, keptRun, turnCall, runCall, packed}
 use Rattle.lentoquist.specs.Inner.{Finds, keptTurns, turnsCall}
 
 module _ (a : Areas) (f : List ℕ) (run : World → Ran) where
@@ -92,6 +92,10 @@ module _ (a : Areas) (report budget unit : ℕ) where
 pub run-counts : (a : Areas) (report budget : ℕ) → turnsCall a report budget 281474976710656 ≡ runCall a report budget
 unfolding turnsCall runCall
 run-counts a report budget = refl
+
+pub run-kept : (a : Areas) (report budget : ℕ) (u : Units) → sizeAllowed (length (a .memory)) ≡ true → areasRight a ≡ true → decodeOf (a .kept) ≡ is.Units u
+    → runCall a report budget ≡ keptRun (runOf budget (worldOf (deviceAt (a .kept) u) (a .memory) (a .holding) (a .outgoing)) report)
+run-kept a report budget u s r d = sym (run-counts a report budget) ∙ run-accepted a report budget 281474976710656 u s r d
 
 one-kept : (w : World) (report : ℕ) → keptTurns 0 (runOf 1 w report) ≡ keptBy (turnOf w report)
 one-kept w report =
