@@ -3,7 +3,7 @@
  * host does between calls is not counted. An item is a command, a frame sent, a frame received, an arrival or an attention, and its cost is
  * that of all calls it takes.
  *
- *     bench ROW N ITEMS    runs a row with a memory of N bytes and so many items, and prints how many
+ *     bench ROW N ITEMS    runs a row with a memory of N bytes and so many items; with + before it, turns in a row are one lq_run
  */
 #include "lentoquist.h"
 #include "mark.h"
@@ -72,6 +72,29 @@ static size_t turn(void)
     return lq_length(answer);
 }
 
+static bool by_runs;
+
+/* So many turns: each a call of its own, or runs until they are taken. Answers how many bytes were sent. */
+static size_t turns(unsigned count)
+{
+    size_t sent = 0;
+    if (!by_runs) {
+        while (count-- > 0) sent += turn();
+        return sent;
+    }
+    while (count > 0) {
+        uint16_t budget = (uint16_t)(count > 65535 ? 65535 : count);
+        MARK_BEGIN(MARK);
+        uint64_t answer = lq_run(AREAS, 0, budget);
+        MARK_END(MARK);
+        must(lq_number(answer) == LQ_ACCEPTED, "a run was refused");
+        must(lq_turns(answer) > 0 && lq_turns(answer) <= budget, "a run took more or fewer turns than it may");
+        count -= lq_turns(answer);
+        sent += lq_length(answer);
+    }
+    return sent;
+}
+
 static void arrival(const uint8_t *frame, size_t length)
 {
     MARK_BEGIN(MARK);
@@ -116,7 +139,7 @@ static void nops(unsigned items)
     }
     put_word(SCB_AT + LQ_SCB_CBL, LIST_AT);
     command(LQ_CUC(LQ_START));
-    for (unsigned i = 0; i < 2 * items; i++) turn();
+    turns(2 * items);
     must(get_word(LIST_AT + 6 * (items - 1)) == (LQ_C | LQ_OK), "the last NOP is not done");
 }
 
@@ -138,8 +161,7 @@ static void sends(unsigned items, unsigned length, unsigned buffers)
     put_word(SCB_AT + LQ_SCB_CBL, BLOCK_AT);
     command(LQ_CUC(LQ_START));
     for (unsigned i = 0; i < items; i++) {
-        size_t sent = 0;
-        for (unsigned k = 0; k < 2 + buffers; k++) sent += turn();
+        size_t sent = turns(2 + buffers);
         must(sent == LQ_FRAME_HEADER + length, "a frame was not sent");
     }
 }
@@ -166,7 +188,7 @@ static void receives(unsigned items, unsigned length, unsigned buffers)
     fill_frame(frame, LQ_FRAME_HEADER + length, 0xFF);
     for (unsigned i = 0; i < items; i++) {
         arrival(frame, LQ_FRAME_HEADER + length);
-        for (unsigned k = 0; k < 2 + buffers; k++) turn();
+        turns(2 + buffers);
         must(get_word(FD_AT + 32 * (i % 2)) == (LQ_C | LQ_OK), "a frame was not stored");
     }
 }
@@ -211,6 +233,10 @@ int main(int argc, char **argv)
 {
     must(argc == 4, "usage: bench ROW N ITEMS");
     unsigned items = (unsigned)strtoul(argv[3], NULL, 10);
+    if (argv[1][0] == '+') {
+        by_runs = true;
+        argv[1]++;
+    }
     initialise(strtoul(argv[2], NULL, 10));
     for (size_t i = 0; i < sizeof PLAIN / sizeof PLAIN[0]; i++) {
         if (strcmp(argv[1], PLAIN[i].name) != 0) continue;

@@ -92,10 +92,17 @@ static void arrival(const uint8_t *frame, size_t length)
 }
 
 /* A slice of emulated time: so many turns and no more. A list of commands may loop for ever, so "until the chip is
-   idle" is no bound. The line reports 0: every frame goes out well. */
-static void slice(unsigned turns)
+   idle" is no bound. A run stops at a frame that was sent and at an edge, so that neither waits for the slice's end;
+   one that stopped at neither and has turns left found no work, and there will be none before the next call. The line
+   reports 0: every frame goes out well. */
+static void slice(uint16_t turns)
 {
-    while (turns-- > 0) take("a turn", lq_turn(AREAS, 0));
+    while (turns > 0) {
+        uint64_t answer = lq_run(AREAS, 0, turns);
+        take("a turn", answer);
+        if (lq_turns(answer) < turns && lq_length(answer) == 0 && !lq_edge(answer)) return;
+        turns -= (uint16_t)lq_turns(answer);
+    }
 }
 
 /* ---- the driver: where its structures stand. The SCB base is 0, so offsets are addresses ---- */

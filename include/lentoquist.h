@@ -1,7 +1,7 @@
 /*
  * Lentoquist: a software Intel 82586 LAN coprocessor, as its host sees it.
  *
- * Link with liblentoquist.a. There are four calls and no global state: all that the chip remembers between calls
+ * Link with liblentoquist.a. There are five calls and no global state: all that the chip remembers between calls
  * is in the areas that the caller lends.
  *
  * The areas
@@ -75,7 +75,15 @@ uint64_t lq_turn(uint8_t *memory, size_t memory_len, uint8_t *holding, size_t ho
                  uint8_t *outgoing, size_t outgoing_len, uint8_t *record, size_t record_len,
                  uint16_t report);
 
-/* ---- Answers: number in bits 0-15, length in bits 16-31, edge in bit 32. Bits 33-63 are 0 and reserved. ---- */
+/* Turns in a row, at the price of one call: until budget of them are taken, or until one has sent a frame, reported an
+   edge or found no work, which is then the last one. Everything is as after that many calls of lq_turn with the same
+   report; the answer is that of the last one, and lq_turns says how many were taken. A budget of 0 takes none. */
+uint64_t lq_run(uint8_t *memory, size_t memory_len, uint8_t *holding, size_t holding_len,
+                uint8_t *outgoing, size_t outgoing_len, uint8_t *record, size_t record_len,
+                uint16_t report, uint16_t budget);
+
+/* ---- Answers: number in bits 0-15, length in bits 16-31, edge in bit 32, of a run the turns in bits 48-63. The other
+   bits are 0 and reserved. ---- */
 
 /* The number: LQ_ACCEPTED, or why the call was refused. The lowest one that applies is given. A refused call has
    changed nothing, and its length and edge are 0. Compare with these constants only: number 2 will become 21 to 23. */
@@ -100,6 +108,13 @@ static inline size_t lq_length(uint64_t answer)
 static inline bool lq_edge(uint64_t answer)
 {
     return (answer >> 32 & 1) != 0;
+}
+
+/* How many turns a run has taken, the last one included; 0 if it was refused, and in the answers of all other calls.
+   Fewer than budget, with no frame sent and no edge: there was no work left. */
+static inline unsigned lq_turns(uint64_t answer)
+{
+    return (unsigned)(answer >> 48);
 }
 
 /* ---- The record: what a caller may read of it ---- */

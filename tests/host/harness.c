@@ -81,6 +81,9 @@ static uint64_t dispatch(const struct areas *a, struct call c)
     case CALL_TURN:
         return lq_turn(a->memory.bytes, a->memory.length, a->holding.bytes, a->holding.length,
                        a->outgoing.bytes, a->outgoing.length, a->record.bytes, a->record.length, c.report);
+    case CALL_RUN:
+        return lq_run(a->memory.bytes, a->memory.length, a->holding.bytes, a->holding.length,
+                      a->outgoing.bytes, a->outgoing.length, a->record.bytes, a->record.length, c.report, c.budget);
     default: FAIL("no such call"); return 0;
     }
 }
@@ -94,7 +97,8 @@ uint64_t call_archive(const struct areas *areas, struct call c)
     check_guards(&areas->holding);
     check_guards(&areas->outgoing);
     check_guards(&areas->record);
-    CHECK(answer >> 33 == 0, "reserved bits of the answer are set");
+    CHECK((answer >> 33 & 0x7FFF) == 0, "reserved bits of the answer are set");
+    CHECK(c.kind == CALL_RUN || lq_turns(answer) == 0, "a call that is no run says turns");
     return answer;
 }
 
@@ -139,6 +143,7 @@ static struct answer call_model(struct chip *chip, struct call c)
     case CALL_RESET: return model_reset(&chip->model);
     case CALL_ATTENTION: return model_attention(&chip->model, lent);
     case CALL_ARRIVAL: return model_arrival(&chip->model, lent, c.frame, c.frame_len, c.verdict);
+    case CALL_RUN: return model_run(&chip->model, lent, c.report, c.budget);
     default: return model_turn(&chip->model, lent, c.report);
     }
 }
@@ -165,7 +170,7 @@ static void check_record(const struct chip *chip)
 
 static struct answer taken_apart(uint64_t answer)
 {
-    return (struct answer){lq_number(answer), (unsigned)lq_length(answer), lq_edge(answer)};
+    return (struct answer){lq_number(answer), (unsigned)lq_length(answer), lq_edge(answer), lq_turns(answer)};
 }
 
 struct answer call(struct chip *chip, struct call c)
@@ -173,6 +178,7 @@ struct answer call(struct chip *chip, struct call c)
     struct answer found = taken_apart(call_archive(&chip->lent, c));
     struct answer expected = call_model(chip, c);
     check_answer(found, expected.number, expected.length, expected.edge);
+    CHECK(found.turns == expected.turns, "the turns are %u, expected %u", found.turns, expected.turns);
     check_bytes("memory", chip->lent.memory.bytes, chip->modelled.memory.bytes, chip->lent.memory.length);
     check_bytes("the holding area", chip->lent.holding.bytes, chip->modelled.holding.bytes, LQ_HOLDING_SIZE);
     check_bytes("the outgoing area", chip->lent.outgoing.bytes, chip->modelled.outgoing.bytes, LQ_OUTGOING_SIZE);

@@ -46,7 +46,7 @@ void check_bytes(const char *name, const uint8_t *found, const uint8_t *expected
 
 /* ---- calls, as values ---- */
 
-enum call_kind { CALL_NONE, CALL_RESET, CALL_ATTENTION, CALL_ARRIVAL, CALL_TURN };
+enum call_kind { CALL_NONE, CALL_RESET, CALL_ATTENTION, CALL_ARRIVAL, CALL_TURN, CALL_RUN };
 
 struct call {
     enum call_kind kind;
@@ -54,11 +54,13 @@ struct call {
     size_t frame_len;
     uint32_t verdict;
     uint16_t report;
+    uint16_t budget;
 };
 
 #define RESET_CALL     ((struct call){.kind = CALL_RESET})
 #define ATTENTION_CALL ((struct call){.kind = CALL_ATTENTION})
 #define TURN_CALL(r)   ((struct call){.kind = CALL_TURN, .report = (r)})
+#define RUN_CALL(r, b) ((struct call){.kind = CALL_RUN, .report = (r), .budget = (b)})
 #define ARRIVAL_CALL(f, n, v) ((struct call){.kind = CALL_ARRIVAL, .frame = (f), .frame_len = (n), .verdict = (v)})
 
 struct areas {

@@ -33,12 +33,12 @@ unsigned model_refusal(size_t memory_len, size_t holding_len, size_t outgoing_le
 
 static struct answer nothing(void)
 {
-    return (struct answer){0, 0, false};
+    return (struct answer){0, 0, false, 0};
 }
 
 static struct answer edge_if(bool edge)
 {
-    return (struct answer){0, 0, edge};
+    return (struct answer){0, 0, edge, 0};
 }
 
 /* ---- "Two kinds of number in one column" ---- */
@@ -375,7 +375,7 @@ static struct answer end_command(struct model *chip, struct lent l, uint16_t rep
     else cu_goes(chip, CU_ACTIVE, link);
     bool raised = ended.i || ended.el || ended.s || ended.waiting;
     if (raised) write_status(chip, l);
-    return (struct answer){0, sent, raised};
+    return (struct answer){0, sent, raised, 0};
 }
 
 static struct answer serve_cu(struct model *chip, struct lent l, uint16_t report)
@@ -562,12 +562,35 @@ static struct answer serve_ru(struct model *chip, struct lent l)
 
 /* ---- "Turns": which unit is served ---- */
 
+static bool cu_has_work(const struct model *chip)
+{
+    return chip->cu.state == CU_ACTIVE;
+}
+
+static bool ru_has_work(const struct model *chip)
+{
+    return chip->ru.phase != FRAME_NONE;
+}
+
 struct answer model_turn(struct model *chip, struct lent l, uint16_t report)
 {
-    bool cu_work = chip->cu.state == CU_ACTIVE;
-    bool ru_work = chip->ru.phase != FRAME_NONE;
+    bool cu_work = cu_has_work(chip), ru_work = ru_has_work(chip);
     if (!cu_work && !ru_work) return nothing();
     enum unit unit = cu_work && ru_work ? (chip->served == UNIT_CU ? UNIT_RU : UNIT_CU) : cu_work ? UNIT_CU : UNIT_RU;
     chip->served = unit;
     return unit == UNIT_CU ? serve_cu(chip, l, report) : serve_ru(chip, l);
+}
+
+struct answer model_run(struct model *chip, struct lent l, uint16_t report, uint16_t budget)
+{
+    struct answer last = nothing();
+    unsigned taken = 0;
+    while (taken < budget) {
+        bool work = cu_has_work(chip) || ru_has_work(chip);
+        last = model_turn(chip, l, report);
+        taken++;
+        if (!work || last.length != 0 || last.edge) break;
+    }
+    last.turns = taken;
+    return last;
 }

@@ -80,6 +80,7 @@ struct answer {
     unsigned number;
     unsigned length;
     bool edge;
+    unsigned turns; /* of a run: how many it took */
 };
 
 struct answer model_reset(struct model *chip);
@@ -87,6 +88,9 @@ struct answer model_attention(struct model *chip, struct lent lent);
 struct answer model_arrival(struct model *chip, struct lent lent, const uint8_t *frame, size_t length,
                             uint32_t verdict);
 struct answer model_turn(struct model *chip, struct lent lent, uint16_t report);
+
+/* Turns in a row: until budget are taken, or one has sent a frame, reported an edge or found no work. */
+struct answer model_run(struct model *chip, struct lent lent, uint16_t report, uint16_t budget);
 
 /* The refusal that the lengths give, 0 if none: the lowest number that applies. frame_len is 0 for a call without a
    frame. Number 4 is not the model's: it has no record. */

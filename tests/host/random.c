@@ -241,6 +241,14 @@ static struct answer random_turn(struct board *board)
     return call(&board->chip, TURN_CALL(one_in(2) ? 0 : (uint16_t)random_bits()));
 }
 
+/* Any budget: none, a few, and more than a loop of commands needs to be seen going round. */
+static struct answer random_run(struct board *board)
+{
+    uint16_t report = one_in(2) ? 0 : (uint16_t)random_bits();
+    uint16_t budget = (uint16_t)(one_in(8) ? 0 : one_in(8) ? 140 : 1 + below(12));
+    return call(&board->chip, RUN_CALL(report, budget));
+}
+
 /* A bit of the record is changed. The call is refused and changes nothing, or is taken; then all is put back. */
 static void with_a_bit_changed(struct board *board)
 {
@@ -374,7 +382,7 @@ static bool has_work(const struct model *model)
 static enum call_kind random_kind(const struct model *model)
 {
     unsigned kind = below(has_work(model) ? 100 : 30);
-    return kind < 10 ? CALL_ATTENTION : kind < 24 ? CALL_ARRIVAL : CALL_TURN;
+    return kind < 10 ? CALL_ATTENTION : kind < 24 ? CALL_ARRIVAL : one_in(5) ? CALL_RUN : CALL_TURN;
 }
 
 static void random_call(struct board *board)
@@ -389,6 +397,8 @@ static void random_call(struct board *board)
     } else if (kind == CALL_ARRIVAL) {
         random_arrival(board);
         note_arrival(&before, &board->chip.model);
+    } else if (kind == CALL_RUN) {
+        random_run(board);
     } else {
         struct answer answer = random_turn(board);
         note_turn(&before, &answer);

@@ -19,24 +19,25 @@ struct record_case {
 #define TAKEN(name_, ...) {name_, LQ_ACCEPTED, EDITS(__VA_ARGS__)}
 #define FOREIGN(name_, ...) {name_, LQ_REFUSED_FOREIGN, EDITS(__VA_ARGS__)}
 
-/* bytes 7 and 8, the units' phases */
-enum { CU = 7, CU_IS_SUSPENDED = 1, WAITING = 2, ACTING = 3, SENDING = 4, ENDING = 5, FAILING = 6 };
-enum { RU = 8, NO_RESOURCES = 1, RU_IS_SUSPENDED = 2, READY = 3, HELD = 4, FILLING = 5, CLOSING = 6, LACKING = 7 };
+/* bytes 6 and 7: the units' phases; byte 6 has two flags besides, and those of an initialised record are named with the first of them */
+enum { INITIALISED = 0x10, SERVED_LAST = 0x20 };
+enum { CU = 6, CU_IS_SUSPENDED = 0x11, WAITING = 0x12, ACTING = 0x13, SENDING = 0x14, ENDING = 0x15, FAILING = 0x16 };
+enum { RU = 7, RU_IS_SUSPENDED = 1, NO_RESOURCES = 2, READY = 3, HELD = 4, FILLING = 5, CLOSING = 6, LACKING = 7 };
 
 /* ---- of the record before the first attention: it is the only one ---- */
 
 static const struct record_case FRESH[] = {
     FOREIGN("fresh, an event", {5, 0x80}),
-    FOREIGN("fresh, served last", {6, 2}),
-    FOREIGN("fresh, Suspended", {CU, CU_IS_SUSPENDED}),
+    FOREIGN("fresh, served last", {CU, SERVED_LAST}),
+    FOREIGN("fresh, Suspended", {CU, CU_IS_SUSPENDED - INITIALISED}),
     FOREIGN("fresh, Ready", {RU, READY}),
-    FOREIGN("fresh, a base", {9, 1}),
-    FOREIGN("fresh, an SCB offset", {12, 1}),
-    FOREIGN("fresh, save-bad", {14, 1}),
-    FOREIGN("fresh, another minimum", {15, 63}),
-    FOREIGN("fresh, another own address", {40, 0xFE}),
+    FOREIGN("fresh, an SCB offset", {8, 1}),
+    FOREIGN("fresh, a base", {10, 1}),
+    FOREIGN("fresh, save-bad", {152, 1}),
+    FOREIGN("fresh, another minimum", {153, 63}),
+    FOREIGN("fresh, another own address", {154, 0xFE}),
     FOREIGN("fresh, a listed address", {160, 1}),
-    TAKEN("initialised at base 0, offset 0", {6, 1}),
+    TAKEN("initialised at base 0, offset 0", {CU, INITIALISED}),
 };
 
 /* ---- of an initialised one, both units Idle ---- */
@@ -47,12 +48,15 @@ static const struct record_case FRESH[] = {
 static const struct record_case READY_CHIP[] = {
     TAKEN("all events", {5, 0xF0}),
     FOREIGN("a low bit of the events", {5, 0x81}),
-    FOREIGN("a third flag", {6, 5}),
-    FOREIGN("no such CU phase", {CU, 7}),
+    TAKEN("served last", {CU, INITIALISED | SERVED_LAST}),
+    FOREIGN("a third flag", {CU, INITIALISED | 0x40}),
+    FOREIGN("a fourth flag", {CU, INITIALISED | 0x80}),
+    FOREIGN("a fourth bit of the CU's phase", {CU, INITIALISED | 8}),
+    FOREIGN("no such CU phase", {CU, INITIALISED | 7}),
     FOREIGN("no such RU phase", {RU, 8}),
-    TAKEN("all settings", {14, 7}, {15, 255}),
-    FOREIGN("a fourth setting", {14, 8}),
-    TAKEN("any own address", {40, 1}, {45, 0}),
+    TAKEN("all settings", {152, 7}, {153, 255}),
+    FOREIGN("a fourth setting", {152, 8}),
+    TAKEN("any own address", {154, 1}, {159, 0}),
     TAKEN("any listed address", {160, 2}, {255, 9}),
 
     FOREIGN("Idle with a block", {16, 1}),
@@ -95,7 +99,7 @@ static const struct record_case READY_CHIP[] = {
     FOREIGN("Held, no such verdict", FRAME_OF(HELD, 4, 3, 60)),
     FOREIGN("Held, bad and not saved", FRAME_OF(HELD, 0, 1, 60)),
     FOREIGN("Held, short and not saved", FRAME_OF(HELD, 2, 0, 60)),
-    FOREIGN("Held, with EL of a descriptor", FRAME_OF(HELD, 8, 0, 60)),
+    FOREIGN("Held, with EL of a descriptor", FRAME_OF(HELD, 16, 0, 60)),
     FOREIGN("Held, with a next descriptor", FRAME_OF(HELD, 0, 0, 60), {30, 1}),
     TAKEN("Filling, 14 done, 63 used", FRAME_OF(FILLING, 25, 0, 60), {32, 14}, {34, 63}),
     TAKEN("Filling, one left", FRAME_OF(FILLING, 0, 0, 60), {32, 59}),

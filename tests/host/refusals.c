@@ -1,10 +1,10 @@
 /* Refusals: each number, on every call, from every wrong length; which one is given; that nothing changed. */
 #include "setup.h"
 
-/* docs/record.md: bytes that are zero in every record */
-enum { SPARE_FIRST = 46, SPARE_LAST = 159 };
+/* docs/record.md: bytes that are zero in every record, from the first to the last */
+static const size_t SPARE[][2] = {{13, 15}, {40, 151}};
 
-static const enum call_kind KINDS[] = {CALL_ATTENTION, CALL_ARRIVAL, CALL_TURN};
+static const enum call_kind KINDS[] = {CALL_ATTENTION, CALL_ARRIVAL, CALL_TURN, CALL_RUN};
 
 /* A pattern, so that a changed byte shows. */
 static void fill(const struct area *area)
@@ -227,10 +227,11 @@ static void check_foreign_edits(const char *name, struct chip *chip)
     check_foreign(chip, LQ_RECORD_VERSION_AT + 1, 1);
     for (unsigned bit = 1; bit < 16; bit *= 2)
         check_foreign(chip, LQ_RECORD_EVENTS_AT, record[LQ_RECORD_EVENTS_AT] | bit);
-    for (size_t i = SPARE_FIRST; i <= SPARE_LAST; i++) {
-        check_foreign(chip, i, record[i] ^ 1u);
-        check_foreign(chip, i, record[i] ^ 0x80u);
-    }
+    for (size_t run = 0; run < COUNT_OF(SPARE); run++)
+        for (size_t i = SPARE[run][0]; i <= SPARE[run][1]; i++) {
+            check_foreign(chip, i, record[i] ^ 1u);
+            check_foreign(chip, i, record[i] ^ 0x80u);
+        }
     turns(chip, 3);
 }
 

@@ -18,7 +18,7 @@ use Rattle.device.specs.declared.Refusal.the-variants as refusal
 use Rattle.words.specs.Places.{bytesFrom, field}
 use Rattle.image.specs.Ranges.{inRange, Wide}
 use Rattle.image.specs.Image.{imageOf, decodeOf, decodeFull, shaped, headShaped, deviceAt}
-use Rattle.image.specs.declared.Decoded.the-variants as is
+use Rattle.image.specs.Found as is
 use Rattle.image.proofs.Steps.{length-image}
 use Rattle.image.proofs.Exact.{decode-image, device-back}
 use Rattle.chip.specs.World.{World, Ran, worldOf, afterwards, resetOf}

@@ -59,7 +59,7 @@ pub fn record_to(b: Board, out: &mut [u8])
 {
     if b.made {
         let d = b.device;
-        image::store(out, d);
+        unpacked::store(out, d);
         return;
     }
     let zeros = [0; 256];

@@ -1,3 +1,4 @@
 -- Points that could be read two ways, and larger memories, shown of the definitions by computation.
 pub mod Readings
 pub mod Wide
+pub mod Runs

@@ -3,3 +3,5 @@ pub mod Board
 pub mod Papers
 pub mod Swaps
 pub mod Status
+pub mod Moves
+pub mod Run

@@ -18,7 +18,7 @@ use Rattle.device.specs.declared.Device.{Device}
 use Rattle.device.specs.declared.Refusal.the-variants as refusal
 use Rattle.device.specs.declared.Units.{Units}
 use Rattle.image.specs.Image.{imageOf, decodeOf, deviceAt}
-use Rattle.image.specs.declared.Decoded.the-variants as is
+use Rattle.image.specs.Found as is
 use Rattle.image.proofs.Steps.{length-image, decode-other}
 use Rattle.image.proofs.Exact.{decode-image, device-back, image-bytes}
 use Rattle.chip.specs.World.{World, Ran, afterwards}
@@ -80,7 +80,7 @@ lent-sound a d l h = record { range = h .range; wide = h .wide; memory = l .memo
 zero-number : (c : Call) (a : Areas) → isRefused (called c a) ≡ false → number (called c a .answer) ≡ 0
 zero-number c a e = eqb-true _ _ (not-false (eqb (number (called c a .answer)) 0) e)
 
-not-refused : (c : Call) (a : Areas) → Bytes (a .kept) → isRefused (called c a) ≡ false → When refusal.Accepted c a
+pub not-refused : (c : Call) (a : Areas) → Bytes (a .kept) → isRefused (called c a) ≡ false → When refusal.Accepted c a
 not-refused c a k e = table c a k refusal.Accepted .0 (zero-number c a e)
 
 -- of the calls that take all four

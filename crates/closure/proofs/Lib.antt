@@ -10,3 +10,4 @@ pub mod Refusals
 pub mod Witness
 pub mod Carried
 pub mod Runs
+pub mod Turns

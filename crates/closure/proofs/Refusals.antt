@@ -20,8 +20,8 @@ use Rattle.device.specs.declared.Refusal.the-variants as refusal
 use Rattle.device.specs.declared.Units.{Units}
 use Rattle.phases.proofs.Units.{both}
 use Rattle.image.specs.Image.{decodeOf, deviceAt}
-use Rattle.image.specs.declared.Decoded.{Decoded}
-use Rattle.image.specs.declared.Decoded.the-variants as is
+use Rattle.image.specs.Found.{Found}
+use Rattle.image.specs.Found as is
 use Rattle.image.proofs.Exact.{exact, foreign-exact}
 use Rattle.chip.specs.World.{World, Ran, worldOf, resetOf}
 use Rattle.chip.specs.Attention.{attentionOf}
@@ -36,7 +36,7 @@ use Rattle.closure.proofs.Answers.{number-accepted}
 
 -- ---- a packed answer taken apart gives back its number, its length and its edge
 
-refusal-below : (r : Refusal) → refusalNumber r < 5
+pub refusal-below : (r : Refusal) → refusalNumber r < 5
 refusal-below refusal.Accepted = omega arith
 refusal-below refusal.Memory = omega arith
 refusal-below refusal.Area = omega arith
@@ -179,7 +179,7 @@ abbrev Accepts : (World → Ran) → Type 0
 Accepts run = (w : World) → run w .outcome .answer .number ≡ refusal.Accepted
 
 module _ (a : Areas) (f : List ℕ) (run : World → Ran) (k : Bytes (a .kept)) (n : Accepts run) where
-  given-record : (x : Decoded) → decodeOf (a .kept) ≡ x → sizeAllowed (length (a .memory)) ≡ true → areasRight a ≡ true
+  given-record : (x : Found) → decodeOf (a .kept) ≡ x → sizeAllowed (length (a .memory)) ≡ true → areasRight a ≡ true
       → leb (length f) longest ≡ true
       → GivenBy a f (calledBy (refusalOf a f) run a)
   given-record (is.Units u) e s r l =
@@ -271,7 +271,7 @@ not-zero : (x : ℕ) → x ≡ 0 → not (eqb x 0) ≡ true → ⊥
 not-zero x e h = false≢true (sym (ap not (eq-eqb x 0 e)) ∙ h)
 
 module _ (a : Areas) (run : World → Ran) (n : Accepts run) where
-  on-untouched : (x : Decoded) → isRefused (calledOn run a x) ≡ true → Untouched a (calledOn run a x)
+  on-untouched : (x : Found) → isRefused (calledOn run a x) ≡ true → Untouched a (calledOn run a x)
   on-untouched (is.Units u) h =
       let w = worldOf (deviceAt (a .kept) u) (a .memory) (a .holding) (a .outgoing) in
       absurd (not-zero (number (keptBy (run w) .answer)) (kept-number (run w) (n w)) h)

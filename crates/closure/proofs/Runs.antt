@@ -7,7 +7,7 @@ use Rattle.memory.proofs.Bytes.{Bytes}
 use Rattle.device.specs.State.{fresh}
 use Rattle.device.specs.declared.Units.{Units}
 use Rattle.image.specs.Image.{decodeOf, deviceAt}
-use Rattle.image.specs.declared.Decoded.the-variants as is
+use Rattle.image.specs.Found as is
 use Rattle.chip.specs.World.{World, worldOf, afterwards, resetOf}
 use Rattle.chip.specs.Call.{Call, reset, ran}
 use Rattle.lentoquist.specs.Calls.{Areas, areasOf, Called, packed}
@@ -22,10 +22,10 @@ use Rattle.closure.proofs.Carried.{accepted-holds, carry, carry-reset, 
 
 -- ---- one event
 
-shows-world : (a : Areas) (w : World) → Shows a w → worldIn (w .device) a ≡ w
+pub shows-world : (a : Areas) (w : World) → Shows a w → worldIn (w .device) a ≡ w
 shows-world a w s = rw (s .memory, s .holding, s .outgoing)
 
-carry-shown : (c : Call) (a : Areas) (w : World) → Fit c → Lent a → Shows a w → isRefused (called c a) ≡ false
+pub carry-shown : (c : Call) (a : Areas) (w : World) → Fit c → Lent a → Shows a w → isRefused (called c a) ≡ false
     → (Shows (called c a .areas) (afterwards (ran c w))) × (called c a .answer ≡ packed (ran c w .outcome .answer))
 carry-shown c a w f l s e =
     let x = carry c a (w .device) f l (s .kept) e in

@@ -13,7 +13,7 @@ use Rattle.device.specs.declared.Refusal.{Refusal}
 use Rattle.device.specs.declared.Refusal.the-variants as refusal
 use Rattle.words.specs.Places.{bytesFrom, field}
 use Rattle.image.specs.Image.{imageOf, decodeOf, shaped, headShaped}
-use Rattle.image.specs.declared.Decoded.the-variants as is
+use Rattle.image.specs.Found as is
 use Rattle.image.proofs.Exact.{fresh-range, fresh-wide, image-bytes}
 use Rattle.image.proofs.Steps.{length-image, decode-full, full-other}
 use Rattle.chip.specs.Call.{Call, attention, arrive}

@@ -6,7 +6,7 @@ use Rattle.scb.specs.Words.{one}
 use Rattle.device.specs.declared.Answer.{Answer}
 use Rattle.device.specs.declared.Device.{Device}
 use Rattle.image.specs.Image.{decodeOf, deviceAt}
-use Rattle.image.specs.declared.Decoded.the-variants as is
+use Rattle.image.specs.Found as is
 use Rattle.chip.specs.World.{World, worldOf}
 use Rattle.chip.specs.Call.{Call, ran}
 use Rattle.lentoquist.specs.Calls.{Areas, keptBy}

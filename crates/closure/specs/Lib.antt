@@ -3,3 +3,4 @@ pub mod Sound
 pub mod Refusals
 pub mod Carried
 pub mod Runs
+pub mod Turns

@@ -1,2 +1,2 @@
 -- What the loops over an address and over the listed addresses rest on.
-mod Laws
+pub mod Laws

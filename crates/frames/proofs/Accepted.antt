@@ -14,8 +14,8 @@ use Rattle.device.specs.declared.Refusal.the-variants as refusal
 use Rattle.device.specs.declared.Units.{Units}
 use Rattle.image.specs.Image.{decodeOf, decodeFull, shaped, rangeFrom, unitsAt, deviceFrom, deviceAt}
 use Rattle.image.specs.Ranges.{inRange}
-use Rattle.image.specs.declared.Decoded.{Decoded}
-use Rattle.image.specs.declared.Decoded.the-variants as is
+use Rattle.image.specs.Found.{Found}
+use Rattle.image.specs.Found as is
 use Rattle.image.proofs.Steps.{full-taken, full-out, full-other, decode-full, device-full}
 use Rattle.phases.proofs.Units.{both as parts}
 use Rattle.chip.specs.World.{worldOf}
@@ -72,7 +72,7 @@ holding-right a h =
     (parts (eqb (length (a .kept)) recordSize && eqb (length (a .holding)) areaSize) (eqb (length (a .outgoing)) areaSize) h .0)
     .1)
 
-runs-by : (d : Decoded) (a : Areas) (f : List ℕ) → decodeOf (a .kept) ≡ d
+runs-by : (d : Found) (a : Areas) (f : List ℕ) → decodeOf (a .kept) ≡ d
     → NoneApplies (sizeAllowed (length (a .memory))) (areasRight a) (leb (length f) longest) (isImage d) → Runs a f
 runs-by is.Foreign a f e n = absurd (false≢true (n .image-right))
 runs-by (is.Units u) a f e n =

@@ -23,8 +23,8 @@ use Rattle.device.specs.declared.Units.{Units}
 use Rattle.phases.proofs.Units.{both}
 use Rattle.image.specs.Image.{decodeOf, deviceFrom, deviceAt}
 use Rattle.image.specs.Ranges.{sized, goesOn, cuFits, frameFits, ruFits, unitsFit, initialisedOrFresh, inRange, Wide}
-use Rattle.image.specs.declared.Decoded.{Decoded}
-use Rattle.image.specs.declared.Decoded.the-variants as is
+use Rattle.image.specs.Found.{Found}
+use Rattle.image.specs.Found as is
 use Rattle.image.proofs.Exact.{Image, exact, decode-image}
 use Rattle.chip.specs.World.{World, Ran}
 use Rattle.chip.specs.Arrival.{arrivalOf}
@@ -54,7 +54,7 @@ pub record Taken (run : World → Ran) (a : Areas) (c : Called) : Type 0 where
   pub decoded : decodeOf (a .kept) ≡ is.Units (unitsOf (a .kept))
   pub leaves : c ≡ keptBy (run (worldIn a))
 
-taken-on : (d : Decoded) (run : World → Ran) (a : Areas) → decodeOf (a .kept) ≡ d → isRefused (calledOn run a d) ≡ false
+taken-on : (d : Found) (run : World → Ran) (a : Areas) → decodeOf (a .kept) ≡ d → isRefused (calledOn run a d) ≡ false
     → Taken run a (calledOn run a (decodeOf (a .kept)))
 unfolding packed
 taken-on (is.Units u) run a e n = record { decoded = rw e; leaves = rw e }

@@ -21,7 +21,7 @@ use Rattle.words.specs.Places as places
 use Rattle.phases.specs.Words.{cuWord, ruWord}
 use Rattle.image.specs.Image.{imageOf, headShaped, shaped, decodeFull, decodeOf}
 use Rattle.image.specs.Ranges.{cuFits, frameFits, ruFits, unitsFit, initialisedOrFresh, inRange, Wide}
-use Rattle.image.specs.declared.Decoded.{Decoded}
+use Rattle.image.specs.Found.{Found}
 use Rattle.image.proofs.Steps.{length-image}
 use Rattle.image.proofs.Exact.{decode-image, device-back, image-bytes, fresh-wide}
 use Rattle.chip.specs.Call.{reset, attention, turn}
@@ -230,7 +230,7 @@ device-good = record { range = device-range; wide = device-wide }
 
 pub its-record : frameKept (imageOf device) ≡ some frame
 unfolding device
-its-record = ap (λ (x : Decoded). frameOf (unitsBy x .ru)) (decode-image device device-wide device-range) ∙ its-frame
+its-record = ap (λ (x : Found). frameOf (unitsBy x .ru)) (decode-image device device-wide device-range) ∙ its-frame
 
 unsettled : Closed → (n : ℕ) → Settled n frame (turnsOn 131 device) (imageOf device) → ⊥
 unsettled k n s =

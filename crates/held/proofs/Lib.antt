@@ -7,3 +7,4 @@ pub mod Kept
 pub mod Effects
 pub mod Lending
 pub mod Calls
+pub mod Runs

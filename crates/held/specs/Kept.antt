@@ -11,8 +11,8 @@ use Rattle.device.specs.declared.Fate.the-variants as fate
 use Rattle.device.specs.declared.Frame.{Frame}
 use Rattle.device.specs.declared.Units.{Units}
 use Rattle.image.specs.Image.{decodeOf, deviceAt}
-use Rattle.image.specs.declared.Decoded.{Decoded}
-use Rattle.image.specs.declared.Decoded.the-variants as is
+use Rattle.image.specs.Found.{Found}
+use Rattle.image.specs.Found as is
 use Rattle.chip.specs.World.{World, worldOf}
 use Rattle.chip.specs.Call.{Call, reset, attention, arrive, turn}
 use Rattle.chip.specs.Turn.{turnOf}
@@ -27,7 +27,7 @@ use Rattle.held.specs.Held as held
 -- ---- a record
 
 -- the units that a record says; a record that is no image says nothing, as after reset
-abbrev pub unitsBy : Decoded → Units
+abbrev pub unitsBy : Found → Units
 unitsBy (is.Units u) = u
 unitsBy is.Foreign = freshUnits
 

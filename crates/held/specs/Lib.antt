@@ -2,3 +2,4 @@
 pub mod Held
 pub mod Kept
 pub mod Effects
+pub mod Runs

@@ -4,14 +4,16 @@ use mathlib.Core.Path.{_≡_, refl, sym, _∙_}
 use mathlib.Core.Bool.{Bool, true, false, not, _&&_, _||_}
 use mathlib.Core.List.{List, [], _∷_, _++_}
 use Prim.Native.Nat.{ℕ, zero, suc, _+_, _*_, _/_, _%_, _≤_, _<_}
+use native.Mathlib.Nat.{div-div-eq-div-mul, div-add-mod'}
 use native.Mathlib.Omega.{arith}
-use borrow.Author.Tests.{eqb-true, ltb-true, leb-true, lt-ltb, ne-eqb, not-true}
+use borrow.Author.Tests.{eqb-true, ltb-true, leb-true, lt-ltb, eq-eqb, ne-eqb, not-true}
 use lib.Dec.{eqb, leb, ltb, eqb→eq}
 use lib.ListN.{length, getD, replicate}
 use Rattle.memory.specs.Address.{isNone}
 use Rattle.memory.specs.Memory.{value, digits}
 use Rattle.memory.proofs.Bytes.{Bytes, digits-value, bytes-cons, bytes-tail, digits-bytes}
-use Rattle.scb.specs.Words.{joined, noEvents, eventBits, anyOf, cuNumber, ruNumber}
+use Rattle.memory.proofs.Fields.{value-append}
+use Rattle.scb.specs.Words.{one, joined, noEvents, eventBits, anyOf, cuNumber, ruNumber}
 use Rattle.scb.specs.declared.Events.{Events}
 use Rattle.scb.proofs.Below.{below}
 use Rattle.scb.proofs.Status.{events-below, any-bits}
@@ -24,22 +26,27 @@ use Rattle.device.specs.declared.Ru.{Ru}
 use Rattle.device.specs.declared.Ru.the-variants as ru
 use Rattle.device.specs.declared.Settings.{Settings}
 use Rattle.device.specs.declared.Units.{Units}
+use Rattle.actions.specs.Setup.{setupOf}
 use Rattle.words.specs.Places.{bytesFrom, field}
-use Rattle.words.proofs.Laws.{field-below, piece, fit, digits-zero, from-bytes, length-from, whole, first-of, second-of, zero-append, one as field-one}
-use Rattle.phases.specs.Words.{flagsOf, odd, numberOf, cuTag, cuWord, cuShaped, ruTag, ruWord, ruRest, ruShaped, WordWide}
+use Rattle.words.proofs.Laws.{field-below, piece, fit, digits-zero, from-append, from-bytes, from-cons, length-from, whole, first-of, second-of, one as field-one}
+use Rattle.phases.specs.Words.{flagsOf as bitsOf, odd, numberOf, cuTag, cuWord, cuShaped, ruTag, ruWord, ruShaped, FillingWide}
+use Rattle.phases.proofs.Units.{both, never, one-below, flag1, flag2, flag3, flag4, bits3, number-below, wide-of, cu-shaped, cu-same, rest-below, ru-shaped, ru-same, Same, RuSame}
+use Rattle.kept.specs.Kept.{flagsBy, flagsOf, statusOf, keptOf, flagsIn, cuTagIn, ruTagIn, UnitsWide, KeptIs}
+use Rattle.kept.specs.SetUp.{settingsByte, setupBytes}
+use Rattle.kept.specs.declared.Kept.{Kept}
+use Rattle.kept.proofs.Laws.{cu-tag-below, ru-tag-below, flags-below, scb-is, base-is, cu-is, ru-is, cu-of, ru-of, events-is, initialised-is, rulast-is}
 use Rattle.image.specs.Ranges.{settingsFresh, unitsIdle, addressesFresh, sized, unitsFit, cuFits, frameFits, ruFits, unitsFresh, initialisedOrFresh, inRange, Wide}
-use Rattle.image.specs.Image.{front, eventByte, stateBits, settingBits, tagBytes, baseBytes, wordBytes, headBytes, unitBytes, addressBytes, imageOf, eventsOf, unitsOf, cuAt, ruAt, unitsAt, deviceFrom, deviceAt, headShaped, unitsShaped, spareZero, shaped, rangeFrom, decodeFull, decodeOf}
-use Rattle.image.specs.declared.Decoded.the-variants as is
-use Rattle.image.proofs.Steps.{full-taken, full-out, full-other, decode-full, device-full, length-head, length-units, length-image}
-use Rattle.phases.proofs.Units.{both, never, one-below, flag1, flag2, flag3, flag4, bits2, bits3, number-below, word-back, wide-of, cu-shaped, cu-back, cu-same, FillingWide, rest-below, ru-shaped, ru-back, ru-same}
+use Rattle.image.specs.Found as is
+use Rattle.image.specs.Image.{front, unitBytes, imageOf, keptAt, eventsOf, settingsOf, unitsBy, unitsAt, deviceFrom, deviceAt, statusIs, headShaped, unitsShaped, spareZero, shaped, rangeFrom, decodeFull, decodeOf}
+use Rattle.image.proofs.Steps.{full-taken, full-out, full-other, decode-full, device-full, length-units, length-image}
 
--- ---- the events in their byte
+-- ---- the events and the settings in their bits
 
-bits-of : (e : Events) → eventBits e ≡ flagsOf (e .rnr) (e .cna) (e .fr) (e .cx) false false
+bits-of : (e : Events) → eventBits e ≡ bitsOf (e .rnr) (e .cna) (e .fr) (e .cx) false false
 unfolding eventBits joined
 bits-of e = omega arith
 
-events-back : (e : Events) → eventsOf (eventBits e) ≡ e
+pub events-back : (e : Events) → eventsOf (eventBits e) ≡ e
 events-back e =
     rw (
       bits-of e,
@@ -51,90 +58,132 @@ events-back e =
 
 events-same : (n : ℕ) → n < 16 → eventBits (eventsOf n) ≡ n
 events-same n h =
-    bits-of (eventsOf n) ∙ eqb→eq _ n (below (λ k. eqb (flagsOf (odd k) (odd (k / 2)) (odd (k / 4)) (odd (k / 8)) false false) k) 16 tt n h)
+    bits-of (eventsOf n) ∙ eqb→eq _ n (below (λ k. eqb (bitsOf (odd k) (odd (k / 2)) (odd (k / 4)) (odd (k / 8)) false false) k) 16 tt n h)
+
+byte-bits : (s : Settings) → settingsByte s ≡ bitsOf (s .savebad) (s .promiscuous) (s .nobroadcast) false false false
+byte-bits s = omega arith
+
+pub settings-back : (s : Settings) → settingsOf (settingsByte s) (s .minimum) ≡ s
+settings-back s =
+    rw (
+      byte-bits s,
+      flag1 (s .savebad) (s .promiscuous) (s .nobroadcast) false false false,
+      flag2 (s .savebad) (s .promiscuous) (s .nobroadcast) false false false,
+      flag3 (s .savebad) (s .promiscuous) (s .nobroadcast) false false false,
+    )
+
+pub settings-same : (b m : ℕ) → b < 8 → settingsByte (settingsOf b m) ≡ b
+settings-same b m h = byte-bits (settingsOf b m) ∙ bits3 b h
+
+setting-below : (s : Settings) → settingsByte s < 8
+setting-below s = omega (arith, one-below (s .savebad), one-below (s .promiscuous), one-below (s .nobroadcast))
+
+-- ---- the parts of a status, in plain variables: events, tag, marks, tag, offset, base
+
+abbrev laid : (e c m r s b : ℕ) → ℕ
+laid e c m r s b = 16 * e + 256 * c + 4096 * m + 65536 * r + 16777216 * s + 1099511627776 * b
+
+module _ (e c m r s b : ℕ) (he : e < 16) (hc : c < 8) (hm : m < 4) where
+  laid-low : laid e c m r s b % 16 ≡ 0
+  laid-low = omega arith
+
+  laid-third : laid e c m r s b / 2048 % 2 ≡ 0
+  laid-third =
+      let q : laid e c m r s b / 2048 ≡ 2 * (m + 16 * r + 4096 * s + 268435456 * b) = omega arith in
+      rw q (omega arith)
+
+  laid-high : laid e c m r s b / 16384 % 4 ≡ 0
+  laid-high =
+      let q : laid e c m r s b / 16384 ≡ 4 * (r + 256 * s + 16777216 * b) = omega arith in
+      rw q (omega arith)
+
+  laid-below : r < 256 → s < 65536 → b < 16777216 → laid e c m r s b < 18446744073709551616
+  laid-below hr hs hb = omega arith
+
+low-byte : (e c m r s b : ℕ) → e < 16 → laid e c m r s b % 256 ≡ 16 * e
+low-byte e c m r s b h = omega arith
+
+-- one digit of a number in mixed radix, and all of a status
+digit : (s a k : ℕ) → s / (a * k) * k + s / a % k ≡ s / a
+digit s a k = rw (← div-div-eq-div-mul) (div-add-mod' (s / a) k)
+
+sum : (n a b c d f g h e x t y m z v o : ℕ) → a * 16 + x ≡ n → b * 16 + e ≡ a → c * 8 + t ≡ b → d * 2 + y ≡ c → f * 4 + m ≡ d → g * 4 + z ≡ f
+    → h * 256 + v ≡ g → x ≡ 0 → y ≡ 0 → z ≡ 0
+    → (b′ : ℕ) → b′ * 65536 + o ≡ h → laid e t m v o b′ ≡ n
+sum n a b c d f g h e x t y m z v o p1 p2 p3 p4 p5 p6 p7 q1 q2 q3 b′ p8 = omega arith
+
+status-parts : (s : ℕ) → s % 16 ≡ 0 → s / 2048 % 2 ≡ 0 → s / 16384 % 4 ≡ 0
+    → laid (s / 16 % 16) (s / 256 % 8) (s / 4096 % 4) (s / 65536 % 256) (s / 16777216 % 65536) (s / 1099511627776) ≡ s
+status-parts s p q r =
+    sum s (s / 16) (s / 256) (s / 2048) (s / 4096) (s / 16384) (s / 65536) (s / 16777216) (s / 16 % 16) (s % 16) (s / 256 % 8) (s / 2048 % 2)
+    (s / 4096 % 4) (s / 16384 % 4) (s / 65536 % 256) (s / 16777216 % 65536) (div-add-mod' s 16) (digit s 16 16) (digit s 256 8) (digit s 2048 2)
+    (digit s 4096 4) (digit s 16384 4) (digit s 65536 256) p q r (s / 1099511627776) (digit s 16777216 65536)
 
 -- ---- the fields of an image
 
 module _ (d : Device) where
-  at0 : field (imageOf d) 0 3 ≡ value (digits 3 0x544742)
-  unfolding imageOf headBytes front tagBytes baseBytes unitBytes wordBytes digits field bytesFrom
-  at0 = refl
+  at0 : field (imageOf d) 0 8 % 1099511627776 ≡ 0x0001544742
+  unfolding imageOf unitBytes front digits field bytesFrom value
+  at0 = omega arith
 
-  at3 : field (imageOf d) 3 2 ≡ value (digits 2 1)
-  unfolding imageOf headBytes front tagBytes baseBytes unitBytes wordBytes digits field bytesFrom
-  at3 = refl
-
-  at5 : field (imageOf d) 5 1 ≡ value (digits 1 (eventByte (d .units .events)))
-  unfolding imageOf headBytes front tagBytes baseBytes unitBytes wordBytes digits field bytesFrom
+  at5 : field (imageOf d) 5 8 ≡ value (digits 8 (keptOf (d .units) .status))
+  unfolding imageOf unitBytes front digits field bytesFrom
   at5 = refl
 
-  at6 : field (imageOf d) 6 1 ≡ value (digits 1 (stateBits (d .units)))
-  unfolding imageOf headBytes front tagBytes baseBytes unitBytes wordBytes digits field bytesFrom
-  at6 = refl
+  at13 : field (imageOf d) 13 3 ≡ 0
+  unfolding imageOf unitBytes front digits field bytesFrom value
+  at13 = refl
 
-  at7 : field (imageOf d) 7 1 ≡ value (digits 1 (cuTag (d .units .cu)))
-  unfolding imageOf headBytes front tagBytes baseBytes unitBytes wordBytes digits field bytesFrom
-  at7 = refl
-
-  at8 : field (imageOf d) 8 1 ≡ value (digits 1 (ruTag (d .units .ru)))
-  unfolding imageOf headBytes front tagBytes baseBytes unitBytes wordBytes digits field bytesFrom
-  at8 = refl
-
-  at9 : field (imageOf d) 9 3 ≡ value (digits 3 (d .units .base .0))
-  unfolding imageOf headBytes front tagBytes baseBytes unitBytes wordBytes digits field bytesFrom
-  at9 = refl
-
-  at12 : field (imageOf d) 12 2 ≡ value (digits 2 (d .units .scb .0))
-  unfolding imageOf headBytes front tagBytes baseBytes unitBytes wordBytes digits field bytesFrom
-  at12 = refl
-
-  at14 : field (imageOf d) 14 1 ≡ value (digits 1 (settingBits (d .units .settings)))
-  unfolding imageOf headBytes front tagBytes baseBytes unitBytes wordBytes digits field bytesFrom
-  at14 = refl
-
-  at15 : field (imageOf d) 15 1 ≡ value (digits 1 (d .units .settings .minimum))
-  unfolding imageOf headBytes front tagBytes baseBytes unitBytes wordBytes digits field bytesFrom
-  at15 = refl
-
-  at16 : field (imageOf d) 16 8 ≡ value (digits 8 (numberOf (cuWord (d .units .cu))))
-  unfolding imageOf headBytes front tagBytes baseBytes unitBytes wordBytes digits field bytesFrom
+  at16 : field (imageOf d) 16 8 ≡ value (digits 8 (keptOf (d .units) .cu))
+  unfolding imageOf unitBytes front digits field bytesFrom
   at16 = refl
 
-  at24 : field (imageOf d) 24 8 ≡ value (digits 8 (numberOf (ruWord (d .units .ru))))
-  unfolding imageOf headBytes front tagBytes baseBytes unitBytes wordBytes digits field bytesFrom
+  at24 : field (imageOf d) 24 8 ≡ value (digits 8 (keptOf (d .units) .ru))
+  unfolding imageOf unitBytes front digits field bytesFrom
   at24 = refl
 
-  at32 : field (imageOf d) 32 8 ≡ value (digits 8 (ruRest (d .units .ru)))
-  unfolding imageOf headBytes front tagBytes baseBytes unitBytes wordBytes digits field bytesFrom
+  at32 : field (imageOf d) 32 8 ≡ value (digits 8 (keptOf (d .units) .rest))
+  unfolding imageOf unitBytes front digits field bytesFrom
   at32 = refl
 
-  -- from byte 40 on, the addresses
-  behind : (at n : ℕ) → bytesFrom (imageOf d) (40 + at) n ≡ bytesFrom (addressBytes (d .own) (d .listed)) at n
+  -- from byte 40 on: spare, and from byte 152 on the setup
+  behind : (at n : ℕ) → bytesFrom (imageOf d) (40 + at) n ≡ bytesFrom (replicate 112 0 ++ setupBytes (setupOf d)) at n
   unfolding imageOf
-  behind at n =
-      let u = unitBytes (d .units .cu) (d .units .ru) in
-      let a = addressBytes (d .own) (d .listed) in
-      let e : 40 + at ≡ 16 + (24 + at) = omega arith in
-      rw e
-      (rw (length-head (d .units)) at (second-of (headBytes (d .units)) (u ++ a) (24 + at) n)
-      ∙ rw (length-units (d .units .cu) (d .units .ru)) at (second-of u a at n))
+  behind at n = rw (length-units (keptOf (d .units))) at (second-of (unitBytes (keptOf (d .units))) (replicate 112 0 ++ setupBytes (setupOf d)) at n)
+
+  spare-back : bytesFrom (imageOf d) 40 112 ≡ replicate 112 0
+  spare-back = behind 0 112 ∙ first-of (replicate 112 0) (setupBytes (setupOf d))
+
+  pub set-behind : (at n : ℕ) → bytesFrom (imageOf d) (152 + at) n ≡ bytesFrom (setupBytes (setupOf d)) at n
+  set-behind at n =
+      let e : 152 + at ≡ 40 + (112 + at) = omega arith in
+      rw e (behind (112 + at) n ∙ second-of (replicate 112 0) (setupBytes (setupOf d)) at n)
+
+  at152 : field (imageOf d) 152 1 ≡ settingsByte (d .units .settings)
+  unfolding field setupBytes
+  at152 = rw (set-behind 0 1) (field-one (setupBytes (setupOf d)) 0)
+
+  at153 : field (imageOf d) 153 1 ≡ d .units .settings .minimum
+  unfolding field setupBytes
+  at153 = rw (set-behind 1 1) (field-one (setupBytes (setupOf d)) 1)
 
   module _ (h : Wide d) where
-    own-back : bytesFrom (imageOf d) 40 6 ≡ d .own
-    unfolding addressBytes
-    own-back = behind 0 6 ∙ rw (h .own) at (first-of (d .own) (replicate 114 0 ++ d .listed))
-
-    past-own : (at n : ℕ) → bytesFrom (imageOf d) (46 + at) n ≡ bytesFrom (replicate 114 0 ++ d .listed) at n
-    unfolding addressBytes
-    past-own at n =
-        let e : 46 + at ≡ 40 + (6 + at) = omega arith in
-        rw e (behind (6 + at) n ∙ rw (h .own) at (second-of (d .own) (replicate 114 0 ++ d .listed) at n))
-
-    spare-back : bytesFrom (imageOf d) 46 114 ≡ replicate 114 0
-    spare-back = past-own 0 114 ∙ first-of (replicate 114 0) (d .listed)
+    own-back : bytesFrom (imageOf d) 154 6 ≡ d .own
+    unfolding setupBytes
+    own-back =
+        set-behind 2 6
+        ∙ from-cons _ (d .units .settings .minimum ∷ (d .own ++ d .listed)) 1 6
+        ∙ from-cons _ (d .own ++ d .listed) 0 6
+        ∙ rw (h .own) at (first-of (d .own) (d .listed))
 
     listed-back : bytesFrom (imageOf d) 160 96 ≡ d .listed
-    listed-back = past-own 114 96 ∙ second-of (replicate 114 0) (d .listed) 0 96 ∙ rw (h .listed) at (whole (d .listed))
+    unfolding setupBytes
+    listed-back =
+        set-behind 8 96
+        ∙ from-cons _ (d .units .settings .minimum ∷ (d .own ++ d .listed)) 7 96
+        ∙ from-cons _ (d .own ++ d .listed) 6 96
+        ∙ rw (h .own) at (second-of (d .own) (d .listed) 0 96)
+        ∙ rw (h .listed) at (whole (d .listed))
 
     pub device-back-from : (u : Units) → deviceFrom (imageOf d) u ≡ record { units = u; own = d .own; listed = d .listed }
     unfolding deviceFrom
@@ -147,7 +196,7 @@ frame-length : (f : Frame) → frameFits f ≡ true → f .length ≤ 2048
 unfolding frameFits
 frame-length f e = leb-true _ _ (both (leb 14 (f .length)) (leb (f .length) 2048) (both (sized (f .length)) (isGood f || f .savebad) e .0) .1)
 
-filling-wide : (u : Ru) → ruFits u ≡ true → FillingWide u
+pub filling-wide : (u : Ru) → ruFits u ≡ true → FillingWide u
 unfolding ruFits
 filling-wide ru.Idle e = tt
 filling-wide ru.NoResources e = tt
@@ -165,133 +214,116 @@ filling-wide (ru.Filling s w) e =
 filling-wide (ru.Closing s o full) e = tt
 filling-wide (ru.Lacking s) e = tt
 
-state-below : (u : Units) → stateBits u < 4
-state-below u = omega (arith, one-below (u .initialised), one-below (u .rulast))
+pub fit-base : (u : Units) → unitsFit u ≡ true → u .base .0 < 16777216
+unfolding unitsFit
+fit-base u e = ltb-true _ _ (both (ltb (u .base .0) 16777216) (cuFits (u .cu)) (both _ (ruFits (u .ru)) e .0) .0)
 
-setting-below : (s : Settings) → settingBits s < 8
-setting-below s = omega (arith, one-below (s .savebad), one-below (s .promiscuous), one-below (s .nobroadcast))
+pub fit-ru : (u : Units) → unitsFit u ≡ true → ruFits (u .ru) ≡ true
+unfolding unitsFit
+fit-ru u e = both (ltb (u .base .0) 16777216 && cuFits (u .cu)) (ruFits (u .ru)) e .1
 
-cu-tag-below : (c : Cu) → cuTag c < 256
-cu-tag-below cu.Idle = omega arith
-cu-tag-below (cu.Suspended o) = omega arith
-cu-tag-below (cu.Waiting o) = omega arith
-cu-tag-below (cu.Acting b a) = omega arith
-cu-tag-below (cu.Sending b w) = omega arith
-cu-tag-below (cu.Ending b n) = omega arith
-cu-tag-below (cu.Failing b) = omega arith
+-- the numbers of a state have eight bytes
+module _ (u : Units) (h : UnitsWide u) where
+  status-tests : (statusOf u % 16 ≡ 0) × (statusOf u / 2048 % 2 ≡ 0) × (statusOf u / 16384 % 4 ≡ 0) × (statusOf u < 18446744073709551616)
+  status-tests =
+      let f = flagsOf u in
+      let p : f / 16 < 16 = omega (arith, flags-below (u .initialised) (u .rulast) (u .events)) in
+      let q : f % 4 < 4 = omega arith in
+      let c = cu-tag-below (u .cu) in
+      let v : ruTag (u .ru) < 256 = omega (arith, ru-tag-below (u .ru)) in (
+        laid-low (f / 16) (cuTag (u .cu)) (f % 4) (ruTag (u .ru)) (u .scb .0) (u .base .0) p c q,
+        laid-third (f / 16) (cuTag (u .cu)) (f % 4) (ruTag (u .ru)) (u .scb .0) (u .base .0) p c q,
+        laid-high (f / 16) (cuTag (u .cu)) (f % 4) (ruTag (u .ru)) (u .scb .0) (u .base .0) p c q,
+        laid-below (f / 16) (cuTag (u .cu)) (f % 4) (ruTag (u .ru)) (u .scb .0) (u .base .0) p c q v (h .scb-wide) (h .base-wide),
+      )
 
-ru-tag-below : (u : Ru) → ruTag u < 256
-ru-tag-below ru.Idle = omega arith
-ru-tag-below ru.NoResources = omega arith
-ru-tag-below (ru.Suspended o) = omega arith
-ru-tag-below (ru.Ready o) = omega arith
-ru-tag-below (ru.Held o f p) = omega arith
-ru-tag-below (ru.Filling s w) = omega arith
-ru-tag-below (ru.Closing s o full) = omega arith
-ru-tag-below (ru.Lacking s) = omega arith
-
--- two bytes and 112 are the 114
-spare-whole : (r : List ℕ) → eqb (field r 46 114) 0 ≡ spareZero r
-unfolding spareZero
-spare-whole r = zero-append r 46 2 112
+-- the numbers of a state lead back to it
+pub units-by : (u : Units) (k : Kept) → KeptIs u k → unitsBy k (u .settings) ≡ u
+unfolding unitsBy
+units-by u k h =
+    rw (
+      initialised-is u k h,
+      base-is u k h,
+      scb-is u k h,
+      events-is u k h,
+      events-back (u .events),
+      rulast-is u k h,
+      cu-of (u .cu) (cuTagIn k) (k .cu) (cu-is u k h),
+      ru-of (u .ru) (ruTagIn k) (k .ru) (k .rest) (ru-is u k h),
+    )
 
 module _ (d : Device) (h : Wide d) (e : unitsFit (d .units) ≡ true) where
-  base-below : d .units .base .0 < 16777216
-  unfolding unitsFit
-  base-below = ltb-true _ _ (both (ltb (d .units .base .0) 16777216) (cuFits (d .units .cu)) (both _ (ruFits (d .units .ru)) e .0) .0)
+  pub wide-units : UnitsWide (d .units)
+  wide-units =
+      record {
+        scb-wide = h .scb;
+        base-wide = fit-base (d .units) e;
+        cu-wide = h .cu;
+        ru-wide = h .ru;
+        filling-wide = filling-wide (d .units .ru) (fit-ru (d .units) e);
+      }
 
-  wide-filling : FillingWide (d .units .ru)
-  unfolding unitsFit
-  wide-filling = filling-wide (d .units .ru) (both (ltb (d .units .base .0) 16777216 && cuFits (d .units .cu)) (ruFits (d .units .ru)) e .1)
+  kept-back : keptAt (imageOf d) ≡ keptOf (d .units)
+  unfolding keptAt keptOf
+  kept-back =
+      rw (
+        at5 d ∙ fit 8 _ (status-tests (d .units) wide-units .3),
+        at16 d ∙ fit 8 _ (number-below (cuWord (d .units .cu)) (h .cu)),
+        at24 d ∙ fit 8 _ (number-below (ruWord (d .units .ru)) (h .ru)),
+        at32 d ∙ fit 8 _ (omega (arith, rest-below (d .units .ru) (wide-units .filling-wide))),
+      )
 
-  is5 : field (imageOf d) 5 1 ≡ eventByte (d .units .events)
-  is5 = at5 d ∙ fit 1 _ (omega (arith, events-below (d .units .events)))
-
-  is6 : field (imageOf d) 6 1 ≡ stateBits (d .units)
-  is6 = at6 d ∙ fit 1 _ (omega (arith, state-below (d .units)))
-
-  is7 : field (imageOf d) 7 1 ≡ cuTag (d .units .cu)
-  is7 = at7 d ∙ fit 1 _ (cu-tag-below (d .units .cu))
-
-  is8 : field (imageOf d) 8 1 ≡ ruTag (d .units .ru)
-  is8 = at8 d ∙ fit 1 _ (ru-tag-below (d .units .ru))
-
-  is9 : field (imageOf d) 9 3 ≡ d .units .base .0
-  is9 = at9 d ∙ fit 3 _ base-below
-
-  is12 : field (imageOf d) 12 2 ≡ d .units .scb .0
-  is12 = at12 d ∙ fit 2 _ (h .scb)
-
-  is14 : field (imageOf d) 14 1 ≡ settingBits (d .units .settings)
-  is14 = at14 d ∙ fit 1 _ (omega (arith, setting-below (d .units .settings)))
-
-  is15 : field (imageOf d) 15 1 ≡ d .units .settings .minimum
-  is15 = at15 d ∙ fit 1 _ (h .minimum)
-
-  is16 : field (imageOf d) 16 8 ≡ numberOf (cuWord (d .units .cu))
-  is16 = at16 d ∙ fit 8 _ (number-below (cuWord (d .units .cu)) (h .cu))
-
-  is24 : field (imageOf d) 24 8 ≡ numberOf (ruWord (d .units .ru))
-  is24 = at24 d ∙ fit 8 _ (number-below (ruWord (d .units .ru)) (h .ru))
-
-  is32 : field (imageOf d) 32 8 ≡ ruRest (d .units .ru)
-  is32 = at32 d ∙ fit 8 _ (omega (arith, rest-below (d .units .ru) wide-filling))
-
-  cu-at : cuAt (imageOf d) ≡ d .units .cu
-  unfolding cuAt
-  cu-at = rw (is7, is16, word-back (cuWord (d .units .cu)) (h .cu)) (cu-back (d .units .cu))
-
-  ru-at : ruAt (imageOf d) ≡ d .units .ru
-  unfolding ruAt
-  ru-at = rw (is8, is24, is32, word-back (ruWord (d .units .ru)) (h .ru)) (ru-back (d .units .ru) wide-filling)
+  -- the numbers that stand in it are the state's
+  pub kept-is : KeptIs (d .units) (keptAt (imageOf d))
+  kept-is = record { same = kept-back; wide = wide-units }
 
   pub units-back : unitsAt (imageOf d) ≡ d .units
-  unfolding unitsAt unitsOf
-  units-back =
-      let u = d .units in
-      let s = u .settings in
-      let q : eventByte (u .events) / 16 ≡ eventBits (u .events) = omega arith in
-      rw (
-        is5,
-        is6,
-        is9,
-        is12,
-        is14,
-        is15,
-        cu-at,
-        ru-at,
-        q,
-        events-back (u .events),
-        flag1 (u .initialised) (u .rulast) false false false false,
-        flag2 (u .initialised) (u .rulast) false false false false,
-        flag1 (s .savebad) (s .promiscuous) (s .nobroadcast) false false false,
-        flag2 (s .savebad) (s .promiscuous) (s .nobroadcast) false false false,
-        flag3 (s .savebad) (s .promiscuous) (s .nobroadcast) false false false,
-      )
+  unfolding unitsAt
+  units-back = rw (at152 d, at153 d, settings-back (d .units .settings)) (units-by (d .units) (keptAt (imageOf d)) kept-is)
+
+  is5 : field (imageOf d) 5 8 ≡ statusOf (d .units)
+  unfolding keptOf
+  is5 = at5 d ∙ fit 8 _ (status-tests (d .units) wide-units .3)
 
   head-true : headShaped (imageOf d) ≡ true
   unfolding headShaped
   head-true =
-      let a : value (digits 3 0x544742) ≡ 0x544742 = fit 3 0x544742 (omega arith) in
-      let b : value (digits 2 1) ≡ 1 = fit 2 1 (omega arith) in
-      let q : eventByte (d .units .events) % 16 ≡ 0 = omega arith in
-      rw (at0 d, a, at3 d, b, is5, q, is6, lt-ltb _ 4 (state-below (d .units)), is14, lt-ltb _ 8 (setting-below (d .units .settings)))
+      let t = status-tests (d .units) wide-units in
+      rw (
+        at0 d,
+        is5,
+        eq-eqb _ 0 (t .0),
+        eq-eqb _ 0 (t .1),
+        eq-eqb _ 0 (t .2),
+        at152 d,
+        lt-ltb _ 8 (setting-below (d .units .settings)),
+      )
 
   units-true : unitsShaped (imageOf d) ≡ true
   unfolding unitsShaped
   units-true =
-      rw (is7, is16, is8, is24, is32, cu-shaped (d .units .cu) (h .cu), ru-shaped (d .units .ru) (h .ru) (rest-below (d .units .ru) wide-filling))
+      let c = cu-is (d .units) (keptAt (imageOf d)) kept-is in
+      let v = ru-is (d .units) (keptAt (imageOf d)) kept-is in
+      rw (
+        c .tag-is,
+        c .word-is,
+        v .tag-is,
+        v .word-is,
+        v .rest-is,
+        cu-shaped (d .units .cu) (h .cu),
+        ru-shaped (d .units .ru) (h .ru) (rest-below (d .units .ru) (wide-units .filling-wide)),
+      )
 
   spare-true : spareZero (imageOf d) ≡ true
-  unfolding field value
-  spare-true = sym (spare-whole (imageOf d)) ∙ rw (spare-back d h)
+  unfolding spareZero field value
+  spare-true = rw (at13 d, spare-back d)
 
   shaped-true : shaped (imageOf d) ≡ true
   unfolding shaped
   shaped-true = rw (head-true, units-true, spare-true)
 
 module _ (d : Device) (h : Wide d) (e : inRange d ≡ true) where
-  fits : unitsFit (d .units) ≡ true
+  pub fits : unitsFit (d .units) ≡ true
   unfolding inRange
   fits = both (unitsFit (d .units)) (initialisedOrFresh d) e .0
 
@@ -311,49 +343,53 @@ device-back d h = sym (device-full (imageOf d) (d .units) (length-image d (h .ow
 -- ---- what is decoded is the image of its state
 
 -- an image and a record, in the same pieces
-flat : (u : Units) (own listed : List ℕ)
-    → imageOf (record { units = u; own = own; listed = listed })
-    ≡ digits 3 0x544742
-    ++ (digits 2 1
-    ++ (digits 1 (eventByte (u .events))
-    ++ (digits 1 (stateBits u)
-    ++ (digits 1 (cuTag (u .cu))
-    ++ (digits 1 (ruTag (u .ru))
-    ++ (digits 3 (u .base .0)
-    ++ (digits 2 (u .scb .0)
-    ++ (digits 1 (settingBits (u .settings))
-    ++ (digits 1 (u .settings .minimum)
-    ++ (digits 8 (numberOf (cuWord (u .cu)))
-    ++ (digits 8 (numberOf (ruWord (u .ru)))
-    ++ (digits 8 (ruRest (u .ru))
-    ++ (own
-    ++ (replicate 114 0
-    ++ listed))))))))))))))
-unfolding imageOf headBytes front tagBytes baseBytes unitBytes wordBytes addressBytes digits
-flat u own listed = refl
+flat : (k : Kept) (u : Units) (own listed : List ℕ)
+    → unitBytes k ++ (replicate 112 0 ++ setupBytes (record { settings = u .settings; own = own; listed = listed }))
+    ≡ digits 5 0x0001544742
+    ++ (digits 8 (k .status)
+    ++ (replicate 3 0
+    ++ (digits 8 (k .cu)
+    ++ (digits 8 (k .ru)
+    ++ (digits 8 (k .rest)
+    ++ (replicate 112 0
+    ++ (settingsByte (u .settings) ∷ (u .settings .minimum ∷ (own ++ listed)))))))))
+unfolding unitBytes front digits setupBytes
+flat k u own listed = refl
 
 cut : (r : List ℕ)
     → bytesFrom r 0 256
-    ≡ bytesFrom r 0 3
-    ++ (bytesFrom r 3 2
-    ++ (bytesFrom r 5 1
-    ++ (bytesFrom r 6 1
-    ++ (bytesFrom r 7 1
-    ++ (bytesFrom r 8 1
-    ++ (bytesFrom r 9 3
-    ++ (bytesFrom r 12 2
-    ++ (bytesFrom r 14 1
-    ++ (bytesFrom r 15 1
+    ≡ bytesFrom r 0 5
+    ++ (bytesFrom r 5 8
+    ++ (bytesFrom r 13 3
     ++ (bytesFrom r 16 8
     ++ (bytesFrom r 24 8
     ++ (bytesFrom r 32 8
-    ++ (bytesFrom r 40 6
-    ++ (bytesFrom r 46 114
-    ++ bytesFrom r 160 96))))))))))))))
+    ++ (bytesFrom r 40 112
+    ++ (getD r 152 0 ∷ (getD r 153 0 ∷ (bytesFrom r 154 6 ++ bytesFrom r 160 96)))))))))
 unfolding bytesFrom
 cut r = refl
 
-module _ (r : List ℕ) (l : length r ≡ 256) (b : Bytes r) (e : shaped r ≡ true) where
+-- a bit as a number
+one-mod : (n : ℕ) → one (odd n) ≡ n % 2
+one-mod n = at-bit (n % 2) (omega arith)
+  where
+    at-bit : (k : ℕ) → k < 2 → one (eqb k 1) ≡ k
+    at-bit zero h = refl
+    at-bit (suc zero) h = refl
+    at-bit (suc (suc k)) h = absurd (omega arith)
+
+flags-same : (m e : ℕ) → m < 4 → e < 16 → let f = m + 16 * e in flagsBy (odd f) (odd (f / 2)) (eventsOf (f / 16)) ≡ f
+flags-same m e p q =
+    let f = m + 16 * e in
+    let x : f / 16 ≡ e = omega arith in
+    let y : f % 2 ≡ m % 2 = omega arith in
+    let h : f / 2 ≡ m / 2 + 8 * e = omega arith in
+    let z : f / 2 % 2 ≡ m / 2 % 2 = rw h (omega arith) in
+    let w : one (odd f) + 2 * one (odd (f / 2)) + 16 * eventBits (eventsOf (f / 16)) ≡ f % 2 + 2 * (f / 2 % 2) + 16 * e =
+    rw (one-mod f, one-mod (f / 2), x, events-same e q) in
+    w ∙ omega arith
+
+module _ (r : List ℕ) (e : shaped r ≡ true) where
   head-is : headShaped r ≡ true
   unfolding shaped
   head-is = both (headShaped r) (unitsShaped r) (both (headShaped r && unitsShaped r) (spareZero r) e .0) .0
@@ -367,131 +403,118 @@ module _ (r : List ℕ) (l : length r ≡ 256) (b : Bytes r) (e : shaped r ≡ t
   spare-is = both (headShaped r && unitsShaped r) (spareZero r) e .1
 
   -- the tests of the head, one by one
-  head-tests : (((field r 0 3 ≡ 0x544742) × (field r 3 2 ≡ 1)) × (field r 5 1 % 16 ≡ 0)) × (field r 6 1 < 4) × (field r 14 1 < 8)
+  pub front-test : field r 0 8 % 1099511627776 ≡ 0x0001544742
   unfolding headShaped
-  head-tests =
-      let t14 = both _ (ltb (field r 14 1) 8) head-is in
-      let t6 = both _ (ltb (field r 6 1) 4) (t14 .0) in
-      let t5 = both _ (eqb (field r 5 1 % 16) 0) (t6 .0) in
-      let t0 = both (eqb (field r 0 3) 0x544742) (eqb (field r 3 2) 1) (t5 .0) in
-      (((eqb-true _ _ (t0 .0), eqb-true _ _ (t0 .1)), eqb-true _ _ (t5 .1)), ltb-true _ _ (t6 .1), ltb-true _ _ (t14 .1))
+  front-test = eqb-true _ _ (both (eqb (field r 0 8 % 1099511627776) 0x0001544742) (statusIs (field r 5 8)) (both _ (ltb (field r 152 1) 8) head-is .0) .0)
 
-  cu-is : cuShaped (field r 7 1) (field r 16 8) ≡ true
+  status-test : statusIs (field r 5 8) ≡ true
+  unfolding headShaped
+  status-test = both (eqb (field r 0 8 % 1099511627776) 0x0001544742) (statusIs (field r 5 8)) (both _ (ltb (field r 152 1) 8) head-is .0) .1
+
+  pub settings-test : field r 152 1 < 8
+  unfolding headShaped
+  settings-test = ltb-true _ _ (both (eqb (field r 0 8 % 1099511627776) 0x0001544742 && statusIs (field r 5 8)) (ltb (field r 152 1) 8) head-is .1)
+
+  pub cu-shape : cuShaped (cuTagIn (keptAt r)) (keptAt r .cu) ≡ true
   unfolding unitsShaped
-  cu-is = both (cuShaped (field r 7 1) (field r 16 8)) (ruShaped (field r 8 1) (field r 24 8) (field r 32 8)) units-are .0
+  cu-shape = both (cuShaped (cuTagIn (keptAt r)) (keptAt r .cu)) (ruShaped (ruTagIn (keptAt r)) (keptAt r .ru) (keptAt r .rest)) units-are .0
 
-  ru-is : ruShaped (field r 8 1) (field r 24 8) (field r 32 8) ≡ true
+  pub ru-shape : ruShaped (ruTagIn (keptAt r)) (keptAt r .ru) (keptAt r .rest) ≡ true
   unfolding unitsShaped
-  ru-is = both (cuShaped (field r 7 1) (field r 16 8)) (ruShaped (field r 8 1) (field r 24 8) (field r 32 8)) units-are .1
+  ru-shape = both (cuShaped (cuTagIn (keptAt r)) (keptAt r .cu)) (ruShaped (ruTagIn (keptAt r)) (keptAt r .ru) (keptAt r .rest)) units-are .1
 
-  spare-none : bytesFrom r 46 114 ≡ replicate 114 0
+  cu-same-at : Same (cuTagIn (keptAt r)) (keptAt r .cu) (cuTag (unitsAt r .cu)) (cuWord (unitsAt r .cu))
+  unfolding unitsAt unitsBy
+  cu-same-at = cu-same (cuTagIn (keptAt r)) (keptAt r .cu) cu-shape
+
+  ru-same-at : RuSame (ruTagIn (keptAt r)) (keptAt r .ru) (keptAt r .rest) (unitsAt r .ru) × (numberOf (ruWord (unitsAt r .ru)) ≡ keptAt r .ru)
+  unfolding unitsAt unitsBy
+  ru-same-at = ru-same (ruTagIn (keptAt r)) (keptAt r .ru) (keptAt r .rest) ru-shape
+
+  flags-are : flagsOf (unitsAt r) ≡ flagsIn (keptAt r)
+  unfolding unitsAt unitsBy
+  flags-are = flags-same (keptAt r .status / 4096 % 4) (keptAt r .status / 16 % 16) (omega arith) (omega arith)
+
+  scb-at : unitsAt r .scb .0 ≡ keptAt r .status / 16777216 % 65536
+  unfolding unitsAt unitsBy
+  scb-at = refl
+
+  base-at : unitsAt r .base .0 ≡ keptAt r .status / 1099511627776
+  unfolding unitsAt unitsBy
+  base-at = refl
+
+  pub status-same : statusOf (unitsAt r) ≡ keptAt r .status
+  unfolding keptAt
+  status-same =
+      let s = keptAt r .status in
+      let t = both _ (eqb (s / 16384 % 4) 0) status-test in
+      let v = both (eqb (s % 16) 0) (eqb (s / 2048 % 2) 0) (t .0) in
+      let f : flagsIn (keptAt r) / 16 ≡ s / 16 % 16 = omega arith in
+      let g : flagsIn (keptAt r) % 4 ≡ s / 4096 % 4 = omega arith in
+      rw (flags-are, cu-same-at .tag-same, ru-same-at .0 .tag-same, scb-at, base-at, f, g)
+      (status-parts s (eqb-true _ _ (v .0)) (eqb-true _ _ (v .1)) (eqb-true _ _ (t .1)))
+
+  -- the numbers of what is read are those that stand there
+  pub kept-same : keptOf (unitsAt r) ≡ keptAt r
+  unfolding keptOf
+  kept-same = rw (status-same, cu-same-at .number-same, ru-same-at .1, ru-same-at .0 .rest-same)
+
+module _ (r : List ℕ) (l : length r ≡ 256) (b : Bytes r) (e : shaped r ≡ true) where
+  front-is : bytesFrom r 0 5 ≡ digits 5 0x0001544742
+  unfolding field
+  front-is =
+      let p = field-below r b 0 5 in
+      let v : field r 0 8 ≡ field r 0 5 + 1099511627776 * field r 5 3 = rw (from-append r 0 5 3, value-append, length-from) in
+      let q : field r 0 5 ≡ 0x0001544742 = omega (arith, front-test r e) in
+      piece r b 0 5 ∙ rw q
+
+  spare-none : (bytesFrom r 13 3 ≡ replicate 3 0) × (bytesFrom r 40 112 ≡ replicate 112 0)
+  unfolding spareZero
   spare-none =
-      let z : field r 46 114 ≡ 0 = eqb-true _ _ (spare-whole r ∙ spare-is) in
-      piece r b 46 114 ∙ rw z (digits-zero 114)
+      let t = both (eqb (field r 13 3) 0) (eqb (field r 40 112) 0) (spare-is r e) in
+      let p : field r 13 3 ≡ 0 = eqb-true _ _ (t .0) in
+      let q : field r 40 112 ≡ 0 = eqb-true _ _ (t .1) in
+      (piece r b 13 3 ∙ rw p (digits-zero 3), piece r b 40 112 ∙ rw q (digits-zero 112))
 
-  same5 : eventByte (unitsAt r .events) ≡ field r 5 1
-  unfolding unitsAt unitsOf
-  same5 =
-      let p = field-below r b 5 1 in
-      let q = events-same (field r 5 1 / 16) (omega arith) in
-      omega (arith, head-tests .0 .1)
+  settings-are : settingsByte (unitsAt r .settings) ≡ getD r 152 0
+  unfolding unitsAt unitsBy
+  settings-are = settings-same (field r 152 1) (field r 153 1) (settings-test r e) ∙ field-one r 152
 
-  same6 : stateBits (unitsAt r) ≡ field r 6 1
-  unfolding unitsAt unitsOf
-  same6 = bits2 (field r 6 1) (head-tests .1)
-
-  same7 : cuTag (unitsAt r .cu) ≡ field r 7 1
-  unfolding unitsAt unitsOf cuAt
-  same7 = cu-same (field r 7 1) (field r 16 8) cu-is .tag-same
-
-  same8 : ruTag (unitsAt r .ru) ≡ field r 8 1
-  unfolding unitsAt unitsOf ruAt
-  same8 = ru-same (field r 8 1) (field r 24 8) (field r 32 8) ru-is .0 .tag-same
-
-  same14 : settingBits (unitsAt r .settings) ≡ field r 14 1
-  unfolding unitsAt unitsOf
-  same14 = bits3 (field r 14 1) (head-tests .2)
-
-  same16 : numberOf (cuWord (unitsAt r .cu)) ≡ field r 16 8
-  unfolding unitsAt unitsOf cuAt
-  same16 = cu-same (field r 7 1) (field r 16 8) cu-is .number-same
-
-  same24 : numberOf (ruWord (unitsAt r .ru)) ≡ field r 24 8
-  unfolding unitsAt unitsOf ruAt
-  same24 = ru-same (field r 8 1) (field r 24 8) (field r 32 8) ru-is .1
-
-  same32 : ruRest (unitsAt r .ru) ≡ field r 32 8
-  unfolding unitsAt unitsOf ruAt
-  same32 = ru-same (field r 8 1) (field r 24 8) (field r 32 8) ru-is .0 .rest-same
-
-  same9 : unitsAt r .base .0 ≡ field r 9 3
-  unfolding unitsAt unitsOf
-  same9 = refl
-
-  same12 : unitsAt r .scb .0 ≡ field r 12 2
-  unfolding unitsAt unitsOf
-  same12 = refl
-
-  same15 : unitsAt r .settings .minimum ≡ field r 15 1
-  unfolding unitsAt unitsOf
-  same15 = refl
+  minimum-is : unitsAt r .settings .minimum ≡ getD r 153 0
+  unfolding unitsAt unitsBy
+  minimum-is = field-one r 153
 
   -- a record that is shaped is the image of what it is read as
   exact-from : r ≡ imageOf (deviceFrom r (unitsAt r))
-  unfolding deviceFrom
+  unfolding deviceFrom imageOf keptAt
   exact-from =
       sym (rw l at (whole r))
       ∙ cut r
       ∙ rw (
-        flat (unitsAt r) (bytesFrom r 40 6) (bytesFrom r 160 96),
-        same5,
-        same6,
-        same7,
-        same8,
-        same9,
-        same12,
-        same14,
-        same15,
-        same16,
-        same24,
-        same32,
-        spare-none,
-        piece r b 0 3,
-        head-tests .0 .0 .0,
-        piece r b 3 2,
-        head-tests .0 .0 .1,
-        piece r b 5 1,
-        piece r b 6 1,
-        piece r b 7 1,
-        piece r b 8 1,
-        piece r b 9 3,
-        piece r b 12 2,
-        piece r b 14 1,
-        piece r b 15 1,
+        kept-same r e,
+        flat (keptAt r) (unitsAt r) (bytesFrom r 154 6) (bytesFrom r 160 96),
+        settings-are,
+        minimum-is,
+        front-is,
+        spare-none .0,
+        spare-none .1,
+        piece r b 5 8,
         piece r b 16 8,
         piece r b 24 8,
         piece r b 32 8,
       )
 
-  cu-wide : WordWide (cuWord (unitsAt r .cu))
-  unfolding unitsAt unitsOf cuAt
-  cu-wide = rw (cu-same (field r 7 1) (field r 16 8) cu-is .word-same) (wide-of (field r 16 8) (field-below r b 16 8))
-
-  ru-wide : WordWide (ruWord (unitsAt r .ru))
-  unfolding unitsAt unitsOf ruAt
-  ru-wide = rw (ru-same (field r 8 1) (field r 24 8) (field r 32 8) ru-is .0 .word-same) (wide-of (field r 24 8) (field-below r b 24 8))
-
   wide-from : Wide (deviceFrom r (unitsAt r))
-  unfolding deviceFrom
+  unfolding deviceFrom unitsAt unitsBy keptAt
   wide-from =
       record {
-        scb = rw same12 (field-below r b 12 2);
-        minimum = rw same15 (field-below r b 15 1);
-        cu = cu-wide;
-        ru = ru-wide;
-        own = length-from r 40 6;
+        scb = omega arith;
+        minimum = field-below r b 153 1;
+        cu = rw (cu-same-at r e .word-same) (wide-of (field r 16 8) (field-below r b 16 8));
+        ru = rw (ru-same-at r e .0 .word-same) (wide-of (field r 24 8) (field-below r b 24 8));
+        own = length-from r 154 6;
         listed = length-from r 160 96;
-        own-bytes = from-bytes r 40 6 b .each;
+        own-bytes = from-bytes r 154 6 b .each;
         listed-bytes = from-bytes r 160 96 b .each;
       }
 
@@ -547,7 +570,12 @@ one-state d e h p k q same =
 
 -- what stands in byte 5: the events, CX the highest bit, and nothing else
 pub events-at : (d : Device) → getD (imageOf d) 5 0 ≡ 16 * eventBits (d .units .events)
-events-at d = sym (field-one (imageOf d) 5) ∙ at5 d ∙ fit 1 _ (omega (arith, events-below (d .units .events)))
+unfolding imageOf unitBytes front digits keptOf
+events-at d =
+    let u = d .units in
+    let f : flagsOf u / 16 ≡ eventBits (u .events) = omega (arith, one-below (u .initialised), one-below (u .rulast)) in
+    rw f
+    (low-byte (eventBits (u .events)) (cuTag (u .cu)) (flagsOf u % 4) (ruTag (u .ru)) (u .scb .0) (u .base .0) (events-below (u .events)))
 
 -- the interrupt is high while byte 5 is not 0
 pub level : (d : Device) → anyOf (d .units .events) ≡ not (eqb (getD (imageOf d) 5 0) 0)
@@ -596,7 +624,7 @@ idle-ru (ru.Lacking s) e = absurd (never e)
 no-events : (e : Events) → eventBits e ≡ 0 → e ≡ noEvents
 no-events e h = sym (events-back e) ∙ rw h
 
-units-fresh : (u : Units) → u .initialised ≡ false → unitsFresh u ≡ true → u ≡ freshUnits
+pub units-fresh : (u : Units) → u .initialised ≡ false → unitsFresh u ≡ true → u ≡ freshUnits
 unfolding unitsFresh
 units-fresh u i e =
     let idle = both _ (unitsIdle (u .cu) (u .ru)) e in
@@ -658,11 +686,12 @@ spelt : (n v : ℕ) (ys : List ℕ) → Bytes ys → Bytes (digits n v ++ ys)
 spelt n v ys q = append-bytes (digits n v) ys (digits-bytes n v) q
 
 pub image-bytes : (d : Device) → Wide d → Bytes (imageOf d)
+unfolding imageOf
 image-bytes d h =
-    let u = d .units in
-    rw (flat u (d .own) (d .listed))
-    (spelt 3 0x544742 _ (spelt 2 1 _ (spelt 1 (eventByte (u .events)) _ (spelt 1 (stateBits u) _ (spelt 1 (cuTag (u .cu)) _ (spelt 1 (ruTag (u .ru)) _
-    (spelt 3 (u .base .0) _ (spelt 2 (u .scb .0) _ (spelt 1 (settingBits (u .settings)) _ (spelt 1 (u .settings .minimum) _
-    (spelt 8 (numberOf (cuWord (u .cu))) _ (spelt 8 (numberOf (ruWord (u .ru))) _ (spelt 8 (ruRest (u .ru)) _
-    (append-bytes (d .own) _ (record { each = h .own-bytes })
-    (append-bytes (replicate 114 0) (d .listed) (record { each = all-below 0 114 (omega arith) }) (record { each = h .listed-bytes }))))))))))))))))
+    let k = keptOf (d .units) in
+    rw (flat k (d .units) (d .own) (d .listed))
+    (spelt 5 0x0001544742 _ (spelt 8 (k .status) _ (append-bytes (replicate 3 0) _ (record { each = all-below 0 3 (omega arith) })
+    (spelt 8 (k .cu) _ (spelt 8 (k .ru) _ (spelt 8 (k .rest) _
+    (append-bytes (replicate 112 0) _ (record { each = all-below 0 112 (omega arith) })
+    (bytes-cons _ _ (omega (arith, setting-below (d .units .settings))) (bytes-cons _ _ (h .minimum)
+    (append-bytes (d .own) (d .listed) (record { each = h .own-bytes }) (record { each = h .listed-bytes })))))))))))

@@ -12,15 +12,15 @@ use Rattle.device.specs.declared.Ru.the-variants as ru
 use Rattle.device.specs.declared.Units.{Units}
 use Rattle.device.specs.declared.Verdict.the-variants as verdict
 use Rattle.phases.specs.Words.{numberOf, cuWord, ruWord, ruRest}
+use Rattle.kept.specs.Kept.{keptOf}
+use Rattle.kept.specs.SetUp.{setupBytes}
 use Rattle.image.specs.Ranges.{unitsFit, cuFits, frameFits, ruFits, initialisedOrFresh, inRange}
-use Rattle.image.specs.Image.{front, tagBytes, baseBytes, wordBytes, headBytes, unitBytes, addressBytes, imageOf}
+use Rattle.image.specs.Image.{front, unitBytes, imageOf}
 
 -- ---- the fresh record
 
-pub fresh-record : imageOf fresh
-    ≡ 0x42 ∷ 0x47 ∷ 0x54 ∷ 0x01 ∷ 0x00 ∷ 0x00 ∷ 0x00 ∷ 0x00 ∷ 0x00 ∷ 0x00 ∷ 0x00 ∷ 0x00 ∷ 0x00 ∷ 0x00 ∷ 0x00 ∷ 0x40
-    ∷ replicate 24 0 ++ (replicate 6 0xFF ++ replicate 210 0)
-unfolding imageOf headBytes front tagBytes baseBytes unitBytes wordBytes addressBytes digits eventBits joined numberOf cuWord ruWord ruRest
+pub fresh-record : imageOf fresh ≡ 0x42 ∷ 0x47 ∷ 0x54 ∷ 0x01 ∷ replicate 149 0 ++ (0x40 ∷ replicate 6 0xFF ++ replicate 96 0)
+unfolding imageOf unitBytes front setupBytes keptOf digits eventBits joined numberOf cuWord ruWord ruRest
 fresh-record = refl
 
 -- ---- a record at work: a Transmit at its descriptors, and a bad frame that is being saved
@@ -58,11 +58,12 @@ working =
     }
 
 pub working-record : imageOf working
-    ≡ 0x42 ∷ 0x47 ∷ 0x54 ∷ 0x01 ∷ 0x00 ∷ 0x40 ∷ 0x03 ∷ 0x04 ∷ 0x05 ∷ 0x45 ∷ 0x23 ∷ 0x01 ∷ 0x00 ∷ 0x01 ∷ 0x01 ∷ 0x40
-    ∷ 0x00 ∷ 0x02 ∷ 0x05 ∷ 0x02 ∷ 0x6E ∷ 0x00 ∷ 0x40 ∷ 0x03 ∷ 0x00 ∷ 0x04 ∷ 0x15 ∷ 0x01 ∷ 0x3C ∷ 0x00 ∷ 0x20 ∷ 0x05
-    ∷ 0x22 ∷ 0x00 ∷ 0x01 ∷ 0x00 ∷ 0x00 ∷ 0x00 ∷ 0x00 ∷ 0x00 ∷ 0x02 ∷ 0x07 ∷ 0x01 ∷ 0x00 ∷ 0x00 ∷ 0x2A
-    ∷ replicate 114 0 ++ (0x01 ∷ 0x00 ∷ 0x5E ∷ 0x00 ∷ 0x00 ∷ 0x01 ∷ replicate 90 0)
-unfolding imageOf headBytes front tagBytes baseBytes unitBytes wordBytes addressBytes digits eventBits joined numberOf cuWord ruWord ruRest
+    ≡ 0x42 ∷ 0x47 ∷ 0x54 ∷ 0x01 ∷ 0x00 ∷ 0x40 ∷ 0x34 ∷ 0x05 ∷ 0x00 ∷ 0x01 ∷ 0x45 ∷ 0x23 ∷ 0x01 ∷ 0x00 ∷ 0x00 ∷ 0x00
+    ∷ 0x00 ∷ 0x02 ∷ 0x05 ∷ 0x02 ∷ 0x6E ∷ 0x00 ∷ 0x40 ∷ 0x03 ∷ 0x00 ∷ 0x04 ∷ 0x0D ∷ 0x01 ∷ 0x3C ∷ 0x00 ∷ 0x20 ∷ 0x05
+    ∷ 0x22 ∷ 0x00 ∷ 0x01 ∷ 0x00 ∷ 0x00 ∷ 0x00 ∷ 0x00 ∷ 0x00
+    ∷ replicate 112 0
+    ++ (0x01 ∷ 0x40 ∷ 0x02 ∷ 0x07 ∷ 0x01 ∷ 0x00 ∷ 0x00 ∷ 0x2A ∷ 0x01 ∷ 0x00 ∷ 0x5E ∷ 0x00 ∷ 0x00 ∷ 0x01 ∷ replicate 90 0)
+unfolding imageOf unitBytes front setupBytes keptOf digits eventBits joined numberOf cuWord ruWord ruRest
 working-record = refl
 
 pub working-range : inRange working ≡ true

@@ -27,6 +27,10 @@ all-said said r p = rw (p .answer, p .memory, p .holding, p .outgoing, p .kept)
 all-renewed : (a : Areas) (r : Called) → Renewing a r → r ≡ called reset a
 all-renewed a r p = rw (p .promise .answer, p .promise .kept, p .memory, p .holding, p .outgoing)
 
+-- of whatever such a promise says, a run of turns among them
+pub one-said : (said r s : Called) → Says said r → Says said s → r ≡ s
+one-said said r s p q = all-said said r p ∙ sym (all-said said s q)
+
 pub permitted : (c : Call) (a : Areas) (r : Called) → Permits c a r → r ≡ called c a
 permitted reset a r p = all-renewed a r p
 permitted attention a r p = all-said (attentionCall a) r p

@@ -17,8 +17,8 @@ use Rattle.device.specs.declared.Cu.the-variants as cu
 use Rattle.device.specs.declared.Device.{Device}
 use Rattle.image.specs.Image.{imageOf, decodeOf}
 use Rattle.image.specs.Ranges.{inRange, Wide}
-use Rattle.image.specs.declared.Decoded.{Decoded}
-use Rattle.image.specs.declared.Decoded.the-variants as is
+use Rattle.image.specs.Found.{Found}
+use Rattle.image.specs.Found as is
 use Rattle.image.proofs.Exact.{decode-image}
 use Rattle.chip.specs.Call.{Call, reset, attention, arrive, turn}
 use Rattle.lentoquist.specs.Calls.{Areas, areasOf, Called}
@@ -36,7 +36,7 @@ marks base (cu.Sending g w) = wordTo (place base (g .block) 0) 0xA000 ∷ []
 marks base (cu.Ending g n) = wordTo (place base (g .block) 0) 0xA000 ∷ []
 marks base (cu.Failing g) = wordTo (place base (g .block) 0) 0xA000 ∷ []
 
-abbrev marked : Decoded → Areas → Areas
+abbrev marked : Found → Areas → Areas
 marked (is.Units u) a = areasOf (apply (marks (u .base) (u .cu)) (a .memory)) (a .holding) (a .outgoing) (a .kept)
 marked is.Foreign a = a
 
@@ -49,7 +49,7 @@ marking (turn report) a = record { answer = 0; areas = marked (decodeOf (a .kept
 abbrev pub marker : Chip
 marker = record { Inner = Unit {0}; first = tt; calls = λ s c a. marking c a; next = λ s c a. tt }
 
-record-kept : (x : Decoded) (a : Areas) → marked x a .kept ≡ a .kept
+record-kept : (x : Found) (a : Areas) → marked x a .kept ≡ a .kept
 record-kept (is.Units u) a = refl
 record-kept is.Foreign a = refl
 
@@ -72,7 +72,7 @@ module _ (base : RealAddress) (o : Offset) (m : List ℕ) (room : 8 ≤ length m
 
 module _ (d : Device) (m h out : List ℕ) (wide : Wide d) (range : inRange d ≡ true) where
   marked-memory : marked (decodeOf (imageOf d)) (lentOf d m h out) .memory ≡ apply (marks (d .units .base) (d .units .cu)) m
-  marked-memory = ap (λ (x : Decoded). marked x (lentOf d m h out) .memory) (decode-image d wide range)
+  marked-memory = ap (λ (x : Found). marked x (lentOf d m h out) .memory) (decode-image d wide range)
 
 pub marker-marks-only : MarksOnly marker
 marker-marks-only =

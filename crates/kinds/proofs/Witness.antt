@@ -23,7 +23,9 @@ use Rattle.device.specs.declared.Units.{Units}
 use Rattle.words.specs.Places.{bytesFrom}
 use Rattle.phases.specs.Words.{numberOf, cuWord, ruWord, ruRest, WordWide}
 use Rattle.image.specs.Ranges.{unitsFit, cuFits, ruFits, initialisedOrFresh, inRange, Wide}
-use Rattle.image.specs.Image.{front, tagBytes, baseBytes, wordBytes, headBytes, unitBytes, addressBytes, imageOf}
+use Rattle.kept.specs.Kept.{keptOf}
+use Rattle.kept.specs.SetUp.{setupBytes}
+use Rattle.image.specs.Image.{front, unitBytes, imageOf}
 use Rattle.image.proofs.Exact.{fresh-wide, image-bytes}
 use Rattle.actions.specs.Actions.{act, reported, isSent, sent}
 use Rattle.command.specs.End.{nextAfter, end}
@@ -165,11 +167,11 @@ unfolding byteAt putByte bytesAt putBytes value digits fieldAt place field joine
 setting-done = refl
 
 pub was-set : getD (settingsIn (imageOf (withUnit settingUp))) 2 0 ≡ 255
-unfolding imageOf headBytes front tagBytes baseBytes unitBytes wordBytes addressBytes digits eventBits joined numberOf cuWord ruWord ruRest bytesFrom
+unfolding imageOf unitBytes front setupBytes keptOf digits eventBits joined numberOf cuWord ruWord ruRest bytesFrom
 was-set = refl
 
 pub is-set : getD (settingsIn (imageOf (turned settingUp .outcome .device))) 2 0 ≡ 0
-unfolding imageOf headBytes front tagBytes baseBytes unitBytes wordBytes addressBytes digits eventBits joined numberOf cuWord ruWord ruRest bytesFrom byteAt putByte bytesAt putBytes value fieldAt place field anyOf statusWord act nextAfter end service statusTo concluded commandTurn turnOf
+unfolding imageOf unitBytes front setupBytes keptOf digits eventBits joined numberOf cuWord ruWord ruRest bytesFrom byteAt putByte bytesAt putBytes value fieldAt place field anyOf statusWord act nextAfter end service statusTo concluded commandTurn turnOf
 is-set = refl
 
 -- TDR's word becomes 8000h

@@ -1,7 +1,7 @@
 -- The wrong kinds of chip: 01, "The inspector's list". Each is a property of an arbitrary chip, as wide as its sentence allows. Assumes nothing.
 use mathlib.Core.Path.{_≡_}
 use mathlib.Core.Bool.{true, false}
-use mathlib.Core.List.{List, _∷_, _++_, map}
+use mathlib.Core.List.{List, _∷_, map}
 use mathlib.Core.Logic.{_⊎_}
 use Prim.Native.Nat.{ℕ, _<_}
 use Rattle.memory.specs.Address.{place}
@@ -75,9 +75,9 @@ AtCompletion chip p =
     → Lent (turn report) (lentOf d m h out)
     → Completes d m (chip .calls s (turn report) (lentOf d m h out)) o → p d m o (chip .calls s (turn report) (lentOf d m h out))
 
--- every setting, in the record: bytes 14 and 15 what Configure sets, 40-45 the own address, 160-255 the listed ones
+-- every setting, in the record: bytes 152 and 153 what Configure sets, 154-159 the own address, 160-255 the listed ones
 abbrev pub settingsIn : List ℕ → List ℕ
-settingsIn r = bytesFrom r 14 2 ++ (bytesFrom r 40 6 ++ bytesFrom r 160 96)
+settingsIn r = bytesFrom r 152 104
 
 pub record SetsNothing (chip : Chip) : Type 0 where
   pub each : AtCompletion chip (λ d m o r. settingsIn (r .areas .kept) ≡ settingsIn (imageOf d))

@@ -1,21 +1,41 @@
 -- What a call comes to, by what is lent: each refusal, and the call that is not refused. Assumes nothing.
-use mathlib.Core.Path.{_≡_, refl}
+use mathlib.Core.Path.{_≡_, refl, sym, ap, subst, _∙_}
 use mathlib.Core.Bool.{Bool, true, false, _&&_}
-use mathlib.Core.List.{List}
-use Prim.Native.Nat.{ℕ}
+use mathlib.Core.List.{List, [], _++_}
+use Prim.Native.Nat.{ℕ, zero, suc, _+_, _*_, _%_, _^_, _<_}
+use native.Mathlib.Omega.{arith}
+use borrow.Author.Tests.{eqb-true}
 use lib.Dec.{eqb, leb}
-use lib.ListN.{length}
+use lib.ListN.{length, take, drop, replicate, take-append-drop}
 use Rattle.memory.specs.Size.{sizeAllowed}
+use Rattle.memory.proofs.Bytes.{Bytes}
+use Rattle.device.specs.Answers.{answered}
 use Rattle.device.specs.Limits.{recordSize, longest}
 use Rattle.device.specs.declared.Device.{Device}
+use Rattle.device.specs.declared.Refusal.{Refusal}
 use Rattle.device.specs.declared.Refusal.the-variants as refusal
 use Rattle.device.specs.declared.Units.{Units}
-use Rattle.image.specs.Image.{imageOf, decodeOf, deviceAt, stored}
-use Rattle.image.specs.declared.Decoded.the-variants as is
-use Rattle.chip.specs.World.{World, Ran, worldOf}
+use Rattle.kept.specs.declared.Kept.{Kept}
+use Rattle.phases.proofs.Units.{one-below}
+use Rattle.actions.specs.Setup.{setupOf}
+use Rattle.memory.specs.Memory.{digits}
+use Rattle.kept.specs.Kept.{keptOf}
+use Rattle.kept_attention.proofs.States.{setup-length}
+use Rattle.kept_chip.specs.Does.{DeviceIs}
+use Rattle.image.specs.Image.{front, unitBytes, imageOf, decodeOf, deviceFrom, deviceAt, storedUnits}
+use Rattle.image.proofs.Lent.{its-image, its-numbers, its-setup, setup-lent, setup-returned, first-part}
+use Rattle.image.specs.Found.{Found}
+use Rattle.image.specs.Found as is
+use Rattle.chip.specs.World.{World, Ran, worldOf, afterwards}
 use Rattle.chip.specs.Attention.{attentionOf}
 use Rattle.chip.specs.Arrival.{arrivalOf}
-use Rattle.lentoquist.specs.Calls.{Areas, Called, Calls, areasRight, refusalOf, refused, keptBy, calledBy}
+use Rattle.chip.specs.Turn.{turnOf}
+use Rattle.chip.specs.Run.{Run, stopsAt, goesOn, runOf}
+use Rattle.chip.proofs.Run.{run-one}
+use Rattle.kept_chip.proofs.Loop.{holding-kept}
+use Rattle.lentoquist.proofs.Answers.{run-plain}
+use Rattle.lentoquist.specs.Calls.{Areas, Called, Calls, areasRight, refusalOf, refused, keptBy, decodedOn, unlessRefused, calledBy, keptRun, turnCall, runCall, packed}
+use Rattle.lentoquist.specs.Inner.{Finds, keptTurns, turnsCall}
 
 module _ (a : Areas) (f : List ℕ) (run : World → Ran) where
   -- 1: N is not allowed
@@ -47,14 +67,106 @@ module _ (a : Areas) (f : List ℕ) (run : World → Ran) where
   unfolding refusalOf
   accepted u s r l d = rw (s, r, l, d, d)
 
+-- turns in a row are refused as one is: the same four, and those that are not refused
+module _ (a : Areas) (report budget unit : ℕ) where
+  pub run-bad-size : sizeAllowed (length (a .memory)) ≡ false → turnsCall a report budget unit ≡ refused refusal.Memory a
+  unfolding turnsCall refusalOf
+  run-bad-size s = rw s
+
+  pub run-bad-area : sizeAllowed (length (a .memory)) ≡ true → areasRight a ≡ false → turnsCall a report budget unit ≡ refused refusal.Area a
+  unfolding turnsCall refusalOf
+  run-bad-area s r = rw (s, r)
+
+  pub run-no-image : sizeAllowed (length (a .memory)) ≡ true → areasRight a ≡ true → decodeOf (a .kept) ≡ is.Foreign
+      → turnsCall a report budget unit ≡ refused refusal.Foreign a
+  unfolding turnsCall refusalOf
+  run-no-image s r d = rw (s, r, d)
+
+  pub run-accepted : (u : Units) → sizeAllowed (length (a .memory)) ≡ true → areasRight a ≡ true → decodeOf (a .kept) ≡ is.Units u
+      → turnsCall a report budget unit ≡ keptTurns unit (runOf budget (worldOf (deviceAt (a .kept) u) (a .memory) (a .holding) (a .outgoing)) report)
+  unfolding turnsCall refusalOf
+  run-accepted u s r d = rw (s, r, d, d)
+
+-- ---- a run, and one turn
+
+pub run-counts : (a : Areas) (report budget : ℕ) → turnsCall a report budget 281474976710656 ≡ runCall a report budget
+unfolding turnsCall runCall
+run-counts a report budget = refl
+
+pub run-kept : (a : Areas) (report budget : ℕ) (u : Units) → sizeAllowed (length (a .memory)) ≡ true → areasRight a ≡ true → decodeOf (a .kept) ≡ is.Units u
+    → runCall a report budget ≡ keptRun (runOf budget (worldOf (deviceAt (a .kept) u) (a .memory) (a .holding) (a .outgoing)) report)
+run-kept a report budget u s r d = sym (run-counts a report budget) ∙ run-accepted a report budget 281474976710656 u s r d
+
+one-kept : (w : World) (report : ℕ) → keptTurns 0 (runOf 1 w report) ≡ keptBy (turnOf w report)
+one-kept w report =
+    let z : packed (turnOf w report .outcome .answer) + 1 * 0 ≡ packed (turnOf w report .outcome .answer) = omega arith in
+    rw (run-one w report, z)
+
+one-on : (d : Found) (a : Areas) (report : ℕ) → decodedOn (λ w. keptTurns 0 (runOf 1 w report)) a d ≡ decodedOn (λ w. keptBy (turnOf w report)) a d
+one-on (is.Units u) a report = one-kept (worldOf (deviceAt (a .kept) u) (a .memory) (a .holding) (a .outgoing)) report
+one-on is.Foreign a report = refl
+
+one-by : (r : Refusal) (a : Areas) (report : ℕ) → unlessRefused r (λ w. keptTurns 0 (runOf 1 w report)) a ≡ unlessRefused r (λ w. keptBy (turnOf w report)) a
+one-by refusal.Accepted a report = one-on (decodeOf (a .kept)) a report
+one-by refusal.Memory a report = refl
+one-by refusal.Area a report = refl
+one-by refusal.Overlong a report = refl
+one-by refusal.Foreign a report = refl
+
+pub one-turn : (a : Areas) (report : ℕ) → turnsCall a report 1 0 ≡ turnCall a report
+unfolding turnsCall turnCall
+one-turn a report = one-by (refusalOf a []) a report
+
 and-first : (x y z : Bool) → (x && y && z) ≡ true → x ≡ true
 and-first true y z e = refl
 and-first false y z e = e
 
--- what is written back is the image
-pub whole-record : (a : Areas) (d : Device) → areasRight a ≡ true → stored (a .kept) d ≡ imageOf d
-unfolding areasRight stored
-whole-record a d r = rw (and-first (eqb (length (a .kept)) recordSize) _ _ r)
+-- a record that is not refused has 256 bytes
+pub record-length : (a : Areas) → areasRight a ≡ true → length (a .kept) ≡ 256
+unfolding areasRight
+record-length a r = eqb-true _ _ (and-first (eqb (length (a .kept)) recordSize) _ _ r)
+
+-- ---- answers
+
+-- an answer that is not refused stands below the turns of a run
+pub packed-below : (n : ℕ) (e : Bool) → n < 65536 → packed (answered n e) < 281474976710656
+unfolding packed
+packed-below n e h = omega (arith, one-below e)
+
+-- ---- numbers that go to a record
+
+put-whole : (k n : Kept) (set : List ℕ) → length set ≡ 104
+    → storedUnits ((unitBytes k ++ replicate 112 0) ++ set) n ≡ unitBytes n ++ (replicate 112 0 ++ set)
+unfolding storedUnits unitBytes front digits
+put-whole k n set l = rw l
+
+told : (d : Device) (n : Kept) (set : List ℕ) → DeviceIs d n set → unitBytes n ++ (replicate 112 0 ++ set) ≡ imageOf d
+unfolding imageOf
+told d n set e = rw (e .units .same, e .setup .bytes-are)
+
+-- ---- a record whose setup is lent, and to which numbers go back
+
+module _ (r : List ℕ) (k : Kept) (u : Units) (l : length r ≡ 256) (b : Bytes r) (f : Finds r k u) where
+  -- the numbers and the last 104 bytes are the device's
+  pub lent-device : DeviceIs (deviceAt r u) k (take 104 (drop 152 r))
+  unfolding deviceAt deviceFrom
+  lent-device = rw (setup-lent r l) (record { units = its-numbers r u l b (f .found) k (f .numbers); setup = its-setup r u l b (f .found) })
+
+  put-there : (d : Device) (n : Kept) (set : List ℕ) → DeviceIs d n set → storedUnits (take 152 r ++ set) n ≡ imageOf d
+  put-there d n set e =
+      let s : take 152 r ≡ unitBytes (keptOf (deviceAt r u .units)) ++ replicate 112 0 =
+      subst (λ (x : List ℕ). take 152 x ≡ unitBytes (keptOf (deviceAt r u .units)) ++ replicate 112 0) (sym (its-image r u l b (f .found) .same)) (first-part (deviceAt r u)) in
+      rw s (put-whole (keptOf (deviceAt r u .units)) n set (setup-length (setupOf d) set (e .setup)) ∙ told d n set e)
+
+  -- with other numbers and another setup, it is the image of the device that they are
+  pub put-back : (d : Device) (n : Kept) (set : List ℕ) → DeviceIs d n set → storedUnits (take 152 r ++ (set ++ drop 104 (drop 152 r))) n ≡ imageOf d
+  put-back d n set e = rw (setup-returned r l set) (put-there d n set e)
+
+  -- with other numbers alone
+  pub put-numbers : (d : Device) (n : Kept) → DeviceIs d n (take 104 (drop 152 r)) → storedUnits r n ≡ imageOf d
+  put-numbers d n e =
+      let x : DeviceIs d n (drop 152 r) = rw (setup-lent r l) at e in
+      ap (λ (y : List ℕ). storedUnits y n) (sym (take-append-drop 152 r)) ∙ put-there d n (drop 152 r) x
 
 -- a promise may be shown of what the call comes to
 pub as-said : {x y : Called} {n : ℕ} {m h out r : List ℕ} → x ≡ y → Calls y n m h out r → Calls x n m h out r
@@ -72,3 +184,28 @@ attention-outgoing w = refl
 pub arrival-outgoing : (w : World) (f : List ℕ) (v : ℕ) → w .outgoing ≡ arrivalOf w f v .outgoing
 unfolding arrivalOf
 arrival-outgoing w f v = refl
+
+-- ---- a run
+
+-- what is packed of its length and its edge, with its turns above, is its answer
+pub run-answer : (n : ℕ) (w : World) (report unit : ℕ) (x length taken : ℕ) (edge : Bool) → x ≡ packed (answered length edge)
+    → length ≡ runOf n w report .answer .length → edge ≡ runOf n w report .answer .edge → taken ≡ runOf n w report .taken
+    → x + taken * unit ≡ keptTurns unit (runOf n w report) .answer
+run-answer n w report unit x length taken edge e l g t =
+    let p = sym (run-plain n w report) in
+    rw (e, l, g, t, p)
+
+-- it leaves the holding area alone
+holding-by : (s : Bool) (r : Ran) (rest : Run) (h : List ℕ) → r .holding ≡ h → rest .world .holding ≡ h → goesOn s r rest .world .holding ≡ h
+holding-by true r rest h a b = a
+holding-by false r rest h a b = b
+
+run-keeps : (n : ℕ) (w : World) (report : ℕ) → runOf n w report .world .holding ≡ w .holding
+unfolding runOf
+run-keeps zero w report = refl
+run-keeps (suc n) w report =
+    holding-by (stopsAt w report) (turnOf w report) (runOf n (afterwards (turnOf w report)) report) (w .holding) (holding-kept w report)
+    (run-keeps n (afterwards (turnOf w report)) report ∙ holding-kept w report)
+
+pub run-holding : (n : ℕ) (w : World) (report : ℕ) → w .holding ≡ runOf n w report .world .holding
+run-holding n w report = sym (run-keeps n w report)

@@ -1,2 +1,3 @@
 -- What the proofs of this crate and of the crates above it cite.
 pub mod Laws
+pub mod Answers

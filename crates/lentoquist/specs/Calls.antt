@@ -14,12 +14,13 @@ use Rattle.device.specs.declared.Device.{Device}
 use Rattle.device.specs.declared.Refusal.{Refusal}
 use Rattle.device.specs.declared.Refusal.the-variants as refusal
 use Rattle.image.specs.Image.{imageOf, decodeOf, deviceAt}
-use Rattle.image.specs.declared.Decoded.{Decoded}
-use Rattle.image.specs.declared.Decoded.the-variants as is
+use Rattle.image.specs.Found.{Found}
+use Rattle.image.specs.Found as is
 use Rattle.chip.specs.World.{World, Ran, worldOf, resetOf}
 use Rattle.chip.specs.Attention.{attentionOf}
 use Rattle.chip.specs.Arrival.{arrivalOf}
 use Rattle.chip.specs.Turn.{turnOf}
+use Rattle.chip.specs.Run.{Run, runOf}
 
 -- ---- what is lent, and what is left
 
@@ -68,7 +69,7 @@ unfoldable pub areasRight : Areas → Bool
 areasRight a = lengthsRight (length (a .holding)) (length (a .outgoing)) (length (a .kept))
 
 -- the record is the image of a state within docs/' ranges
-abbrev pub isImage : Decoded → Bool
+abbrev pub isImage : Found → Bool
 isImage (is.Units u) = true
 isImage is.Foreign = false
 
@@ -93,19 +94,25 @@ keptBy r =
       areas = areasOf (r .memory) (r .holding) (r .outgoing) (imageOf (r .outcome .device));
     }
 
-abbrev pub calledOn : (World → Ran) → Areas → Decoded → Called
-calledOn run a (is.Units u) =
-    keptBy (run (worldOf (deviceAt (a .kept) u) (a .memory) (a .holding) (a .outgoing)))
-calledOn run a is.Foreign = refused refusal.Foreign a
+-- what is done to the world that the record says
+abbrev pub decodedOn : (World → Called) → Areas → Found → Called
+decodedOn does a (is.Units u) = does (worldOf (deviceAt (a .kept) u) (a .memory) (a .holding) (a .outgoing))
+decodedOn does a is.Foreign = refused refusal.Foreign a
+
+abbrev pub unlessRefused : Refusal → (World → Called) → Areas → Called
+unlessRefused refusal.Accepted does a = decodedOn does a (decodeOf (a .kept))
+unlessRefused refusal.Memory does a = refused refusal.Memory a
+unlessRefused refusal.Area does a = refused refusal.Area a
+unlessRefused refusal.Overlong does a = refused refusal.Overlong a
+unlessRefused refusal.Foreign does a = refused refusal.Foreign a
+
+abbrev pub calledOn : (World → Ran) → Areas → Found → Called
+calledOn run a decoded = decodedOn (λ w. keptBy (run w)) a decoded
 
 abbrev pub calledBy : Refusal → (World → Ran) → Areas → Called
-calledBy refusal.Accepted run a = calledOn run a (decodeOf (a .kept))
-calledBy refusal.Memory run a = refused refusal.Memory a
-calledBy refusal.Area run a = refused refusal.Area a
-calledBy refusal.Overlong run a = refused refusal.Overlong a
-calledBy refusal.Foreign run a = refused refusal.Foreign a
+calledBy r run a = unlessRefused r (λ w. keptBy (run w)) a
 
--- ---- the four calls
+-- ---- attention, arrival, turn
 
 unfoldable pub attentionCall : Areas → Called
 attentionCall a = calledBy (refusalOf a []) attentionOf a
@@ -115,6 +122,22 @@ arrivalCall a f v = calledBy (refusalOf a f) (λ w. arrivalOf w f v) a
 
 unfoldable pub turnCall : Areas → ℕ → Called
 turnCall a report = calledBy (refusalOf a []) (λ w. turnOf w report) a
+
+-- ---- a run of turns
+
+-- the answer of the last turn, with the number of turns taken in bits 48 to 63
+abbrev pub keptRun : Run → Called
+keptRun r =
+    record {
+      answer = packed (r .answer) + r .taken * 2 ^ 48;
+      areas = areasOf (r .world .memory) (r .world .holding) (r .world .outgoing) (imageOf (r .world .device));
+    }
+
+-- it is refused as a turn is, with no turn taken, whatever the budget
+unfoldable pub runCall : Areas → (report budget : ℕ) → Called
+runCall a report budget = unlessRefused (refusalOf a []) (λ w. keptRun (runOf budget w report)) a
+
+-- ---- reset
 
 -- what a reset leaves: reset takes the record alone
 pub record Renewed : Type 0 where

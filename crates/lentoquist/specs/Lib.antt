@@ -1,3 +1,3 @@
--- The four calls on bytes.
+-- The five calls on bytes.
 pub mod Calls
 pub mod Inner

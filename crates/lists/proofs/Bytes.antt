@@ -74,7 +74,7 @@ module _ (C : Carries) where
       → Shows C (called attention a .areas) (step (call attention) (worldIn d a))
   start-shows a d g h r = call-shows attention a d (carry attention a d g h r)
 
-  next-shows : (l : Lending) (a : Areas) (w : World) → refusedAt l ≡ false → Lends C l a → Shows C a w
+  pub next-shows : (l : Lending) (a : Areas) (w : World) → refusedAt l ≡ false → Lends C l a → Shows C a w
       → Shows C (called (l .made) (l .lent) .areas) (step (call (l .made)) (worldIn (w .device) (l .lent)))
   next-shows l a w r k s =
       call-shows (l .made) (l .lent) (w .device)

@@ -58,7 +58,7 @@ sound-cold =
       outgoing = bytes-ok (cold .outgoing) tt;
     }
 
-abbrev first : Areas
+abbrev pub first : Areas
 first = areasOf (before .memory) (before .holding) (before .outgoing) (imageOf (before .device))
 
 right-first : Right first (before .device)
@@ -111,34 +111,34 @@ rights =
 
 -- ---- a call that is lent nothing at all is refused
 
-abbrev stray : Lending
+abbrev pub stray : Lending
 stray = record { made = turn 0; lent = areasOf [] [] [] [] }
 
 stray-refused : refusedAt stray ≡ true
 unfolding turnCall refusalOf packed sizeAllowed
 stray-refused = refl
 
-abbrev calls : List Lending
-calls = stray ∷ lendings carries trace (called attention first .areas)
+abbrev pub worked : List Lending
+worked = stray ∷ lendings carries trace (called attention first .areas)
 
 started-right : Right (called attention first .areas) (begun .device)
 started-right = right-again attention first (before .device) right-first tt (lit≤ tt)
 
-shows-begun : Shows carries (called attention first .areas) begun
+pub shows-begun : Shows carries (called attention first .areas) begun
 shows-begun =
     start-shows carries first (before .device) (tt, right-first .bytes) (right-first .holds)
     (accepts attention first (before .device) right-first (lit≤ tt))
 
-pub lent-premises : LentPremises carries Calm three calls (called attention first .areas) begun
+pub lent-premises : LentPremises carries Calm three worked (called attention first .areas) begun
 lent-premises =
     refused-anywhere carries Calm three [] (lendings carries trace (called attention first .areas)) stray (called attention first .areas) begun
     stray-refused
     (lifted carries three trace (called attention first .areas) begun shows-begun
     (all-accepted trace (called attention first .areas) (begun .device) started-right rights) premises)
 
-pub lent-done : Done Calm three (eventsOf calls) begun
-    × Shows carries (left calls (called attention first .areas)) (run (machine Calm) (eventsOf calls) begun)
+pub lent-done : Done Calm three (eventsOf worked) begun
+    × Shows carries (left worked (called attention first .areas)) (run (machine Calm) (eventsOf worked) begun)
 unfolding keptb
 lent-done =
-    lent-list-done carries Calm calm-laws three calls first (before .device) (tt, right-first .bytes) (right-first .holds)
+    lent-list-done carries Calm calm-laws three worked first (before .device) (tt, right-first .bytes) (right-first .holds)
     (accepts attention first (before .device) right-first (lit≤ tt)) starts refl (is-started .listed) lent-premises

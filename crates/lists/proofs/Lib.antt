@@ -16,3 +16,5 @@ pub mod Bytes
 pub mod Lift
 pub mod Carry
 pub mod LentWitness
+pub mod Runs
+pub mod RunsWitness

@@ -23,7 +23,7 @@ use Rattle.device.specs.declared.Storing.{Storing}
 use Rattle.device.specs.declared.Verdict.{Verdict}
 use Rattle.device.specs.declared.Verdict.the-variants as verdict
 use Rattle.device.proofs.Laws.{action-back, verdict-back}
-use Rattle.phases.specs.Words.{flagsOf, odd, flagBits, numberOf, wordOf, plain, begunWord, cuTag, cuWord, cuOf, cuMost, cuKind, cuShaped, frameWord, storingWord, ruTag, ruWord, filledNumber, ruRest, ruOf, ruMost, ruFlags, restMost, ruShaped, WordWide}
+use Rattle.phases.specs.Words.{flagsOf, odd, flagBits, numberOf, wordOf, plain, begunWord, cuTag, cuWord, cuOf, cuMost, cuKind, cuShaped, frameWord, storingWord, ruTag, ruWord, filledNumber, ruRest, ruOf, ruMost, ruFlags, restMost, ruShaped, WordWide, FillingWide}
 use Rattle.phases.specs.declared.Word.{Word}
 
 -- ---- tests
@@ -182,7 +182,7 @@ cu-ok : (t n : ℕ) → n ≤ cuMost t → n / 65536 % 256 < 16 → cuKind t (n 
 unfolding cuShaped
 cu-ok t n p q e = rw (le-leb n (cuMost t) p, lt-ltb (n / 65536 % 256) 16 q, e)
 
-begun-flags : (b : Begun) → flagsOf (b .el) (b .suspend) (b .interrupt) (b .pausing) false false < 16
+begun-flags : (b : Begun) → flagsOf (b .interrupt) (b .suspend) (b .el) (b .pausing) false false < 16
 begun-flags b = omega (arith, one-below (b .el), one-below (b .suspend), one-below (b .interrupt), one-below (b .pausing))
 
 action-small : (a : Action) → actionNumber a < 8
@@ -341,7 +341,7 @@ plain-kind : (o : ℕ) → WordWide (plain o) → numberOf (plain o) / 16777216 
 plain-kind o h = rw (kind-of (plain o) h) (omega arith)
 
 storing-flags : (s : Storing) (full : Bool)
-    → flagsOf (s .pausing) (s .frame .short) (s .frame .savebad) (s .el) (s .suspend) full < 32 + 32 * one full
+    → flagsOf (s .pausing) (s .frame .short) (s .frame .savebad) (s .suspend) (s .el) full < 32 + 32 * one full
 storing-flags s full =
     omega (arith, one-below (s .pausing), one-below (s .frame .short), one-below (s .frame .savebad), one-below (s .el), one-below (s .suspend))
 
@@ -360,9 +360,9 @@ without-next w h e = omega (arith, h .at, flags-below (w .first) (w .second) (w 
 pub ru-shaped : (u : Ru) → WordWide (ruWord u) → ruRest u < 16777216 → ruShaped (ruTag u) (numberOf (ruWord u)) (ruRest u) ≡ true
 unfolding ruWord ruRest ruMost ruFlags restMost
 ru-shaped ru.Idle h m = ru-ok 0 (numberOf (plain 0)) 0 (omega arith) (plain-most 0) (omega (arith, plain-low 0 h)) (plain-kind 0 h) (omega arith)
-ru-shaped ru.NoResources h m = ru-ok 1 (numberOf (plain 0)) 0 (omega arith) (plain-most 0) (omega (arith, plain-low 0 h)) (plain-kind 0 h) (omega arith)
+ru-shaped ru.NoResources h m = ru-ok 2 (numberOf (plain 0)) 0 (omega arith) (plain-most 0) (omega (arith, plain-low 0 h)) (plain-kind 0 h) (omega arith)
 ru-shaped (ru.Suspended o) h m =
-    ru-ok 2 (numberOf (plain (o .0))) 0 (omega arith) (omega (arith, plain-most (o .0), h .at)) (omega (arith, plain-low (o .0) h)) (plain-kind (o .0) h) (omega arith)
+    ru-ok 1 (numberOf (plain (o .0))) 0 (omega arith) (omega (arith, plain-most (o .0), h .at)) (omega (arith, plain-low (o .0) h)) (plain-kind (o .0) h) (omega arith)
 ru-shaped (ru.Ready o) h m =
     ru-ok 3 (numberOf (plain (o .0))) 0 (omega arith) (omega (arith, plain-most (o .0), h .at)) (omega (arith, plain-low (o .0) h)) (plain-kind (o .0) h) (omega arith)
 ru-shaped (ru.Held o f p) h m =
@@ -377,17 +377,6 @@ ru-shaped (ru.Closing s o full) h m =
     (omega (arith, storing-low s (o .0) full h, one-below full)) (storing-kind s (o .0) full h) (omega arith)
 ru-shaped (ru.Lacking s) h m =
     ru-ok 7 (numberOf (storingWord s 0 false)) 0 (omega arith) (without-next (storingWord s 0 false) h refl) (storing-low s 0 false h) (storing-kind s 0 false h) (omega arith)
-
--- what is stored of a frame being filled has two bytes, and the buffers one
-abbrev pub FillingWide : Ru → Type 0
-FillingWide ru.Idle = Unit {0}
-FillingWide ru.NoResources = Unit {0}
-FillingWide (ru.Suspended o) = Unit {0}
-FillingWide (ru.Ready o) = Unit {0}
-FillingWide (ru.Held o f p) = Unit {0}
-FillingWide (ru.Filling s w) = (w .filled < 65536) × (w .used < 256)
-FillingWide (ru.Closing s o full) = Unit {0}
-FillingWide (ru.Lacking s) = Unit {0}
 
 pub rest-below : (u : Ru) → FillingWide u → ruRest u < 16777216
 unfolding ruRest
@@ -432,8 +421,8 @@ ru-same-at : (t n rest : ℕ) → t < 8 → n ≤ ruMost t → n / 65536 % 256 <
     → RuSame t n rest (ruOf t (wordOf n) rest)
 unfolding ruMost ruFlags restMost ruOf ruWord ruRest wordOf
 ru-same-at zero n rest b p q k m = record { tag-same = refl; word-same = let z : n ≡ 0 = omega arith in rw z; rest-same = omega arith }
-ru-same-at (suc zero) n rest b p q k m = record { tag-same = refl; word-same = let z : n ≡ 0 = omega arith in rw z; rest-same = omega arith }
-ru-same-at (suc (suc zero)) n rest b p q k m = record { tag-same = refl; word-same = only n p; rest-same = omega arith }
+ru-same-at (suc zero) n rest b p q k m = record { tag-same = refl; word-same = only n p; rest-same = omega arith }
+ru-same-at (suc (suc zero)) n rest b p q k m = record { tag-same = refl; word-same = let z : n ≡ 0 = omega arith in rw z; rest-same = omega arith }
 ru-same-at (suc (suc (suc zero))) n rest b p q k m = record { tag-same = refl; word-same = only n p; rest-same = omega arith }
 ru-same-at (suc (suc (suc (suc zero)))) n rest b p q k m =
     let f = n / 65536 % 256 in

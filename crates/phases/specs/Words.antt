@@ -57,14 +57,15 @@ plain o = record { at = o; first = false; second = false; third = false; fourth 
 
 -- ---- the command unit
 
--- a begun command: its block, its flags EL, S, I and a waiting SUSPEND, and what its phase needs besides
+-- a begun command: its block, its flags I, S, EL, in the order of bits 13 to 15 of the command word, and a waiting SUSPEND, and what its phase
+-- needs besides
 abbrev pub begunWord : Begun → ℕ → ℕ → ℕ → Word
 begunWord b kind size next =
     record {
       at = b .block .0;
-      first = b .el;
+      first = b .interrupt;
       second = b .suspend;
-      third = b .interrupt;
+      third = b .el;
       fourth = b .pausing;
       fifth = false;
       sixth = false;
@@ -99,7 +100,7 @@ cuWord (cu.Failing b) = begunWord b 0 0 0
 
 -- what is read of a word
 abbrev pub begunOf : Word → Begun
-begunOf w = record { block = record { 0 = w .at }; el = w .first; suspend = w .second; interrupt = w .third; pausing = w .fourth }
+begunOf w = record { block = record { 0 = w .at }; el = w .third; suspend = w .second; interrupt = w .first; pausing = w .fourth }
 
 abbrev pub sendingOf : Word → Walk
 sendingOf w = record { next = record { 0 = w .next }; used = w .kind; filled = w .size }
@@ -152,7 +153,7 @@ frameWord o f pausing =
       next = 0;
     }
 
--- one begun: besides, the flags EL, S and whether the last buffer had EL, and an offset
+-- one begun: besides, the flags S, EL, in the order of bits 14 and 15 of the descriptor's word, whether the last buffer had EL, and an offset
 abbrev pub storingWord : Storing → ℕ → Bool → Word
 storingWord s next full =
     record {
@@ -160,8 +161,8 @@ storingWord s next full =
       first = s .pausing;
       second = s .frame .short;
       third = s .frame .savebad;
-      fourth = s .el;
-      fifth = s .suspend;
+      fourth = s .suspend;
+      fifth = s .el;
       sixth = full;
       kind = verdictNumber (s .frame .verdict);
       size = s .frame .length;
@@ -171,8 +172,8 @@ storingWord s next full =
 -- the tag of a phase
 abbrev pub ruTag : Ru → ℕ
 ruTag ru.Idle = 0
-ruTag ru.NoResources = 1
-ruTag (ru.Suspended o) = 2
+ruTag (ru.Suspended o) = 1
+ruTag ru.NoResources = 2
 ruTag (ru.Ready o) = 3
 ruTag (ru.Held o f p) = 4
 ruTag (ru.Filling s w) = 5
@@ -209,7 +210,7 @@ abbrev pub frameOf : Word → Frame
 frameOf w = record { length = w .size; verdict = verdictOf (w .kind); short = w .second; savebad = w .third }
 
 abbrev pub storingOf : Word → Storing
-storingOf w = record { fd = record { 0 = w .at }; el = w .fourth; suspend = w .fifth; pausing = w .first; frame = frameOf w }
+storingOf w = record { fd = record { 0 = w .at }; el = w .fifth; suspend = w .fourth; pausing = w .first; frame = frameOf w }
 
 abbrev pub fillingOf : Word → ℕ → Walk
 fillingOf w rest = record { next = record { 0 = w .next }; used = rest / 65536 % 256; filled = rest % 65536 }
@@ -218,8 +219,8 @@ fillingOf w rest = record { next = record { 0 = w .next }; used = rest / 65536 %
 unfoldable pub ruOf : ℕ → Word → ℕ → Ru
 ruOf t w rest =
     cond (eqb t 0) ru.Idle
-    (cond (eqb t 1) ru.NoResources
-    (cond (eqb t 2) (ru.Suspended (record { 0 = w .at }))
+    (cond (eqb t 1) (ru.Suspended (record { 0 = w .at }))
+    (cond (eqb t 2) ru.NoResources
     (cond (eqb t 3) (ru.Ready (record { 0 = w .at }))
     (cond (eqb t 4) (ru.Held (record { 0 = w .at }) (frameOf w) (w .first))
     (cond (eqb t 5) (ru.Filling (storingOf w) (fillingOf w rest))
@@ -229,8 +230,8 @@ ruOf t w rest =
 unfoldable pub ruMost : ℕ → ℕ
 ruMost t =
     cond (eqb t 0) 0
-    (cond (eqb t 1) 0
-    (cond (eqb t 2) 0xFFFF
+    (cond (eqb t 1) 0xFFFF
+    (cond (eqb t 2) 0
     (cond (eqb t 3) 0xFFFF
     (cond (eqb t 5) 0xFFFFFFFFFFFFFFFF
     (cond (eqb t 6) 0xFFFFFFFFFFFFFFFF 0xFFFFFFFFFFFF)))))
@@ -252,3 +253,14 @@ pub record WordWide (w : Word) : Type 0 where
   pub kind : w .kind < 256
   pub size : w .size < 65536
   pub next : w .next < 65536
+
+-- what is stored of a frame being filled has two bytes, and the buffers one
+abbrev pub FillingWide : Ru → Type 0
+FillingWide ru.Idle = Unit {0}
+FillingWide ru.NoResources = Unit {0}
+FillingWide (ru.Suspended o) = Unit {0}
+FillingWide (ru.Ready o) = Unit {0}
+FillingWide (ru.Held o f p) = Unit {0}
+FillingWide (ru.Filling s w) = (w .filled < 65536) × (w .used < 256)
+FillingWide (ru.Closing s o full) = Unit {0}
+FillingWide (ru.Lacking s) = Unit {0}

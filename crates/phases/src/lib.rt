@@ -1,5 +1,5 @@
 // A unit as a tag and words of eight bytes, and back: what a phase uses stands below what it does not use, which is zero.
-// It assumes nothing: every tag and every number is read as some unit, and the shape says whether they are that unit's.
+// It assumes nothing: every tag and every number is read as some unit; specs/Words.antt says which of them are that unit's.
 use device::Action;
 use device::Begun;
 use device::Cu;
@@ -103,9 +103,9 @@ fn begun_word(b: Begun, kind: u8, size: u16, next: u16) -> Word
     let o = b.block;
     Word {
         at: o.0,
-        first: b.el,
+        first: b.interrupt,
         second: b.suspend,
-        third: b.interrupt,
+        third: b.el,
         fourth: b.pausing,
         fifth: false,
         sixth: false,
@@ -120,9 +120,9 @@ fn begun_of(w: Word) -> Begun
 {
     Begun {
         block: Offset(w.at),
-        el: w.first,
+        el: w.third,
         suspend: w.second,
-        interrupt: w.third,
+        interrupt: w.first,
         pausing: w.fourth,
     }
 }
@@ -184,7 +184,7 @@ fn action_at(w: Word) -> Action
     device::action_of(w.kind as u16)
 }
 
-// The unit of a tag and a word. A tag past 6 is taken for 6; `cu_shaped` has refused it.
+// The unit of a tag and a word. A tag past 6 is taken for 6; no record that is taken has one.
 pub fn cu_of(tag: u8, w: Word) -> Cu
     ensures { λ x. ⌜ x ≡ words.cuOf tag w ⌝ }
 {
@@ -197,37 +197,6 @@ pub fn cu_of(tag: u8, w: Word) -> Cu
         5 => Cu::Ending(begun_of(w), w.size),
         _ => Cu::Failing(begun_of(w)),
     }
-}
-
-// The largest word of a tag: what the phase does not use stands above it.
-fn cu_most(tag: u8) -> u64
-    ensures { λ x. ⌜ x ≡ words.cuMost tag ⌝ }
-{
-    match tag {
-        0 => 0,
-        1 => 0xFFFF,
-        2 => 0xFFFF,
-        3 => 0x7FFFFFF,
-        4 => 0xFFFFFFFFFFFFFFFF,
-        5 => 0xFFFFFFFFFFFF,
-        _ => 0xFFFFF,
-    }
-}
-
-fn cu_kind(tag: u8, kind: u64) -> bool
-    ensures { λ x. ⌜ x ≡ words.cuKind tag kind ⌝ }
-{
-    match tag {
-        3 => kind != 4,
-        5 => kind == 0,
-        _ => tag < 7,
-    }
-}
-
-pub fn cu_shaped(tag: u8, n: u64) -> bool
-    ensures { λ x. ⌜ x ≡ words.cuShaped tag n ⌝ }
-{
-    (n <= cu_most(tag)) & (n / 65536 % 256 < 16) & cu_kind(tag, n / 16777216 % 256)
 }
 
 // ---- the receive unit
@@ -257,8 +226,8 @@ fn storing_word(s: Storing, next: u16, full: bool) -> Word
     let f = s.frame;
     let w = frame_word(o, f, s.pausing);
     Word {
-        fourth: s.el,
-        fifth: s.suspend,
+        fourth: s.suspend,
+        fifth: s.el,
         sixth: full,
         next: next,
         ..w
@@ -277,8 +246,8 @@ pub fn ru_tag(u: Ru) -> u8
 {
     match u {
         Ru::Idle => 0,
-        Ru::NoResources => 1,
-        Ru::Suspended(_) => 2,
+        Ru::NoResources => 2,
+        Ru::Suspended(_) => 1,
         Ru::Ready(_) => 3,
         Ru::Held(_, _, _) => 4,
         Ru::Filling(_, _) => 5,
@@ -340,8 +309,8 @@ fn storing_of(w: Word) -> Storing
 {
     Storing {
         fd: Offset(w.at),
-        el: w.fourth,
-        suspend: w.fifth,
+        el: w.fifth,
+        suspend: w.fourth,
         pausing: w.first,
         frame: frame_of(w),
     }
@@ -357,59 +326,18 @@ fn filling_of(w: Word, rest: u64) -> Walk
     }
 }
 
-// The unit of a tag and its words. A tag past 7 is taken for 7; `ru_shaped` has refused it.
+// The unit of a tag and its words. A tag past 7 is taken for 7; no record that is taken has one.
 pub fn ru_of(tag: u8, w: Word, rest: u64) -> Ru
     ensures { λ x. ⌜ x ≡ words.ruOf tag w rest ⌝ }
 {
     match tag {
         0 => Ru::Idle,
-        1 => Ru::NoResources,
-        2 => Ru::Suspended(Offset(w.at)),
+        1 => Ru::Suspended(Offset(w.at)),
+        2 => Ru::NoResources,
         3 => Ru::Ready(Offset(w.at)),
         4 => Ru::Held(Offset(w.at), frame_of(w), w.first),
         5 => Ru::Filling(storing_of(w), filling_of(w, rest)),
         6 => Ru::Closing(storing_of(w), Offset(w.next), w.sixth),
         _ => Ru::Lacking(storing_of(w)),
     }
-}
-
-fn ru_most(tag: u8) -> u64
-    ensures { λ x. ⌜ x ≡ words.ruMost tag ⌝ }
-{
-    match tag {
-        0 => 0,
-        1 => 0,
-        2 => 0xFFFF,
-        3 => 0xFFFF,
-        5 => 0xFFFFFFFFFFFFFFFF,
-        6 => 0xFFFFFFFFFFFFFFFF,
-        _ => 0xFFFFFFFFFFFF,
-    }
-}
-
-// The flags that a phase uses are those below this number.
-fn ru_flags(tag: u8) -> u64
-    ensures { λ x. ⌜ x ≡ words.ruFlags tag ⌝ }
-{
-    match tag {
-        4 => 8,
-        6 => 64,
-        _ => 32,
-    }
-}
-
-fn rest_most(tag: u8) -> u64
-    ensures { λ x. ⌜ x ≡ words.restMost tag ⌝ }
-{
-    if tag == 5 { 0xFFFFFF } else { 0 }
-}
-
-pub fn ru_shaped(tag: u8, n: u64, rest: u64) -> bool
-    ensures { λ x. ⌜ x ≡ words.ruShaped tag n rest ⌝ }
-{
-    (tag < 8)
-        & (n <= ru_most(tag))
-        & (n / 65536 % 256 < ru_flags(tag))
-        & (n / 16777216 % 256 < 3)
-        & (rest <= rest_most(tag))
 }

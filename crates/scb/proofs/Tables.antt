@@ -1,10 +1,10 @@
 -- The control tables say what the control rules say, at every pair of a code and a state.
--- One law for any table: a test that antt computes for each state over all the codes, and the numbers read back as states.
--- Assumes nothing.
-use mathlib.Core.Path.{_≡_, _∙_, refl, ap}
+-- One law for any table: a test that antt computes for each state over all the codes. Assumes nothing.
+use mathlib.Core.Path.{_≡_, refl}
 use mathlib.Core.Bool.{Bool}
 use mathlib.Core.List.{List, [], _∷_}
-use Prim.Native.Nat.{ℕ, _+_, _*_, _<_}
+use Prim.Native.Nat.{ℕ, _*_, _/_, _^_, _<_}
+use lib.Bits.{bitAnd}
 use lib.Dec.{T, eqb, eqb→eq, lit<}
 use lib.ListN.{getD}
 use Rattle.scb.specs.declared.CuState.{CuState}
@@ -13,28 +13,28 @@ use Rattle.scb.specs.declared.RuState.{RuState}
 use Rattle.scb.specs.declared.RuState.the-variants as ru
 use Rattle.scb.specs.Words.{cuNumber, ruNumber}
 use Rattle.scb.specs.Control.{cuNext, ruNext}
-use Rattle.scb.specs.Numbers.{cuOf, ruOf}
+use Rattle.scb.specs.Numbers.{cuOf, ruOf, ruColumn}
 use Rattle.scb.proofs.Below.{all, below}
 
--- ---- any table: a row for each code, a column for each state's number
+-- ---- any table: a byte for each code, two bits for each state's number
+
+abbrev pub entry : List ℕ → ℕ → ℕ → ℕ
+entry table code n = bitAnd (getD table code 0 / 2 ^ (2 * n)) 3
 
 -- the entry for code k and state s is the next state's number
-abbrev pub right : {S : Type 0} → (S → ℕ) → (ℕ → S → S) → List ℕ → ℕ → S → ℕ → Bool
-right number next table columns s k = eqb (getD table (k * columns + number s) 0) (number (next k s))
+abbrev pub right : {S : Type 0} → (S → ℕ) → (ℕ → S → S) → List ℕ → S → ℕ → Bool
+right number next table s k = eqb (entry table k (number s)) (number (next k s))
 
-pub table-law : {S : Type 0} (number : S → ℕ) (state : ℕ → S) (next : ℕ → S → S) (table : List ℕ) (columns rows : ℕ)
-    → ((s : S) → state (number s) ≡ s)
-    → ((s : S) → T (all (right number next table columns s) rows))
-    → (code : ℕ) (s : S) → code < rows → state (getD table (code * columns + number s) 0) ≡ next code s
-table-law number state next table columns rows back tested code s h =
-    ap state (eqb→eq (getD table (code * columns + number s) 0) (number (next code s)) (below (right number next table columns s) rows (tested s) code h))
-    ∙ back (next code s)
+pub table-law : {S : Type 0} (number : S → ℕ) (next : ℕ → S → S) (table : List ℕ) (rows : ℕ)
+    → ((s : S) → T (all (right number next table s) rows))
+    → (code : ℕ) (s : S) → code < rows → entry table code (number s) ≡ number (next code s)
+table-law number next table rows tested code s h =
+    eqb→eq (entry table code (number s)) (number (next code s)) (below (right number next table s) rows (tested s) code h)
 
 -- ---- the command unit's
 
 abbrev pub cuTable : List ℕ
-cuTable =
-    0 ∷ 1 ∷ 2 ∷ 2 ∷ 2 ∷ 2 ∷ 0 ∷ 2 ∷ 2 ∷ 0 ∷ 1 ∷ 1 ∷ 0 ∷ 0 ∷ 0 ∷ 0 ∷ 1 ∷ 2 ∷ 0 ∷ 1 ∷ 2 ∷ 0 ∷ 1 ∷ 2 ∷ []
+cuTable = 0b100100 ∷ 0b101010 ∷ 0b101000 ∷ 0b010100 ∷ 0b000000 ∷ 0b100100 ∷ 0b100100 ∷ 0b100100 ∷ []
 
 pub cu-below : (s : CuState) → cuNumber s < 3
 cu-below cu.Idle = lit< tt
@@ -46,21 +46,19 @@ cu-back cu.Idle = refl
 cu-back cu.Suspended = refl
 cu-back cu.Active = refl
 
-cu-tested : (s : CuState) → T (all (right cuNumber cuNext cuTable 3 s) 8)
+cu-tested : (s : CuState) → T (all (right cuNumber cuNext cuTable s) 8)
 unfolding cuNext
 cu-tested cu.Idle = tt
 cu-tested cu.Suspended = tt
 cu-tested cu.Active = tt
 
-pub cu-table : (code : ℕ) (s : CuState) → code < 8 → cuOf (getD cuTable (code * 3 + cuNumber s) 0) ≡ cuNext code s
-cu-table = table-law cuNumber cuOf cuNext cuTable 3 8 cu-back cu-tested
+pub cu-table : (code : ℕ) (s : CuState) → code < 8 → entry cuTable code (cuNumber s) ≡ cuNumber (cuNext code s)
+cu-table = table-law cuNumber cuNext cuTable 8 cu-tested
 
 -- ---- the receive unit's
 
 abbrev pub ruTable : List ℕ
-ruTable =
-    0 ∷ 1 ∷ 2 ∷ 0 ∷ 4 ∷ 4 ∷ 4 ∷ 4 ∷ 0 ∷ 4 ∷ 0 ∷ 4 ∷ 2 ∷ 0 ∷ 4 ∷ 0 ∷ 1 ∷ 2 ∷ 0 ∷ 1 ∷ 0 ∷ 0 ∷ 0 ∷ 0 ∷ 0 ∷ 0 ∷ 1 ∷ 2 ∷ 0 ∷ 4
-    ∷ 0 ∷ 1 ∷ 2 ∷ 0 ∷ 4 ∷ 0 ∷ 1 ∷ 2 ∷ 0 ∷ 4 ∷ []
+ruTable = 0b11100100 ∷ 0b11111111 ∷ 0b11101100 ∷ 0b01100100 ∷ 0b00000000 ∷ 0b11100100 ∷ 0b11100100 ∷ 0b11100100 ∷ []
 
 pub ru-below : (s : RuState) → ruNumber s < 5
 ru-below ru.Idle = lit< tt
@@ -68,18 +66,24 @@ ru-below ru.Suspended = lit< tt
 ru-below ru.NoResources = lit< tt
 ru-below ru.Ready = lit< tt
 
-pub ru-back : (s : RuState) → ruOf (ruNumber s) ≡ s
+pub column-below : (s : RuState) → ruColumn s < 4
+column-below ru.Idle = lit< tt
+column-below ru.Suspended = lit< tt
+column-below ru.NoResources = lit< tt
+column-below ru.Ready = lit< tt
+
+pub ru-back : (s : RuState) → ruOf (ruColumn s) ≡ s
 ru-back ru.Idle = refl
 ru-back ru.Suspended = refl
 ru-back ru.NoResources = refl
 ru-back ru.Ready = refl
 
-ru-tested : (s : RuState) → T (all (right ruNumber ruNext ruTable 5 s) 8)
+ru-tested : (s : RuState) → T (all (right ruColumn ruNext ruTable s) 8)
 unfolding ruNext
 ru-tested ru.Idle = tt
 ru-tested ru.Suspended = tt
 ru-tested ru.NoResources = tt
 ru-tested ru.Ready = tt
 
-pub ru-table : (code : ℕ) (s : RuState) → code < 8 → ruOf (getD ruTable (code * 5 + ruNumber s) 0) ≡ ruNext code s
-ru-table = table-law ruNumber ruOf ruNext ruTable 5 8 ru-back ru-tested
+pub ru-table : (code : ℕ) (s : RuState) → code < 8 → entry ruTable code (ruColumn s) ≡ ruColumn (ruNext code s)
+ru-table = table-law ruColumn ruNext ruTable 8 ru-tested

@@ -5,6 +5,8 @@ ghost use Prim.Native.Nat.{_*_, _<_, _^_};
 ghost use Rattle.scb.specs.Words as words;
 ghost use Rattle.scb.specs.Control as control;
 ghost use Rattle.scb.specs.Numbers as numbers;
+ghost use Rattle.scb.specs.declared.CuState.{CuState};
+ghost use Rattle.scb.specs.declared.RuState.{RuState};
 
 // The command unit's state, CUS.
 pub enum CuState {
@@ -213,104 +215,88 @@ fn cu_of(n: u8) -> CuState
     }
 }
 
-// The receive unit's state of a number; a number that is no state's gives Idle.
+// The receive unit's state of its column; a number that is no column's gives Idle.
 fn ru_of(n: u8) -> RuState
     ensures { λ r. ⌜ r ≡ numbers.ruOf n ⌝ }
 {
     match n {
         1 => RuState::Suspended,
         2 => RuState::NoResources,
-        4 => RuState::Ready,
+        3 => RuState::Ready,
         _ => RuState::Idle,
     }
 }
 
-// A row for each control code, 0 to 7; a column for each state's number, 0 to 2.
-const CU_NEXT: [u8; 24] = [
-    0, // 0, Idle
-    1, // 0, Suspended
-    2, // 0, Active
-    2, // 1 START, Idle
-    2, // 1 START, Suspended
-    2, // 1 START, Active
-    0, // 2 RESUME, Idle
-    2, // 2 RESUME, Suspended
-    2, // 2 RESUME, Active
-    0, // 3 SUSPEND, Idle
-    1, // 3 SUSPEND, Suspended
-    1, // 3 SUSPEND, Active
-    0, // 4 ABORT, Idle
-    0, // 4 ABORT, Suspended
-    0, // 4 ABORT, Active
-    0, // 5, Idle
-    1, // 5, Suspended
-    2, // 5, Active
-    0, // 6, Idle
-    1, // 6, Suspended
-    2, // 6, Active
-    0, // 7, Idle
-    1, // 7, Suspended
-    2, // 7, Active
+// The receive unit's column in its control table: Ready is the fourth.
+fn ru_column(s: RuState) -> u8
+    ensures { λ r. ⌜ r ≡ numbers.ruColumn s ⌝ }
+{
+    match s {
+        RuState::Idle => 0,
+        RuState::Suspended => 1,
+        RuState::NoResources => 2,
+        RuState::Ready => 3,
+    }
+}
+
+// ---- the control tables: a byte for each control code, 0 to 7, in which each state has two bits, Idle the lowest.
+// A table of eight bytes is one constant to the machine; a larger one would be laid out anew at each use.
+
+// From the left: Active, Suspended, Idle.
+const CU_NEXT: [u8; 8] = [
+    0b10_01_00, // 0
+    0b10_10_10, // 1 START
+    0b10_10_00, // 2 RESUME
+    0b01_01_00, // 3 SUSPEND
+    0b00_00_00, // 4 ABORT
+    0b10_01_00, // 5
+    0b10_01_00, // 6
+    0b10_01_00, // 7
 ];
 
-const CU_COLUMNS: usize = 3;
+// From the left: Ready, No Resources, Suspended, Idle.
+const RU_NEXT: [u8; 8] = [
+    0b11_10_01_00, // 0
+    0b11_11_11_11, // 1 START
+    0b11_10_11_00, // 2 RESUME
+    0b01_10_01_00, // 3 SUSPEND
+    0b00_00_00_00, // 4 ABORT
+    0b11_10_01_00, // 5
+    0b11_10_01_00, // 6
+    0b11_10_01_00, // 7
+];
+
+// How wide an entry is, and the mask of one.
+const ENTRY_BITS: u8 = 2;
+
+const ENTRY: u8 = 3;
+
+// The number of the state that a command takes the command unit to from the state numbered `s`, as CUS has them.
+pub fn cu_goes(command: u16, s: u8) -> u8
+    requires { ⌜ s < 4 ⌝ }
+    ensures { λ r. ⌜ ((x : CuState) → s ≡ words.cuNumber x → r ≡ words.cuNumber (control.cuNext (words.cuc command) x)) ⌝ }
+{
+    (CU_NEXT[cu_control(command) as usize] >> (ENTRY_BITS * s)) & ENTRY
+}
+
+// The column of the state that a command takes the receive unit to from the state of column `s`.
+pub fn ru_goes(command: u16, s: u8) -> u8
+    requires { ⌜ s < 4 ⌝ }
+    ensures { λ r. ⌜ ((x : RuState) → s ≡ numbers.ruColumn x → r ≡ numbers.ruColumn (control.ruNext (words.ruc command) x)) ⌝ }
+{
+    (RU_NEXT[ru_control(command) as usize] >> (ENTRY_BITS * s)) & ENTRY
+}
 
 // The state that a command takes the command unit to from `s`. A code that says nothing for `s` leaves it.
 pub fn cu_next(command: u16, s: CuState) -> CuState
     ensures { λ r. ⌜ r ≡ control.cuNext (words.cuc command) s ⌝ }
 {
-    cu_of(CU_NEXT[cu_control(command) as usize * CU_COLUMNS + cu_number(s) as usize])
+    cu_of(cu_goes(command, cu_number(s) as u8))
 }
-
-// A row for each control code, 0 to 7; a column for each state's number, 0 to 4, of which 3 is no state's.
-const RU_NEXT: [u8; 40] = [
-    0, // 0, Idle
-    1, // 0, Suspended
-    2, // 0, No Resources
-    0, // 0, no state
-    4, // 0, Ready
-    4, // 1 START, Idle
-    4, // 1 START, Suspended
-    4, // 1 START, No Resources
-    0, // 1 START, no state
-    4, // 1 START, Ready
-    0, // 2 RESUME, Idle
-    4, // 2 RESUME, Suspended
-    2, // 2 RESUME, No Resources
-    0, // 2 RESUME, no state
-    4, // 2 RESUME, Ready
-    0, // 3 SUSPEND, Idle
-    1, // 3 SUSPEND, Suspended
-    2, // 3 SUSPEND, No Resources
-    0, // 3 SUSPEND, no state
-    1, // 3 SUSPEND, Ready
-    0, // 4 ABORT, Idle
-    0, // 4 ABORT, Suspended
-    0, // 4 ABORT, No Resources
-    0, // 4 ABORT, no state
-    0, // 4 ABORT, Ready
-    0, // 5, Idle
-    1, // 5, Suspended
-    2, // 5, No Resources
-    0, // 5, no state
-    4, // 5, Ready
-    0, // 6, Idle
-    1, // 6, Suspended
-    2, // 6, No Resources
-    0, // 6, no state
-    4, // 6, Ready
-    0, // 7, Idle
-    1, // 7, Suspended
-    2, // 7, No Resources
-    0, // 7, no state
-    4, // 7, Ready
-];
-
-const RU_COLUMNS: usize = 5;
 
 // The state that a command takes the receive unit to from `s`. A code that says nothing for `s` leaves it.
 pub fn ru_next(command: u16, s: RuState) -> RuState
     ensures { λ r. ⌜ r ≡ control.ruNext (words.ruc command) s ⌝ }
 {
-    ru_of(RU_NEXT[ru_control(command) as usize * RU_COLUMNS + ru_number(s) as usize])
+    ru_of(ru_goes(command, ru_column(s)))
 }

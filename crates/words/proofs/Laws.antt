@@ -80,10 +80,6 @@ pub one : (r : List ℕ) (at : ℕ) → field r at 1 ≡ getD r at 0
 unfolding field bytesFrom value
 one r at = omega arith
 
-pub two : (r : List ℕ) (at : ℕ) → field r at 2 ≡ getD r at 0 + 256 * getD r (at + 1) 0
-unfolding field bytesFrom value
-two r at = rw add-one (omega arith)
-
 pub three : (r : List ℕ) (at : ℕ) → field r at 3 ≡ getD r at 0 + 256 * getD r (at + 1) 0 + 65536 * getD r (at + 2) 0
 unfolding field bytesFrom value
 three r at =

@@ -23,13 +23,6 @@ pub fn read8(r: &[u8], at: usize) -> u8
     r[at]
 }
 
-pub fn read16(r: &[u8], at: usize) -> u16
-    requires { ⌜ at + 1 < length (now r) ⌝ }
-    ensures { λ x. ⌜ x ≡ field (now (r .entry)) at 2 ⌝ }
-{
-    (wide(r[at]) + 256 * wide(r[at + 1])) as u16
-}
-
 // Three bytes.
 pub fn read24(r: &[u8], at: usize) -> u32
     requires { ⌜ at + 2 < length (now r) ⌝ }

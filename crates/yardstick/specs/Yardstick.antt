@@ -2,18 +2,19 @@
 use mathlib.Core.Path.{_≡_}
 use mathlib.Core.List.{List}
 use Prim.Native.Nat.{ℕ}
-use Rattle.image.specs.Image.{decodeOf, deviceAt, stored}
-use Rattle.image.specs.declared.Decoded.{Decoded}
-use Rattle.image.specs.declared.Decoded.the-variants as is
+use Rattle.kept.specs.Kept.{keptOf}
+use Rattle.image.specs.Image.{decodeOf, storedUnits}
+use Rattle.image.specs.Found.{Found}
+use Rattle.image.specs.Found as is
 
 -- 1 if it was decoded to a state
-abbrev pub taken : Decoded → ℕ
+abbrev pub taken : Found → ℕ
 taken (is.Units u) = 1
 taken is.Foreign = 0
 
--- what is written back: the image of that state; a foreign record stays
-abbrev pub rewritten : Decoded → List ℕ → List ℕ
-rewritten (is.Units u) r = stored r (deviceAt r u)
+-- what is written back: the numbers of that state; a foreign record stays
+abbrev pub rewritten : Found → List ℕ → List ℕ
+rewritten (is.Units u) r = storedUnits r (keptOf u)
 rewritten is.Foreign r = r
 
 pub record Both (before : List ℕ) (said : ℕ) (after : List ℕ) : Type 0 where

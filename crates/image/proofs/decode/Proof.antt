@@ -1,6 +1,6 @@
 -- `image::decode` meets its contract. Assumes nothing.
-use mathlib.Core.Path.{_∙_}
-use Rattle.image.proofs.Steps.{decode-full, decode-other}
+use mathlib.Core.Path.{sym, _∙_}
+use Rattle.image.proofs.Tests.{decoded-units, decoded-foreign, decoded-other}
 use borrow.Author.Needs.{needs}
 use Rattle.image.proofs.decode.Statement.{statement}
 use Rattle.image.proofs.decode.Tie as tie
@@ -10,5 +10,7 @@ decode-spec =
     tie.close
     (tie.spec
     (λ c κs. search needs)
-    (λ c. c .decode-full .ensures ∙ decode-full (c .before .before .before .args .r .now) (c .before .if1 .taken))
-    (λ c. decode-other (c .before .before .args .r .now) (c .if1 .left)))
+    (λ c κs. search needs)
+    (λ c. let s : tie.Start = search needs in rw (c .kept-at .ensures) (decoded-units (s .args .r .now) (c .before .before .before .if1 .taken) (sym (c .before .before .is-image .ensures) ∙ c .before .if2 .taken)))
+    (λ c. let s : tie.Start = search needs in decoded-foreign (s .args .r .now) (c .before .before .if1 .taken) (sym (c .before .is-image .ensures) ∙ c .if2 .left))
+    (λ c. let s : tie.Start = search needs in decoded-other (s .args .r .now) (c .if1 .left)))

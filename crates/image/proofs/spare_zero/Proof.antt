@@ -11,4 +11,4 @@ spare-zero-spec =
     (tie.spec
     (λ c κs. search needs)
     (λ c κs. search needs)
-    (λ c. rw (c .before .read16 .ensures, c .is-zero .ensures)))
+    (λ c. rw (c .before .read24 .ensures, c .is-zero .ensures)))

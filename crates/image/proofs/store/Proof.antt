@@ -1,7 +1,6 @@
 -- `image::store` meets its contract. Assumes nothing.
-use mathlib.Core.Path.{_≡_, sym, _∙_}
-use lib.ListN.{length}
-use Rattle.image.proofs.Steps.{all-stores, stored-image, stored-other}
+use mathlib.Core.Path.{sym, _∙_}
+use Rattle.image.proofs.Steps.{units-stored, units-other}
 use borrow.Author.Needs.{needs}
 use Rattle.image.proofs.store.Statement.{statement}
 use Rattle.image.proofs.store.Tie as tie
@@ -13,12 +12,7 @@ store-spec =
     (λ c κs. search needs)
     (λ c κs. search needs)
     (λ c κs. search needs)
+    (λ c κs. search needs)
     (λ c. search needs)
-    (λ c.
-    let s = c .before .before .before .before .before .before .before .before .before .before .before .before .before .before .before .before .before in
-    let here : length (s .args .r .now) ≡ 256 = c .before .before .before .before .before .before .before .before .before .before .before .before .before .before .before .if1 .taken in
-    c .before .before .put-addresses .ensures
-    ∙ rw (c .before .before .before .before .before .before .put-units .ensures, c .before .before .before .before .before .before .before .before .before .before .put-head .ensures)
-    (all-stores (s .args .r .now) (s .args .d) here (search needs) (search needs))
-    ∙ sym (stored-image (s .args .r .now) (s .args .d) here))
-    (λ c. sym (stored-other (c .before .before .args .r .now) (c .before .before .args .d) (c .if1 .left))))
+    (λ c. let s : tie.Start = search needs in c .before .before .put644 .ensures ∙ rw (c .before .before .before .before .before .before .put643 .ensures, c .before .before .before .before .before .before .before .before .before .before .put642 .ensures, c .before .before .before .before .before .before .before .before .before .before .before .before .before .before .put64 .ensures) (sym (units-stored (s .args .r .now) (s .args .k) (c .before .before .before .before .before .before .before .before .before .before .before .before .before .before .before .before .if1 .taken))))
+    (λ c. let s : tie.Start = search needs in sym (units-other (s .args .r .now) (s .args .k) (c .if1 .left))))

@@ -1,5 +1,15 @@
 -- `lentoquist::attention_on` meets its contract. Assumes nothing.
+use mathlib.Core.Path.{_≡_, sym, _∙_, ap}
+use mathlib.Core.Bool.{Bool}
+use native.Mathlib.Omega.{arith}
+use Rattle.memory.proofs.Bytes.{Bytes}
+use Rattle.image.specs.Image.{deviceAt}
 use Rattle.chip.specs.Attention.{attentionOf}
+use Rattle.device.specs.Answers.{answered}
+use Rattle.device.specs.declared.Answer.{Answer}
+use Rattle.lentoquist.specs.Calls.{packed}
+use Rattle.lentoquist.proofs.Answers.{attention-plain}
+use Rattle.lentoquist.proofs.Laws.{lent-device, put-back}
 use borrow.Author.Needs.{needs}
 use Rattle.lentoquist.proofs.attention_on.Statement.{statement}
 use Rattle.lentoquist.proofs.attention_on.Tie as tie
@@ -9,14 +19,22 @@ unfolding attentionOf
 attention-on-spec =
     tie.close
     (tie.spec
-    (λ c κs. search needs)
+    (λ c. search needs)
+    (λ c. search needs)
+    (λ c. search needs)
     (λ c κs. search needs)
     (λ c κs. search needs)
     (λ c κs. search needs)
     (λ c. search needs)
     (λ c. search needs)
-    (λ c. record {
-      answer = λ h out. rw (c .before .before .before .before .before .before .before .before .before .attention .ensures .outcome, c .before .before .before .before .before .before .before .before .before .before .device-of .ensures) at (c .packed .ensures);
-      memory = λ h out. rw (c .before .before .before .before .before .before .before .before .before .before .device-of .ensures) at (c .before .before .before .before .before .before .before .before .before .attention .ensures .memory);
-      kept = λ h out. rw (c .before .before .before .before .before .before .before .before .before .attention .ensures .outcome, c .before .before .before .before .before .before .before .before .before .before .device-of .ensures) at (c .before .before .before .store .ensures);
+    (λ c. λ u f.
+    let s : tie.Start = search needs in
+    let r = s .args .kept .now in
+    let b : Bytes r = record { each = λ i. omega (arith, c .before .before .before .before .before .before .before .before .before .before .before .before .before .slice-known2 .given i) } in
+    let e = lent-device r (s .args .k) u (s .pre) b f in
+    let a = c .before .before .before .before .before .before .before .before .before .before .attend .ensures (deviceAt r u) (e .units) (e .setup) in
+    record {
+      answer = λ h out. c .answer-of .ensures .0 ∙ ap (λ (x : Bool). packed (answered 0 x)) (a .edge) ∙ ap packed (sym (attention-plain (deviceAt r u) (s .args .memory .now)));
+      memory = λ h out. a .memory;
+      kept = λ h out. c .before .before .before .store .ensures ∙ put-back r (s .args .k) u (s .pre) b f _ _ _ (record { units = a .kept; setup = a .setup });
     }))

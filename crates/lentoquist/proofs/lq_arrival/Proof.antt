@@ -1,13 +1,12 @@
 -- `lentoquist::lq_arrival` meets its promise: each refusal in its order, then the call itself. Assumes nothing.
-use mathlib.Core.Path.{_≡_, refl, sym, _∙_}
-use mathlib.Core.Bool.{true, false}
-use mathlib.Core.List.{[]}
-use lib.Dec.{leb}
+use mathlib.Core.Path.{refl, sym, _∙_}
 use lib.ListN.{length}
 use borrow.Author.Tests.{not-true, not-false, le-leb, lt-leb}
 use Rattle.chip.specs.Arrival.{arrivalOf}
+use Rattle.image.specs.Image.{decodeOf}
+use Rattle.image.proofs.Lent.{found-units, found-foreign}
 use Rattle.lentoquist.specs.Calls.{areasOf, areasRight, arrivalCall}
-use Rattle.lentoquist.proofs.Laws.{bad-size, bad-area, too-long, no-image, accepted, whole-record, as-said, attention-holding, attention-outgoing, arrival-outgoing}
+use Rattle.lentoquist.proofs.Laws.{bad-size, bad-area, too-long, no-image, accepted, record-length, as-said, arrival-outgoing}
 use borrow.Author.Needs.{needs}
 use Rattle.lentoquist.proofs.lq_arrival.Statement.{statement}
 use Rattle.lentoquist.proofs.lq_arrival.Tie as tie
@@ -19,27 +18,22 @@ lq-arrival-spec =
     (tie.spec
     (λ c κs. search needs)
     (λ c κs. search needs)
-    (λ c. let s = c .before .before .before .before .before .before .before .before .args in let a = areasOf (s .memory .now) (s .holding .now) (s .outgoing .now) (s .kept .now) in as-said (bad-size a (s .frame .now) (λ w. arrivalOf w (s .frame .now) (s .verdict)) (sym (c .before .before .size-allowed .ensures) ∙ not-true _ (c .before .if1 .taken))) (record { answer = c .refuse .ensures; memory = refl; holding = refl; outgoing = refl; kept = refl }))
+    (λ c. let st : tie.Start = search needs in let s = st .args in let a = areasOf (s .memory .now) (s .holding .now) (s .outgoing .now) (s .kept .now) in as-said (bad-size a (s .frame .now) (λ w. arrivalOf w (s .frame .now) (s .verdict)) (sym (c .before .before .size-allowed .ensures) ∙ not-true _ (c .before .if1 .taken))) (record { answer = c .refuse .ensures; memory = refl; holding = refl; outgoing = refl; kept = refl }))
     (λ c κs. search needs)
     (λ c κs. search needs)
-    (λ c. let s = c .before .before .before .before .before .before .before .before .before .before .args in let a = areasOf (s .memory .now) (s .holding .now) (s .outgoing .now) (s .kept .now) in as-said (bad-area a (s .frame .now) (λ w. arrivalOf w (s .frame .now) (s .verdict)) (sym (c .before .before .before .before .size-allowed .ensures) ∙ not-false _ (c .before .before .before .if1 .left)) (sym (c .before .before .lengths-right .ensures) ∙ not-true _ (c .before .if2 .taken))) (record { answer = c .refuse2 .ensures; memory = refl; holding = refl; outgoing = refl; kept = refl }))
+    (λ c. let st : tie.Start = search needs in let s = st .args in let a = areasOf (s .memory .now) (s .holding .now) (s .outgoing .now) (s .kept .now) in as-said (bad-area a (s .frame .now) (λ w. arrivalOf w (s .frame .now) (s .verdict)) (sym (c .before .before .before .before .size-allowed .ensures) ∙ not-false _ (c .before .before .before .if1 .left)) (sym (c .before .before .lengths-right .ensures) ∙ not-true _ (c .before .if2 .taken))) (record { answer = c .refuse2 .ensures; memory = refl; holding = refl; outgoing = refl; kept = refl }))
     (λ c κs. search needs)
-    (λ c. let s = c .before .before .before .before .before .before .before .before .before .before .before .args in let a = areasOf (s .memory .now) (s .holding .now) (s .outgoing .now) (s .kept .now) in as-said (too-long a (s .frame .now) (λ w. arrivalOf w (s .frame .now) (s .verdict)) (sym (c .before .before .before .before .before .size-allowed .ensures) ∙ not-false _ (c .before .before .before .before .if1 .left)) (sym (c .before .before .before .lengths-right .ensures) ∙ not-false _ (c .before .before .if2 .left)) (lt-leb (length (s .frame .now)) 2048 (c .before .if3 .taken))) (record { answer = c .refuse3 .ensures; memory = refl; holding = refl; outgoing = refl; kept = refl }))
-    (λ c κs. search needs)
-    (λ c. search needs)
-    (λ c. search needs)
-    (λ c κs. search needs)
-    (λ c. search needs)
-    (λ c. let s = c .before .before .before .before .before .before .before .before .before .before .before .before .before .before .before .args in let a = areasOf (s .memory .now) (s .holding .now) (s .outgoing .now) (s .kept .now) in as-said (no-image a (s .frame .now) (λ w. arrivalOf w (s .frame .now) (s .verdict)) (sym (c .before .before .before .before .before .before .before .before .before .size-allowed .ensures) ∙ not-false _ (c .before .before .before .before .before .before .before .before .if1 .left)) (sym (c .before .before .before .before .before .before .before .lengths-right .ensures) ∙ not-false _ (c .before .before .before .before .before .before .if2 .left)) (le-leb (length (s .frame .now)) 2048 (c .before .before .before .before .before .if3 .left)) (sym (c .before .before .before .decode .ensures) ∙ c .before .enum-told .given .1)) (record { answer = c .refuse4 .ensures; memory = refl; holding = refl; outgoing = refl; kept = refl }))
+    (λ c. let st : tie.Start = search needs in let s = st .args in let a = areasOf (s .memory .now) (s .holding .now) (s .outgoing .now) (s .kept .now) in as-said (too-long a (s .frame .now) (λ w. arrivalOf w (s .frame .now) (s .verdict)) (sym (c .before .before .before .before .before .size-allowed .ensures) ∙ not-false _ (c .before .before .before .before .if1 .left)) (sym (c .before .before .before .lengths-right .ensures) ∙ not-false _ (c .before .before .if2 .left)) (lt-leb _ _ (c .before .if3 .taken))) (record { answer = c .refuse3 .ensures; memory = refl; holding = refl; outgoing = refl; kept = refl }))
     (λ c κs. search needs)
     (λ c. search needs)
     (λ c. search needs)
+    (λ c κs. search needs)
     (λ c. search needs)
-    (λ c. let s = c .before .before .before .before .before .before .before .before .before .before .before .before .before .before .before .before .before .before .before .before .before .before .before .before .before .args in let a = areasOf (s .memory .now) (s .holding .now) (s .outgoing .now) (s .kept .now) in as-said (accepted a (s .frame .now) (λ w. arrivalOf w (s .frame .now) (s .verdict)) _ (sym (c .before .before .before .before .before .before .before .before .before .before .before .before .before .before .before .before .before .before .before .size-allowed .ensures) ∙ not-false _ (c .before .before .before .before .before .before .before .before .before .before .before .before .before .before .before .before .before .before .if1 .left)) (sym (c .before .before .before .before .before .before .before .before .before .before .before .before .before .before .before .before .before .lengths-right .ensures) ∙ not-false _ (c .before .before .before .before .before .before .before .before .before .before .before .before .before .before .before .before .if2 .left)) (le-leb (length (s .frame .now)) 2048 (c .before .before .before .before .before .before .before .before .before .before .before .before .before .before .before .if3 .left)) (sym (c .before .before .before .before .before .before .before .before .before .before .before .before .before .decode .ensures) ∙ c .before .before .before .before .before .before .before .before .before .before .before .u .given .1))
-    (record {
-      answer = c .before .before .before .before .before .before .arrival-on .ensures .answer _;
-      memory = c .before .before .before .before .before .before .arrival-on .ensures .memory _;
-      holding = c .before .before .before .before .before .before .arrival-on .ensures .holding _;
-      outgoing = arrival-outgoing _ _ _;
-      kept = c .before .before .before .before .before .before .arrival-on .ensures .kept _ ∙ whole-record a _ (sym (c .before .before .before .before .before .before .before .before .before .before .before .before .before .before .before .before .before .lengths-right .ensures) ∙ not-false _ (c .before .before .before .before .before .before .before .before .before .before .before .before .before .before .before .before .if2 .left));
-    })))
+    (λ c. let st : tie.Start = search needs in let s = st .args in let a = areasOf (s .memory .now) (s .holding .now) (s .outgoing .now) (s .kept .now) in as-said (no-image a (s .frame .now) (λ w. arrivalOf w (s .frame .now) (s .verdict)) (sym (c .before .before .before .before .before .before .before .before .before .size-allowed .ensures) ∙ not-false _ (c .before .before .before .before .before .before .before .before .if1 .left)) (sym (c .before .before .before .before .before .before .before .lengths-right .ensures) ∙ not-false _ (c .before .before .before .before .before .before .if2 .left)) (le-leb (length (s .frame .now)) 2048 (c .before .before .before .before .before .if3 .left)) (found-foreign (decodeOf (s .kept .now)) (sym (c .before .before .before .decode .ensures) ∙ c .before .enum-told .given .1))) (record { answer = c .refuse4 .ensures; memory = refl; holding = refl; outgoing = refl; kept = refl }))
+    (λ c κs. let st : tie.Start = search needs in let s = st .args in let a = areasOf (s .memory .now) (s .holding .now) (s .outgoing .now) (s .kept .now) in record-length a (sym (c .before .before .before .before .before .before .before .before .before .before .lengths-right .ensures) ∙ not-false _ (c .before .before .before .before .before .before .before .before .before .if2 .left)))
+    (λ c. search needs)
+    (λ c. search needs)
+    (λ c. search needs)
+    (λ c. let st : tie.Start = search needs in let s = st .args in let a = areasOf (s .memory .now) (s .holding .now) (s .outgoing .now) (s .kept .now) in let f = found-units (decodeOf (s .kept .now)) _ (sym (c .before .before .before .before .before .before .before .before .before .before .before .before .before .decode .ensures) ∙ c .before .before .before .before .before .before .before .before .before .before .before .k .given .1) in
+    let k = c .before .before .before .before .before .before .arrival-on .ensures (f .units) (record { found = f .found; numbers = f .numbers }) in
+    as-said (accepted a (s .frame .now) (λ w. arrivalOf w (s .frame .now) (s .verdict)) (f .units) (sym (c .before .before .before .before .before .before .before .before .before .before .before .before .before .before .before .before .before .before .before .size-allowed .ensures) ∙ not-false _ (c .before .before .before .before .before .before .before .before .before .before .before .before .before .before .before .before .before .before .if1 .left)) (sym (c .before .before .before .before .before .before .before .before .before .before .before .before .before .before .before .before .before .lengths-right .ensures) ∙ not-false _ (c .before .before .before .before .before .before .before .before .before .before .before .before .before .before .before .before .if2 .left)) (le-leb (length (s .frame .now)) 2048 (c .before .before .before .before .before .before .before .before .before .before .before .before .before .before .before .if3 .left)) (f .found)) (record { answer = k .answer _; memory = k .memory _; holding = k .holding _; outgoing = arrival-outgoing _ _ _; kept = k .kept _ })))

@@ -1,44 +1,18 @@
--- `lentoquist::lq_turn` meets its promise: each refusal in its order, then the call itself. Assumes nothing.
-use mathlib.Core.Path.{_≡_, refl, sym, _∙_}
-use mathlib.Core.Bool.{true, false}
-use mathlib.Core.List.{[]}
-use lib.Dec.{leb}
-use lib.ListN.{length}
-use borrow.Author.Tests.{not-true, not-false, le-leb, lt-leb}
-use Rattle.chip.specs.Turn.{turnOf}
-use Rattle.lentoquist.specs.Calls.{areasOf, areasRight, turnCall}
-use Rattle.lentoquist.proofs.Laws.{bad-size, bad-area, too-long, no-image, accepted, whole-record, as-said, attention-holding, attention-outgoing, arrival-outgoing}
+-- `lentoquist::lq_turn` meets its promise: a run of one turn, uncounted, is a turn. Assumes nothing.
+use mathlib.Core.Path.{_≡_, sym}
+use Rattle.lentoquist.specs.Calls.{areasOf}
+use Rattle.lentoquist.proofs.Laws.{one-turn, as-said}
 use borrow.Author.Needs.{needs}
 use Rattle.lentoquist.proofs.lq_turn.Statement.{statement}
 use Rattle.lentoquist.proofs.lq_turn.Tie as tie
 
 pub lq-turn-spec : {M : Type 1} → statement M
-unfolding areasRight turnCall
 lq-turn-spec =
     tie.close
     (tie.spec
     (λ c κs. search needs)
-    (λ c κs. search needs)
-    (λ c. let s = c .before .before .before .before .before .before .before .args in let a = areasOf (s .memory .now) (s .holding .now) (s .outgoing .now) (s .kept .now) in as-said (bad-size a [] (λ w. turnOf w (s .report)) (sym (c .before .before .size-allowed .ensures) ∙ not-true _ (c .before .if1 .taken))) (record { answer = c .refuse .ensures; memory = refl; holding = refl; outgoing = refl; kept = refl }))
-    (λ c κs. search needs)
-    (λ c κs. search needs)
-    (λ c. let s = c .before .before .before .before .before .before .before .before .before .args in let a = areasOf (s .memory .now) (s .holding .now) (s .outgoing .now) (s .kept .now) in as-said (bad-area a [] (λ w. turnOf w (s .report)) (sym (c .before .before .before .before .size-allowed .ensures) ∙ not-false _ (c .before .before .before .if1 .left)) (sym (c .before .before .lengths-right .ensures) ∙ not-true _ (c .before .if2 .taken))) (record { answer = c .refuse2 .ensures; memory = refl; holding = refl; outgoing = refl; kept = refl }))
-    (λ c κs. search needs)
-    (λ c. search needs)
-    (λ c. search needs)
-    (λ c κs. search needs)
-    (λ c. search needs)
-    (λ c. let s = c .before .before .before .before .before .before .before .before .before .before .before .before .before .args in let a = areasOf (s .memory .now) (s .holding .now) (s .outgoing .now) (s .kept .now) in as-said (no-image a [] (λ w. turnOf w (s .report)) (sym (c .before .before .before .before .before .before .before .before .size-allowed .ensures) ∙ not-false _ (c .before .before .before .before .before .before .before .if1 .left)) (sym (c .before .before .before .before .before .before .lengths-right .ensures) ∙ not-false _ (c .before .before .before .before .before .if2 .left)) refl (sym (c .before .before .before .decode .ensures) ∙ c .before .enum-told .given .1)) (record { answer = c .refuse3 .ensures; memory = refl; holding = refl; outgoing = refl; kept = refl }))
-    (λ c κs. search needs)
     (λ c. search needs)
     (λ c. search needs)
     (λ c. search needs)
     (λ c. search needs)
-    (λ c. let s = c .before .before .before .before .before .before .before .before .before .before .before .before .before .before .before .before .before .before .before .before .before .before .before .before .args in let a = areasOf (s .memory .now) (s .holding .now) (s .outgoing .now) (s .kept .now) in as-said (accepted a [] (λ w. turnOf w (s .report)) _ (sym (c .before .before .before .before .before .before .before .before .before .before .before .before .before .before .before .before .before .before .before .size-allowed .ensures) ∙ not-false _ (c .before .before .before .before .before .before .before .before .before .before .before .before .before .before .before .before .before .before .if1 .left)) (sym (c .before .before .before .before .before .before .before .before .before .before .before .before .before .before .before .before .before .lengths-right .ensures) ∙ not-false _ (c .before .before .before .before .before .before .before .before .before .before .before .before .before .before .before .before .if2 .left)) refl (sym (c .before .before .before .before .before .before .before .before .before .before .before .before .before .before .decode .ensures) ∙ c .before .before .before .before .before .before .before .before .before .before .before .before .u .given .1))
-    (record {
-      answer = c .before .before .before .before .before .before .turn-on .ensures .answer;
-      memory = c .before .before .before .before .before .before .turn-on .ensures .memory;
-      holding = c .before .before .before .before .before .before .turn-on .ensures .holding;
-      outgoing = c .before .before .before .before .before .before .turn-on .ensures .outgoing;
-      kept = c .before .before .before .before .before .before .turn-on .ensures .kept ∙ whole-record a _ (sym (c .before .before .before .before .before .before .before .before .before .before .before .before .before .before .before .before .before .lengths-right .ensures) ∙ not-false _ (c .before .before .before .before .before .before .before .before .before .before .before .before .before .before .before .before .if2 .left));
-    })))
+    (λ c. let st : tie.Start = search needs in let s = st .args in let a = areasOf (s .memory .now) (s .holding .now) (s .outgoing .now) (s .kept .now) in as-said (sym (one-turn a (s .report))) (c .before .before .before .before .before .before .before .before .run-on .ensures)))

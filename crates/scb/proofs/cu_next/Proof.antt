@@ -1,8 +1,7 @@
+-- `scb::cu_next` meets its contract: the table's entry, read back as a state. Assumes nothing.
 use mathlib.Core.Path.{_∙_}
 use native.Mathlib.Omega.{arith}
-use Rattle.scb.specs.Words.{cuc}
-use Rattle.scb.proofs.Fields.{field-below}
-use Rattle.scb.proofs.Tables.{cu-below, cu-table}
+use Rattle.scb.proofs.Tables.{cu-below, cu-back}
 use borrow.Author.Needs.{needs}
 use Rattle.scb.proofs.cu_next.Statement.{statement}
 use Rattle.scb.proofs.cu_next.Tie as tie
@@ -12,11 +11,7 @@ cu-next-spec =
     tie.close
     (tie.spec
     (λ c κs. search needs)
-    (λ c. search needs)
-    (λ c. search needs)
+    (λ c. omega (arith, c .cu-number .ensures, cu-below (c .before .args .s)))
+    (λ c κs. omega (arith, c .cu-number .ensures, cu-below (c .before .args .s)))
     (λ c κs. search needs)
-    (λ c. search needs)
-    (λ c. search needs)
-    (λ c. omega (arith, cu-below (c .before .before .args .s), field-below (c .before .before .args .command) 8 3))
-    (λ c κs. search needs)
-    (λ c. c .cu-of .ensures ∙ rw (c .before .cu-number .ensures, c .before .before .cu-control .ensures) (cu-table (cuc (c .before .before .before .args .command)) (c .before .before .before .args .s) (field-below (c .before .before .before .args .command) 8 3))))
+    (λ c. c .cu-of .ensures ∙ rw (c .before .cu-goes .ensures (c .before .before .before .args .s) (c .before .before .cu-number .ensures)) (cu-back _)))

@@ -1,8 +1,7 @@
+-- `scb::ru_next` meets its contract: the table's entry, read back as a state. Assumes nothing.
 use mathlib.Core.Path.{_∙_}
 use native.Mathlib.Omega.{arith}
-use Rattle.scb.specs.Words.{ruc}
-use Rattle.scb.proofs.Fields.{field-below}
-use Rattle.scb.proofs.Tables.{ru-below, ru-table}
+use Rattle.scb.proofs.Tables.{column-below, ru-back}
 use borrow.Author.Needs.{needs}
 use Rattle.scb.proofs.ru_next.Statement.{statement}
 use Rattle.scb.proofs.ru_next.Tie as tie
@@ -12,11 +11,6 @@ ru-next-spec =
     tie.close
     (tie.spec
     (λ c κs. search needs)
-    (λ c. search needs)
-    (λ c. search needs)
+    (λ c κs. omega (arith, c .ru-column .ensures, column-below (c .before .args .s)))
     (λ c κs. search needs)
-    (λ c. search needs)
-    (λ c. search needs)
-    (λ c. omega (arith, ru-below (c .before .before .args .s), field-below (c .before .before .args .command) 4 3))
-    (λ c κs. search needs)
-    (λ c. c .ru-of .ensures ∙ rw (c .before .ru-number .ensures, c .before .before .ru-control .ensures) (ru-table (ruc (c .before .before .before .args .command)) (c .before .before .before .args .s) (field-below (c .before .before .before .args .command) 4 3))))
+    (λ c. c .ru-of .ensures ∙ rw (c .before .ru-goes .ensures (c .before .before .before .args .s) (c .before .before .ru-column .ensures)) (ru-back _)))

@@ -1,4 +1,7 @@
 -- `yardstick::lq_yardstick_both` meets its contract. Assumes nothing.
+use mathlib.Core.Path.{sym, _∙_}
+use Rattle.image.specs.Image.{decodeOf}
+use Rattle.image.proofs.Lent.{found-units, found-foreign}
 use borrow.Author.Needs.{needs}
 use Rattle.yardstick.proofs.lq_yardstick_both.Statement.{statement}
 use Rattle.yardstick.proofs.lq_yardstick_both.Tie as tie
@@ -11,8 +14,7 @@ lq-yardstick-both-spec =
     (λ c. search needs)
     (λ c. search needs)
     (λ c. search needs)
-    (λ c. record { answer = rw (← c .before .before .decode .ensures, c .enum-told .given .1); kept = rw (← c .before .before .decode .ensures, c .enum-told .given .1) })
-    (λ c κs. search needs)
+    (λ c. let s : tie.Start = search needs in let f = found-foreign (decodeOf (s .args .kept .now)) (sym (c .before .before .decode .ensures) ∙ c .enum-told .given .1) in record { answer = rw f; kept = rw f })
     (λ c κs. search needs)
     (λ c. search needs)
-    (λ c. record { answer = rw (← c .before .before .before .before .before .before .before .before .before .decode .ensures, c .before .before .before .before .before .before .before .d .given .1); kept = rw (← c .before .before .before .before .before .before .before .before .before .decode .ensures, c .before .before .before .before .before .before .before .d .given .1) (rw (c .before .before .before .device-of .ensures) at (c .before .before .store .ensures)) }))
+    (λ c. let s : tie.Start = search needs in let f = found-units (decodeOf (s .args .kept .now)) _ (sym (c .before .before .before .before .before .before .before .decode .ensures) ∙ c .before .before .before .before .before .d .given .1) in record { answer = rw (f .found); kept = rw (f .found, ← f .numbers) (c .before .before .store .ensures) }))

@@ -1,0 +1,103 @@
+-- For a caller that lends the parts of a record: what is decoded is the numbers of a state, the last 104 bytes are its setup, and numbers and
+-- setup put back are the image of the state that they say. Assumes nothing.
+use mathlib.Core.Path.{_≡_, refl, sym, ap, subst}
+use mathlib.Core.List.{List, [], _++_, append-nil}
+use Prim.Native.Nat.{ℕ, _-_}
+use native.Mathlib.Omega.{arith}
+use lib.ListN.{length, replicate, take, drop, length-drop, drop-of-length-le}
+use lib.Seq.{take-all}
+use Rattle.memory.specs.Memory.{digits}
+use Rattle.memory.proofs.Bytes.{Bytes}
+use Rattle.device.specs.declared.Device.{Device}
+use Rattle.device.specs.declared.Units.{Units}
+use Rattle.actions.specs.Setup.{Setup, setupOf}
+use Rattle.kept.specs.Kept.{keptOf, KeptIs}
+use Rattle.kept.specs.SetUp.{setupBytes, SetIs}
+use Rattle.kept.specs.declared.Kept.{Kept}
+use Rattle.image.specs.Ranges.{Wide}
+use Rattle.image.specs.Found.{Found}
+use Rattle.image.specs.Found as is
+use Rattle.image.specs.Image.{front, unitBytes, imageOf, deviceFrom, deviceAt, decodeOf, decodedBy, putKept}
+use Rattle.image.specs.declared.Decoded.{Decoded}
+use Rattle.image.specs.declared.Decoded.the-variants as code
+use Rattle.image.proofs.Exact.{Image, exact, wide-units, fits}
+
+-- ---- what is decoded
+
+-- a state was found, and these are its numbers
+pub record FoundAs (f : Found) (k : Kept) : Type 0 where
+  pub units : Units
+  pub found : f ≡ is.Units units
+  pub numbers : k ≡ keptOf units
+
+abbrev numbersIn : Decoded → Kept → Kept
+numbersIn (code.Units k) other = k
+numbersIn code.Foreign other = other
+
+abbrev isForeign : Decoded → ℕ
+isForeign (code.Units k) = 0
+isForeign code.Foreign = 1
+
+pub found-units : (f : Found) (k : Kept) → decodedBy f ≡ code.Units k → FoundAs f k
+found-units (is.Units u) k e = record { units = u; found = refl; numbers = sym (ap (λ (x : Decoded). numbersIn x k) e) }
+found-units is.Foreign k e = let z : _≡_ {A = ℕ} 1 0 = ap isForeign e in absurd (omega arith)
+
+pub found-foreign : (f : Found) → decodedBy f ≡ code.Foreign → f ≡ is.Foreign
+found-foreign (is.Units u) e = let z : _≡_ {A = ℕ} 0 1 = ap isForeign e in absurd (omega arith)
+found-foreign is.Foreign e = refl
+
+-- ---- the parts of an image
+
+module _ (d : Device) where
+  -- the front, the numbers and the spare bytes
+  pub first-part : take 152 (imageOf d) ≡ unitBytes (keptOf (d .units)) ++ replicate 112 0
+  unfolding imageOf unitBytes front digits
+  first-part = refl
+
+  -- the setup
+  pub last-part : drop 152 (imageOf d) ≡ setupBytes (setupOf d)
+  unfolding imageOf unitBytes front digits
+  last-part = refl
+
+  pub setup-is : Wide d → SetIs (setupOf d) (drop 152 (imageOf d))
+  setup-is h = record { bytes-are = last-part; minimum-wide = h .minimum; own-wide = h .own; listed-wide = h .listed }
+
+-- ---- the same of a record that was decoded
+
+module _ (r : List ℕ) (u : Units) (l : length r ≡ 256) (b : Bytes r) (e : decodeOf r ≡ is.Units u) where
+  pub its-image : Image r u
+  its-image = exact r l b u e
+
+  pub its-numbers : (k : Kept) → k ≡ keptOf u → KeptIs u k
+  unfolding deviceAt deviceFrom
+  its-numbers k q = record { same = q; wide = wide-units (deviceAt r u) (its-image .wide) (fits (deviceAt r u) (its-image .wide) (its-image .range)) }
+
+  pub its-setup : SetIs (setupOf (deviceAt r u)) (drop 152 r)
+  its-setup = let s = setup-is (deviceAt r u) (its-image .wide) in subst (λ (x : List ℕ). SetIs (setupOf (deviceAt r u)) (drop 152 x)) (sym (its-image .same)) s
+
+-- ---- what is put back
+
+-- numbers that go to an image
+pub units-put : (d : Device) (k : Kept) → putKept (imageOf d) k ≡ unitBytes k ++ (replicate 112 0 ++ setupBytes (setupOf d))
+unfolding imageOf unitBytes front digits
+units-put d k = refl
+
+module _ (d : Device) (u : Units) (k : Kept) (s : Setup) (h : KeptIs u k) (same : u .settings ≡ s .settings) where
+  -- with the numbers of some units and the bytes of a setup, it is the image of the device that has both
+  pub parts-put : take 152 (putKept (imageOf d) k) ++ setupBytes s ≡ imageOf (record { units = u; own = s .own; listed = s .listed })
+  unfolding imageOf unitBytes front digits
+  parts-put = rw (h .same, ← same)
+
+-- ---- the last 104 bytes of a record, lent and returned
+
+module _ (r : List ℕ) (l : length r ≡ 256) where
+  last-length : length (drop 152 r) ≡ 104
+  last-length = let e : length (drop 152 r) ≡ length r - 152 = length-drop 152 r in omega arith
+
+  pub setup-lent : take 104 (drop 152 r) ≡ drop 152 r
+  setup-lent = take-all 104 (drop 152 r) (omega (arith, last-length))
+
+  pub setup-returned : (b : List ℕ) → take 152 r ++ (b ++ drop 104 (drop 152 r)) ≡ take 152 r ++ b
+  setup-returned b =
+      let e : drop 104 (drop 152 r) ≡ [] = drop-of-length-le (drop 152 r) {i = 104} (omega (arith, last-length)) in
+      rw e (ap (λ (x : List ℕ). take 152 r ++ x) (append-nil b))

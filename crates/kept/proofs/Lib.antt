@@ -1,0 +1,2 @@
+-- The laws of this crate, for the crates above it.
+pub mod Laws

@@ -1,0 +1,14 @@
+-- `kept_actions::is_acceptable` meets its contract. Assumes nothing.
+use borrow.Author.Needs.{needs}
+use Rattle.kept_actions.proofs.is_acceptable.Statement.{statement}
+use Rattle.kept_actions.proofs.is_acceptable.Tie as tie
+
+pub is-acceptable-spec : {M : Type 1} → statement M
+is-acceptable-spec =
+    tie.close
+    (tie.spec
+    (λ c κs. search needs)
+    (λ c κs. search needs)
+    (λ c κs. search needs)
+    (λ c κs. search needs)
+    (λ c. rw (c .before .before .before .field .ensures, c .before .before .is-set .ensures, c .before .is-set2 .ensures, c .is-set3 .ensures)))

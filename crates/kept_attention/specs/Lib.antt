@@ -1,0 +1,2 @@
+-- An attention over numbers, for the contracts of this crate and the crates above it.
+pub mod Attends

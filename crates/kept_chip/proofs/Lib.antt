@@ -1,0 +1,3 @@
+-- The laws of this crate, for the crates above it.
+pub mod Laws
+pub mod Loop

@@ -1,0 +1,197 @@
+// The chip over numbers: a turn, turns in a row, and an arrival. The state goes in and comes out as four numbers, and what the commands set up
+// is lent beside it. The crate chip has the definitions that every promise here cites.
+use kept::Kept;
+ghost use mathlib.Core.Path.{_≡_};
+ghost use mathlib.Core.List.{List};
+ghost use Prim.Native.Nat.{ℕ};
+ghost use lib.ListN.{length};
+ghost use Rattle.scb.specs.Words as words;
+ghost use Rattle.scb.specs.declared.Events.{Events};
+ghost use Rattle.device.specs.declared.Device.{Device};
+ghost use Rattle.device.specs.declared.Units.{Units};
+ghost use Rattle.chip.specs.World as world;
+ghost use Rattle.chip.specs.Arrival as arrivals;
+ghost use Rattle.chip.specs.Turn as turns;
+ghost use Rattle.chip.specs.Run as runs;
+ghost use Rattle.kept.specs.Kept as keeps;
+ghost use Rattle.kept_chip.specs.Does as does;
+
+// What a turn comes to, besides the lent bytes. A turn that sends a frame, reports an edge or has no work ends a run.
+pub struct Turned {
+    pub kept: Kept,
+    pub length: u16,
+    pub edge: bool,
+    pub stops: bool,
+}
+
+// What turns in a row come to: the last one's answer, and how many were taken.
+pub struct Turns {
+    pub kept: Kept,
+    pub length: u16,
+    pub edge: bool,
+    pub taken: u16,
+}
+
+// The command unit has work from this tag on, while Active; the receive unit from that one on, while a frame is held.
+const ACTIVE: u64 = 2;
+
+const HOLDING: u64 = 4;
+
+// The mark that the receive unit was served at the last working turn.
+const RU_LAST: u64 = 2;
+
+// A frame has a header of 14 bytes; a shorter one is dropped before anything is asked of it.
+const HEADER: usize = 14;
+
+// ---- a turn
+
+// The end of a working turn: the status is written if an event was raised.
+fn conclude(memory: &mut [u8], k: Kept, raised: u64, length: u16) -> Turned
+    ensures { λ r. ⌜ ((u : Units) (by : Events) → keeps.KeptIs u k → raised ≡ words.eventBits by → does.Concludes u by k length (now (memory .entry)) r (now (memory .exit))) ⌝ }
+{
+    if raised != 0 {
+        kept_attention::write_status(memory, k);
+        return Turned {
+            kept: k,
+            length: length,
+            edge: true,
+            stops: true,
+        };
+    }
+    Turned {
+        kept: k,
+        length: length,
+        edge: false,
+        stops: length != 0,
+    }
+}
+
+// The command unit is served.
+fn command_turn(
+    memory: &mut [u8],
+    outgoing: &mut [u8],
+    setup: &mut [u8],
+    k: Kept,
+    report: u16,
+) -> Turned
+    requires { ⌜ length (now setup) ≡ 104 ⌝ }
+    ensures { λ r. ⌜ ((d : Device) (h : List ℕ) → does.DeviceIs d k (now (setup .entry)) → does.Tells (turns.commandTurn (world.worldOf d (now (memory .entry)) h (now (outgoing .entry))) report) r (now (memory .exit)) (now (outgoing .exit)) (now (setup .exit))) ⌝ }
+{
+    let c = kept_command::serve(
+        memory,
+        outgoing,
+        setup,
+        kept::base(k),
+        kept::cu_tag(k),
+        k.cu,
+        report,
+    );
+    let after = kept::after_cu(k, c.tag, c.word, c.raised);
+    conclude(memory, after, c.raised, c.length)
+}
+
+// The receive unit is served.
+fn receive_turn(memory: &mut [u8], holding: &[u8], k: Kept) -> Turned
+    ensures { λ r. ⌜ ((d : Device) (out set : List ℕ) → does.DeviceIs d k set → does.Tells (turns.receiveTurn (world.worldOf d (now (memory .entry)) (now (holding .entry)) out)) r (now (memory .exit)) out set) ⌝ }
+{
+    let s = kept_receive::serve(
+        memory,
+        holding,
+        kept::base(k),
+        kept::scb(k),
+        kept::ru_tag(k),
+        k.ru,
+        k.rest,
+    );
+    let after = kept::after_ru(k, s.tag, s.word, s.rest, s.raised);
+    conclude(memory, after, s.raised, 0)
+}
+
+// A turn: RU has work while a frame is held, CU while Active; if both have, the one not served at the last working turn is served.
+pub fn turn(
+    memory: &mut [u8],
+    holding: &[u8],
+    outgoing: &mut [u8],
+    setup: &mut [u8],
+    k: Kept,
+    report: u16,
+) -> Turned
+    requires { ⌜ length (now setup) ≡ 104 ⌝ }
+    ensures { λ r. ⌜ ((d : Device) → does.DeviceIs d k (now (setup .entry)) → does.Does (turns.turnOf (world.worldOf d (now (memory .entry)) (now (holding .entry)) (now (outgoing .entry))) report) (runs.stopsAt (world.worldOf d (now (memory .entry)) (now (holding .entry)) (now (outgoing .entry))) report) r (now (memory .exit)) (now (outgoing .exit)) (now (setup .exit))) ⌝ }
+{
+    let ruworks = HOLDING <= kept::ru_tag(k);
+    if (ACTIVE <= kept::cu_tag(k)) & (!ruworks | kept::flag(kept::flags(k), RU_LAST)) {
+        return command_turn(memory, outgoing, setup, k, report);
+    }
+    if ruworks {
+        return receive_turn(memory, holding, k);
+    }
+    Turned {
+        kept: k,
+        length: 0,
+        edge: false,
+        stops: true,
+    }
+}
+
+// ---- turns in a row
+
+// Turns with the same line report, until `budget` are taken or one ends the run. A turn that does not end it has nothing to tell, so that is the
+// answer where the budget ends it.
+pub fn run(
+    memory: &mut [u8],
+    holding: &[u8],
+    outgoing: &mut [u8],
+    setup: &mut [u8],
+    k: Kept,
+    report: u16,
+    budget: u16,
+) -> Turns
+    requires { ⌜ length (now setup) ≡ 104 ⌝ }
+    ensures { λ r. ⌜ ((d : Device) → does.DeviceIs d k (now (setup .entry)) → does.Runs (runs.runOf budget (world.worldOf d (now (memory .entry)) (now (holding .entry)) (now (outgoing .entry))) report) r (now (memory .exit)) (now (outgoing .exit)) (now (setup .exit))) ⌝ }
+{
+    let mut state = k;
+    let mut taken: u16 = 0;
+    while taken < budget {
+        let t = turn(memory, holding, outgoing, setup, state, report);
+        taken += 1;
+        state = t.kept;
+        if t.stops {
+            return Turns {
+                kept: state,
+                length: t.length,
+                edge: t.edge,
+                taken: taken,
+            };
+        }
+    }
+    Turns {
+        kept: state,
+        length: 0,
+        edge: false,
+        taken: taken,
+    }
+}
+
+// ---- arrival
+
+// A frame arrives with the line side's verdict. One of fewer than 14 bytes is dropped, and so is one that is not for us.
+pub fn arrival(
+    memory: &mut [u8],
+    holding: &mut [u8],
+    setup: &[u8],
+    k: Kept,
+    frame: &[u8],
+    verdict: u32,
+) -> Kept
+    requires { ⌜ length (now setup) ≡ 104 ⌝ }
+    ensures { λ r. ⌜ ((d : Device) (out : List ℕ) → does.DeviceIs d k (now (setup .entry)) → does.Arrives (arrivals.arrivalOf (world.worldOf d (now (memory .entry)) (now (holding .entry)) out) (now (frame .entry)) verdict) r (now (setup .entry)) (now (memory .exit)) (now (holding .exit))) ⌝ }
+{
+    if frame.len() < HEADER {
+        return k;
+    }
+    if kept_filter::matches(setup, frame) {
+        return kept_receive::arrive(memory, holding, setup, k, frame, verdict);
+    }
+    k
+}

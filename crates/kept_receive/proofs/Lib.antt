@@ -1,0 +1,3 @@
+-- What the code of the receive unit rests on.
+mod Laws
+mod Units

@@ -1,0 +1,13 @@
+-- `kept_receive::is_bare` meets its contract. Assumes nothing.
+use Rattle.phases.specs.Words.{wordOf}
+use borrow.Author.Needs.{needs}
+use Rattle.kept_receive.proofs.is_bare.Statement.{statement}
+use Rattle.kept_receive.proofs.is_bare.Tie as tie
+
+pub is-bare-spec : {M : Type 1} → statement M
+unfolding wordOf
+is-bare-spec =
+    tie.close
+    (tie.spec
+    (λ c κs. search needs)
+    (λ c. rw (c .size-of .ensures)))
