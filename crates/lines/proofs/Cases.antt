@@ -70,6 +70,10 @@ badLines =
     ∷ bad "turn 65536" 6 "a number up to 65535"
     ∷ bad "turn 1 10000h" 8 "a number up to 65535"
     ∷ bad "turn 1 2 3" 10 "the end of the line"
+    ∷ bad "run  # on" 4 "a number"
+    ∷ bad "run 65536" 5 "a number up to 65535"
+    ∷ bad "run 0 10000h" 7 "a number up to 65535"
+    ∷ bad "run 1 2 3" 9 "the end of the line"
     ∷ bad "reset now" 7 "the end of the line"
     ∷ bad "bytes" 6 "an area"
     ∷ bad "show heap 0 1" 6 "an area"
@@ -126,6 +130,8 @@ goodLines =
     ∷ good "size 2000h" 1 8192 0 []
     ∷ good "turn" 0 0 0 []
     ∷ good " turn 3 ffffh " 2 3 65535 []
+    ∷ good "run FFFFh" 1 65535 0 []
+    ∷ good "run 0 65535" 2 0 65535 []
     ∷ good "arrival 4294967295" 1 4294967295 0 []
     ∷ good "arrival 1 FFfF 3x55 00" 4 1 0 (0xFF ∷ 0xFF ∷ 0x55 ∷ 0x55 ∷ 0x55 ∷ 0 ∷ [])
     ∷ good "bytes memory FFFFh 0x00 7F" 4 65535 0 (0x7F ∷ [])

@@ -40,6 +40,7 @@ verbOf letters =
     (cond (eqb letters (spelled "attention")) verb.Attention
     (cond (eqb letters (spelled "arrival")) verb.Arrival
     (cond (eqb letters (spelled "turn")) verb.Turn
+    (cond (eqb letters (spelled "run")) verb.Run
     (cond (eqb letters (spelled "bytes")) verb.Bytes
     (cond (eqb letters (spelled "words")) verb.Words
     (cond (eqb letters (spelled "show")) verb.Show
@@ -47,7 +48,7 @@ verbOf letters =
     (cond (eqb letters (spelled "interrupt")) verb.Interrupt
     (cond (eqb letters (spelled "record")) verb.Record
     (cond (eqb letters (spelled "say")) verb.Say
-    verb.Nothing)))))))))))
+    verb.Nothing))))))))))))
 
 -- the area that a word names
 unfoldable pub areaOf : ℕ → Named

@@ -21,4 +21,5 @@ verb-of-spec =
     (λ c. rw (c .match .keys10))
     (λ c. rw (c .match .keys11))
     (λ c. rw (c .match .keys12))
-    (λ c. let other = c .match .rest in simp (ne-eqb _ _ (other .1), ne-eqb _ _ (other .0 .1), ne-eqb _ _ (other .0 .0 .1), ne-eqb _ _ (other .0 .0 .0 .1), ne-eqb _ _ (other .0 .0 .0 .0 .1), ne-eqb _ _ (other .0 .0 .0 .0 .0 .1), ne-eqb _ _ (other .0 .0 .0 .0 .0 .0 .1), ne-eqb _ _ (other .0 .0 .0 .0 .0 .0 .0 .1), ne-eqb _ _ (other .0 .0 .0 .0 .0 .0 .0 .0 .1), ne-eqb _ _ (other .0 .0 .0 .0 .0 .0 .0 .0 .0 .1), ne-eqb _ _ (other .0 .0 .0 .0 .0 .0 .0 .0 .0 .0 .1), ne-eqb _ _ (other .0 .0 .0 .0 .0 .0 .0 .0 .0 .0 .0 .1))))
+    (λ c. rw (c .match .keys13))
+    (λ c. let other = c .match .rest in simp (ne-eqb _ _ (other .1), ne-eqb _ _ (other .0 .1), ne-eqb _ _ (other .0 .0 .1), ne-eqb _ _ (other .0 .0 .0 .1), ne-eqb _ _ (other .0 .0 .0 .0 .1), ne-eqb _ _ (other .0 .0 .0 .0 .0 .1), ne-eqb _ _ (other .0 .0 .0 .0 .0 .0 .1), ne-eqb _ _ (other .0 .0 .0 .0 .0 .0 .0 .1), ne-eqb _ _ (other .0 .0 .0 .0 .0 .0 .0 .0 .1), ne-eqb _ _ (other .0 .0 .0 .0 .0 .0 .0 .0 .0 .1), ne-eqb _ _ (other .0 .0 .0 .0 .0 .0 .0 .0 .0 .0 .1), ne-eqb _ _ (other .0 .0 .0 .0 .0 .0 .0 .0 .0 .0 .0 .1), ne-eqb _ _ (other .0 .0 .0 .0 .0 .0 .0 .0 .0 .0 .0 .0 .1))))
