@@ -31,6 +31,7 @@ const CASES: &[(&str, Case)] = cases! {
     waiting_of_each_unit started_writes_nothing
     plain_end_writes_no_status events_again edges_of_attention cx_only_by_i
     alternation turn_counts_sending turn_counts_storing report_only_at_transmit_end
+    run_refused run_of_nothing run_to_its_budget run_to_no_work run_to_a_frame run_to_an_edge run_stores run_as_turns
     begin_keeps link_before_status link_ffff failures_end_normally el_wins
     ia_setup configure_bytes configure_counts configure_rejects mc_setup transmit_tests transmit_next_kept reports tdr_dump_diagnose
     arrival_order arrival_minimum match_rules settings_at_arrival
@@ -869,6 +870,103 @@ fn report_only_at_transmit_end() -> Result<(), String> {
     Ok(())
 }
 
+// ---- Runs ----
+
+const SENT: Answer = Answer { number: 0, length: 14, edge: false };
+
+fn run_refused() -> Result<(), String> {
+    let mut rig = Rig { chip: Chip::new(8192) };
+    same!((rig.chip.run(0, 0), rig.chip.run(9, 0xFFFF)), ((refusal(4), 0), (refusal(4), 0)));
+    rig.chip.n = 8191;
+    same!((rig.chip.run(0, 0), rig.chip.run(9, 0)), ((refusal(1), 0), (refusal(1), 0)));
+    Ok(())
+}
+
+fn run_of_nothing() -> Result<(), String> {
+    // A budget of 0 takes no turn, with work or without; one that finds no work counts.
+    let mut rig = Rig::new();
+    same!((rig.chip.run(0, 0), rig.chip.run(1, 0), rig.chip.run(0xFFFF, 0xFFFF)), ((QUIET, 0), (QUIET, 1), (QUIET, 1)));
+    rig.words(0x200, &[0, 0x8000, 0]);
+    rig.start(0x200);
+    same!((rig.chip.run(0, 0), rig.word(0x200)), ((QUIET, 0), 0));
+    Ok(())
+}
+
+fn run_to_its_budget() -> Result<(), String> {
+    let mut rig = Rig::new();
+    rig.words(0x200, &[0, 0, 0x200]);
+    rig.start(0x200);
+    same!((rig.chip.run(1, 0), rig.word(0x200)), ((QUIET, 1), 0x4000));
+    same!((rig.chip.run(3, 0), rig.word(0x200)), ((QUIET, 3), 0xA000));
+    same!((rig.chip.run(0xFFFF, 0), rig.word(0x200)), ((QUIET, 0xFFFF), 0x4000));
+    Ok(())
+}
+
+fn run_to_no_work() -> Result<(), String> {
+    // The list's end raises CNA; the run after it finds no work.
+    let mut rig = Rig::new();
+    rig.words(0x200, &[0, 0, 0x210]);
+    rig.words(0x210, &[0, 0x8000, 0]);
+    rig.start(0x200);
+    same!((rig.chip.run(9, 0), rig.chip.run(9, 0)), ((EDGE, 4), (QUIET, 1)));
+    Ok(())
+}
+
+fn run_to_a_frame() -> Result<(), String> {
+    // A Transmit that raises nothing ends a run, if its frame was sent.
+    for (report, answer) in [(0x0003, (SENT, 2)), (0x0020, (QUIET, 5))] {
+        let mut rig = Rig::new();
+        rig.transmit(0x200, 0, NONE);
+        rig.start(0x200);
+        same!(rig.chip.run(5, report), answer);
+    }
+    Ok(())
+}
+
+fn run_to_an_edge() -> Result<(), String> {
+    // An event that is set already is raised again: it ends a run too.
+    let mut rig = Rig::new();
+    rig.words(0x200, &[0, 0x2000, 0x200]);
+    rig.start(0x200);
+    same!((rig.chip.run(9, 0), rig.chip.run(9, 0), rig.chip.run(1, 0)), ((EDGE, 2), (EDGE, 2), (QUIET, 1)));
+    same!((rig.chip.run(1, 0), rig.scb()), ((EDGE, 1), 0x8200));
+    Ok(())
+}
+
+fn run_stores() -> Result<(), String> {
+    let mut rig = three_buffers([20, 20, 20]);
+    rig.hear(&frame(46), 0);
+    same!(rig.chip.run(200, 0), (EDGE, 5));
+    same!((rig.word(0x400), rig.word(0x410), rig.word(0x420)), (0x4014, 0x4014, 0xC006));
+    same!((rig.word(0x300), rig.scb()), (0xA000, 0x4040));
+    Ok(())
+}
+
+fn run_as_turns() -> Result<(), String> {
+    // Both units at work: every budget leaves what so many turns leave.
+    let both = || {
+        let mut rig = three_buffers([20, 20, 20]);
+        rig.transmit(0x200, 0, NONE);
+        rig.words(0x204, &[0x200]);
+        rig.start(0x200);
+        rig.hear(&frame(46), 0);
+        rig
+    };
+    for budget in 0..12 {
+        let (mut one, mut other) = (both(), both());
+        let (last, taken) = one.chip.run(budget, 0x00C3);
+        same!(taken, budget.min(4));
+        let mut turn = QUIET;
+        for _ in 0..taken {
+            turn = other.chip.turn(0x00C3);
+        }
+        same!(last, turn);
+        same!(one.chip.device == other.chip.device, true);
+        same!((one.chip.memory == other.chip.memory, one.chip.outgoing == other.chip.outgoing), (true, true));
+    }
+    Ok(())
+}
+
 // ---- Commands ----
 
 fn begin_keeps() -> Result<(), String> {
@@ -1325,6 +1423,7 @@ fn list_forms() -> Result<(), String> {
     same!(printed("attention\nturn 2\narrival 0\narrival 7 2049x00\nsize 0\nturn\nreset\n"), "4 0 0\n4 0 0\n4 0 0\n4 0 0\n3 0 0\n1 0 0\n0 0 0\n");
     same!(printed("bytes holding 10h 3x0a fF00\nshow holding 0fh 18#x\nlook holding 16 1\nshow holding 0 0"), "000F: 00 0A 0A 0A FF 00 00 00 00 00 00 00 00 00 00 00\n001F: 00 00\n0010: 0A0A\n");
     same!(printed("\n \t\n#\nsay\nsay  a  b # c\n say x\n"), "\na  b \nx\n");
+    same!(printed("run 0\nrun 9 FFFFh\nreset\nrun 0\nrun 65535\nrun 1 1\nsize 1\nrun 2"), "4 0 0\n4 0 0\n0 0 0\n0 0 0\n0 0 0 1\n0 0 0 1\n1 0 0\n");
     same!(printed("interrupt\nreset\nattention\ninterrupt"), "interrupt low\n0 0 0\n0 0 1\ninterrupt high\n");
     same!(printed("show memory 65535 1\nshow outgoing 2047 1\nwords memory 65534 65535\nlook memory FFFEh 1\nbytes memory 0\nturn 0"), "FFFF: 00\n07FF: 00\nFFFE: FFFF\n");
     Ok(())
@@ -1344,6 +1443,13 @@ fn list_bad_input() -> Result<(), String> {
         ("turn 65536", 6, "a number up to 65535"),
         ("turn 1 10000h", 8, "a number up to 65535"),
         ("turn 1 2 3", 10, "the end of the line"),
+        ("run", 4, "a number"),
+        ("run  # 5", 4, "a number"),
+        ("run on", 5, "a number"),
+        ("run 65536", 5, "a number up to 65535"),
+        ("run 1 65536", 7, "a number up to 65535"),
+        ("run 1 2 3", 9, "the end of the line"),
+        ("runs 1", 1, "a line's first word"),
         ("arrival", 8, "a number"),
         ("arrival 0 12 345", 14, "bytes"),
         ("arrival 0 x55", 11, "bytes"),

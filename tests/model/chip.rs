@@ -540,6 +540,38 @@ impl Chip {
         Answer::done(length, edge)
     }
 
+    /// docs/replay.md: "It ends when BUDGET turns are taken, or behind the first one that has sent a frame, reported an edge or had no work;
+    /// that one counts." The last turn's answer comes back, and how many were taken.
+    pub fn run(&mut self, budget: u16, report: u16) -> (Answer, u16) {
+        self.wrote.clear();
+        if let Some(answer) = self.refused("run", 0) {
+            return (answer, 0);
+        }
+        self.note_if(budget == 0, "run of budget 0");
+        self.note_if(self.device.ru_works(), "run with a frame held");
+        self.note_if(self.device.ru_works() && self.device.cu_works(), "run of both units");
+        let (mut wrote, mut last, mut taken) = (Vec::new(), Answer::done(0, false), 0);
+        while taken < budget {
+            let works = self.device.ru_works() || self.device.cu_works();
+            last = self.turn(report);
+            taken += 1;
+            wrote.append(&mut self.wrote);
+            if !works || last.length != 0 || last.edge {
+                self.note_if(!works, "run ends: no work");
+                self.note_if(last.length != 0 && last.edge, "run ends: a frame sent, an edge");
+                self.note_if(last.length != 0 && !last.edge, "run ends: a frame sent");
+                self.note_if(last.length == 0 && last.edge, "run ends: an edge");
+                self.note_if(works && taken == budget, "run ends: budget, with a frame sent or an edge");
+                self.note_if(taken < budget && taken > 1 && works, "run ends: before its budget");
+                self.wrote = wrote;
+                return (last, taken);
+            }
+        }
+        self.note_if(budget != 0, "run ends: budget");
+        self.wrote = wrote;
+        (last, taken)
+    }
+
     // ---- The command unit ----
 
     /// One turn of the CU; the length sent comes back.

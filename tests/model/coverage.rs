@@ -60,7 +60,7 @@ fn points() -> Vec<String> {
     for event in ["CX", "FR", "CNA", "RNR"] {
         add(format!("{event} acknowledged"));
     }
-    for call in ["attention", "arrival", "turn"] {
+    for call in ["attention", "arrival", "turn", "run"] {
         add(format!("refusal 1 of {call}"));
         add(format!("refusal 4 of {call}"));
     }
@@ -128,6 +128,16 @@ const POINTS: &str = "
     turn, CU alone
     turn, both: CU
     turn, both: RU
+    run of budget 0
+    run with a frame held
+    run of both units
+    run ends: no work
+    run ends: a frame sent
+    run ends: a frame sent, an edge
+    run ends: an edge
+    run ends: budget
+    run ends: budget, with a frame sent or an edge
+    run ends: before its budget
     end with I
     end with EL
     end with EL and S

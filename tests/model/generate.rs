@@ -94,7 +94,7 @@ pub fn bad(seed: u64) -> Vec<u8> {
     let mut random = Random(seed ^ 0x0BAD_0BAD);
     let good = [
         "size 65536", "size 2000h", "reset", "attention", "arrival 0 FFFFFFFFFFFF 46x55 0102", "arrival 4294967295", "turn", "turn 3",
-        "turn 2 FFFFh", "bytes memory 65534 0102", "bytes holding 2047 1x7F", "words outgoing 07FEh 65535", "words memory 0 1 2h 3",
+        "turn 2 FFFFh", "run 7", "run 65535 FFFFh", "bytes memory 65534 0102", "bytes holding 2047 1x7F", "words outgoing 07FEh 65535", "words memory 0 1 2h 3",
         "show memory 16 33", "look holding 10h 9", "interrupt", "say what # this", "show outgoing 2040 8 # all", "  look\tmemory 65534\t1  ",
     ];
     let odd = b" \thxX#0159afFG-+_.,:/@";
@@ -309,10 +309,11 @@ impl Generator<'_> {
             if self.random.chance(25) {
                 self.size()?;
             }
-            match self.random.below(4) {
+            match self.random.below(5) {
                 0 => self.line("attention".into())?,
                 1 => self.turn_line(1)?,
-                2 => self.overlong()?,
+                2 => self.run_line()?,
+                3 => self.overlong()?,
                 _ => self.arrival()?,
             }
         }
@@ -393,6 +394,7 @@ impl Generator<'_> {
             1 => self.line("\t # nothing but a comment".into()),
             2 => self.line("  say\ta scene begins # here".into()),
             3 => self.line("turn 0".into()),
+            5 => self.line("run 0".into()),
             4 => self.line("show holding 2047 0".into()),
             _ => Ok(()),
         }
@@ -798,7 +800,11 @@ impl Generator<'_> {
             if units == 0 {
                 break;
             }
-            self.turn_line((ahead * 3 / 4).max(1))?;
+            if self.random.chance(15) {
+                self.run_line()?;
+            } else {
+                self.turn_line((ahead * 3 / 4).max(1))?;
+            }
             self.observe()?;
             if self.random.chance(3) {
                 self.attention()?;
@@ -865,7 +871,7 @@ impl Generator<'_> {
                 parameters[2] |= if self.random.chance(50) { 0x80 } else { 0 };
                 parameters[3] = 0x26;
             }
-            if *kind == 1 && parameters[..6] == [0xFF; 6] {
+            if *kind == 1 && parameters[..6] == [0xFF; 6] && !self.random.chance(10) {
                 parameters[0] = 0x02;
             }
             block.extend(parameters);
@@ -1387,7 +1393,8 @@ impl Generator<'_> {
         for _ in 0..1 + self.random.below(4) {
             match self.random.below(8) {
                 0 | 1 => self.line("attention".into())?,
-                2 | 3 => self.turn_line(1)?,
+                2 => self.turn_line(1)?,
+                3 => self.run_line()?,
                 4 => self.overlong()?,
                 _ => self.arrival()?,
             }
@@ -1424,13 +1431,33 @@ impl Generator<'_> {
         self.line(text)
     }
 
+    /// A run of no turn, one, some, more than anything takes, or as many as there can be.
+    fn run_line(&mut self) -> io::Result<()> {
+        let (report, some) = (self.report(), 2 + self.random.below(8));
+        let budget = match self.random.below(40) {
+            0..=2 => 0,
+            3..=7 => 1,
+            8..=27 => some,
+            28..=38 => 60 + self.random.below(400),
+            _ => self.random.pick(&[65_535, 65_535, 65_534, 32_768]),
+        };
+        let (times, report_text) = (self.number(budget), self.number(report));
+        let text = if report == 0 && self.random.chance(50) { format!("run {times}") } else { format!("run {times} {report_text}") };
+        self.line(text)
+    }
+
+    /// A turn, or some, or a run.
     fn turn(&mut self) -> io::Result<()> {
         let works = self.device().cu_works() || self.device().ru_works();
         let count = if works && self.random.chance(5) { 1 + self.random.below(6) } else { 1 };
         self.scene.stale += count;
         let cu = self.device().cu;
         let ru = self.device().ru;
-        self.turn_line(count)?;
+        if self.random.chance(16) {
+            self.run_line()?;
+        } else {
+            self.turn_line(count)?;
+        }
         self.observe()?;
         // What the turn was about, and what it left alone.
         if self.random.chance(35) {
@@ -1466,8 +1493,10 @@ impl Generator<'_> {
         if self.random.chance(92) {
             self.show_scb()?;
         }
-        for wrote in self.replay.chip.wrote.clone() {
-            if !self.random.chance(85) {
+        let wrote = self.wrote();
+        let often = if wrote.len() > 20 { 25 } else { 85 };
+        for wrote in wrote {
+            if !self.random.chance(often) {
                 continue;
             }
             match wrote {
@@ -1495,6 +1524,17 @@ impl Generator<'_> {
             self.show(at, count)?;
         }
         Ok(())
+    }
+
+    /// What the last call wrote, each stretch once: a run may go round.
+    fn wrote(&self) -> Vec<Wrote> {
+        let mut once = Vec::new();
+        for wrote in &self.replay.chip.wrote {
+            if !once.contains(wrote) {
+                once.push(*wrote);
+            }
+        }
+        once
     }
 
     fn in_scb(&self, at: usize) -> bool {

@@ -43,6 +43,7 @@ enum Line<'a> {
     Attention,
     Arrival(u32, Bytes),
     Turn(u32, u16),
+    Run(u16, u16),
     Bytes(Area, usize, Bytes),
     Words(Area, usize, Vec<u16>),
     Show(Area, usize, usize),
@@ -208,6 +209,11 @@ fn read(text: &[u8]) -> Result<Line<'_>, Bad> {
             let report = if words.more() { words.number_to(65_535, word)? } else { 0 };
             Line::Turn(count, report as u16)
         }
+        b"run" => {
+            let budget = words.number_to(65_535, word)?;
+            let report = if words.more() { words.number_to(65_535, word)? } else { 0 };
+            Line::Run(budget as u16, report as u16)
+        }
         b"bytes" => {
             let (area, place, column) = words.area_and_place()?;
             let bytes = words.bytes()?;
@@ -284,6 +290,11 @@ impl Replay {
                     answer(self.chip.turn(report), out)?;
                 }
             }
+            Line::Run(budget, report) => {
+                calls = 1;
+                let (last, taken) = self.chip.run(budget, report);
+                answer_of_run(last, taken, out)?;
+            }
             Line::Bytes(area, place, bytes) => {
                 self.area_mut(area)[place..place + bytes.bytes.len()].copy_from_slice(&bytes.bytes);
             }
@@ -344,6 +355,14 @@ impl Replay {
 /// "An answer is a line of three numbers"
 fn answer(answer: Answer, out: &mut dyn Write) -> io::Result<()> {
     writeln!(out, "{} {} {}", answer.number, answer.length, u8::from(answer.edge))
+}
+
+/// "A run's are those of its last turn, and behind them stands how many turns it has taken"; none are not told.
+fn answer_of_run(last: Answer, taken: u16, out: &mut dyn Write) -> io::Result<()> {
+    if taken == 0 {
+        return answer(last, out);
+    }
+    writeln!(out, "{} {} {} {taken}", last.number, last.length, u8::from(last.edge))
 }
 
 /// A list's lines. A last line without a newline is a line; nothing behind the last newline is none.
