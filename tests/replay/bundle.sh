@@ -10,7 +10,7 @@ here=$(cd "$(dirname "$0")" && pwd)
 list=$1
 expected=$2
 shift 2
-[ $# -gt 0 ] || set -- calls papers control commands transmit arrival storing addresses limits record
+[ $# -gt 0 ] || set -- calls papers control commands transmit arrival storing addresses limits runs record
 
 for name in "$@"; do
     [ -f "$here/$name.list" ] || { echo "bundle.sh: there is no $here/$name.list" >&2; exit 1; }
