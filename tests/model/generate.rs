@@ -1453,7 +1453,7 @@ impl Generator<'_> {
         self.scene.stale += count;
         let cu = self.device().cu;
         let ru = self.device().ru;
-        if self.random.chance(16) {
+        if self.random.chance(28) {
             self.run_line()?;
         } else {
             self.turn_line(count)?;
