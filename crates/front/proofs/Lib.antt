@@ -1,3 +1,2 @@
--- What the chip promises, in the shape of the front; an outcome as the walks of the front meet it.
-pub mod Front
+-- A record and what a call leaves, as the walks of the front meet them.
 pub mod Parts

@@ -1,16 +1,14 @@
--- What a call through the front leaves: the device that was lent, the answer, and the lent areas. Assumes nothing.
-use mathlib.Core.Path.{_≡_}
+-- What a call through the front leaves: the record that was lent, the answer, and the lent areas. Assumes nothing.
 use mathlib.Core.List.{List}
 use Prim.Native.Nat.{ℕ}
-use Rattle.device.specs.declared.Answer.{Answer}
-use Rattle.device.specs.declared.Device.{Device}
-use Rattle.chip.specs.World.{Ran}
+use Rattle.lentoquist.specs.Calls.{Areas, areasOf, Called, Calls}
+use Rattle.front.specs.declared.Record.{Record}
 
--- 01, "Calls, lent areas, refusals": one device record, lent to a thin front that changes it in place. Device, answer and areas are what
--- the chip's definition says of the call: the shape of every promise here. An area that is not lent stays, whatever it is.
-pub record Fronted (said : Ran) (d : Device) (a : Answer) (m h out : List ℕ) : Type 0 where
-  pub device : d ≡ said .outcome .device
-  pub answer : a ≡ said .outcome .answer
-  pub memory : m ≡ said .memory
-  pub holding : h ≡ said .holding
-  pub outgoing : out ≡ said .outgoing
+-- 01, "Calls, lent areas, refusals": the four areas that C would lend, of which the record is the program's own
+abbrev pub areasWith : Record → List ℕ → List ℕ → List ℕ → Areas
+areasWith d m h out = areasOf m h out (d .bytes)
+
+-- one device record, lent to a thin front that changes it in place: record, answer and areas are what the exported call's definition says,
+-- the shape of every promise here
+abbrev pub Fronted : Called → Record → ℕ → List ℕ → List ℕ → List ℕ → Type 0
+Fronted said d a m h out = Calls said a m h out (d .bytes)

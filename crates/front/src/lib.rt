@@ -1,99 +1,220 @@
-// The thin front: attention, arrival and turn on one device that is lent and changed in place. Each calls the chip by value and stores
-// the device that it gives. A program holds its device by value, and calls the lenders, which lend it for one call and give it back.
-use device::Answer;
-use device::Device;
-ghost use Prim.Native.Nat.{ℕ};
-ghost use mathlib.Core.List.{List};
-ghost use Rattle.chip.specs.World as world;
-ghost use Rattle.chip.specs.Attention as attentions;
-ghost use Rattle.chip.specs.Arrival as arrivals;
-ghost use Rattle.chip.specs.Turn as turns;
+// The thin front: attention, arrival, turn and run on one device record that is lent and changed in place. Each makes the call that C makes,
+// on the record by value, and stores the record that it gives. A program holds its record by value, and calls the lenders, which lend it for
+// one call and give it back.
+ghost use Rattle.lentoquist.specs.Calls as calls;
 ghost use Rattle.front.specs.Front as front;
 
-// ---- the device in place
+// The device record.
+pub struct Record {
+    pub bytes: [u8; 256],
+}
+
+// What a call leaves: the record, and its answer as one number.
+pub struct Lent {
+    pub kept: Record,
+    pub answer: u64,
+}
+
+// ---- the calls by value: a record goes in and comes out
+
+// Reset takes the record alone.
+pub fn reset(d: Record) -> Lent
+    ensures { λ r. ⌜ calls.Renews (calls.resetCall (d .bytes)) (r .answer) (r .kept .bytes) ⌝ }
+{
+    let mut bytes = d.bytes;
+    let answer = lentoquist::lq_reset(&mut bytes);
+    Lent {
+        kept: Record { bytes },
+        answer,
+    }
+}
+
+fn attended(d: Record, memory: &mut [u8], holding: &mut [u8], outgoing: &mut [u8]) -> Lent
+    ensures { λ r. ⌜ front.Fronted (calls.attentionCall (front.areasWith d (now (memory .entry)) (now (holding .entry)) (now (outgoing .entry)))) (r .kept) (r .answer) (now (memory .exit)) (now (holding .exit)) (now (outgoing .exit)) ⌝ }
+{
+    let mut bytes = d.bytes;
+    let answer = lentoquist::lq_attention(memory, holding, outgoing, &mut bytes);
+    Lent {
+        kept: Record { bytes },
+        answer,
+    }
+}
+
+fn received(
+    d: Record,
+    memory: &mut [u8],
+    holding: &mut [u8],
+    outgoing: &mut [u8],
+    frame: &[u8],
+    verdict: u32,
+) -> Lent
+    ensures { λ r. ⌜ front.Fronted (calls.arrivalCall (front.areasWith d (now (memory .entry)) (now (holding .entry)) (now (outgoing .entry))) (now (frame .entry)) verdict) (r .kept) (r .answer) (now (memory .exit)) (now (holding .exit)) (now (outgoing .exit)) ⌝ }
+{
+    let mut bytes = d.bytes;
+    let answer = lentoquist::lq_arrival(memory, holding, outgoing, &mut bytes, frame, verdict);
+    Lent {
+        kept: Record { bytes },
+        answer,
+    }
+}
+
+fn turned(
+    d: Record,
+    memory: &mut [u8],
+    holding: &mut [u8],
+    outgoing: &mut [u8],
+    report: u16,
+) -> Lent
+    ensures { λ r. ⌜ front.Fronted (calls.turnCall (front.areasWith d (now (memory .entry)) (now (holding .entry)) (now (outgoing .entry))) report) (r .kept) (r .answer) (now (memory .exit)) (now (holding .exit)) (now (outgoing .exit)) ⌝ }
+{
+    let mut bytes = d.bytes;
+    let answer = lentoquist::lq_turn(memory, holding, outgoing, &mut bytes, report);
+    Lent {
+        kept: Record { bytes },
+        answer,
+    }
+}
+
+fn ran(
+    d: Record,
+    memory: &mut [u8],
+    holding: &mut [u8],
+    outgoing: &mut [u8],
+    report: u16,
+    budget: u16,
+) -> Lent
+    ensures { λ r. ⌜ front.Fronted (calls.runCall (front.areasWith d (now (memory .entry)) (now (holding .entry)) (now (outgoing .entry))) report budget) (r .kept) (r .answer) (now (memory .exit)) (now (holding .exit)) (now (outgoing .exit)) ⌝ }
+{
+    let mut bytes = d.bytes;
+    let answer = lentoquist::lq_run(memory, holding, outgoing, &mut bytes, report, budget);
+    Lent {
+        kept: Record { bytes },
+        answer,
+    }
+}
+
+// ---- the record in place
 
 // A channel attention.
-pub fn attend(d: &mut Device, memory: &mut [u8]) -> Answer
-    ensures { λ r. ⌜ ((h out : List ℕ) → front.Fronted (attentions.attentionOf (world.worldOf (now (d .entry)) (now (memory .entry)) h out)) (now (d .exit)) r (now (memory .exit)) h out) ⌝ }
+pub fn attend(
+    d: &mut Record,
+    memory: &mut [u8],
+    holding: &mut [u8],
+    outgoing: &mut [u8],
+) -> u64
+    ensures { λ r. ⌜ front.Fronted (calls.attentionCall (front.areasWith (now (d .entry)) (now (memory .entry)) (now (holding .entry)) (now (outgoing .entry)))) (now (d .exit)) r (now (memory .exit)) (now (holding .exit)) (now (outgoing .exit)) ⌝ }
 {
-    let attended = chip::attention(memory, *d);
-    *d = attended.device;
-    attended.answer
+    let l = attended(*d, memory, holding, outgoing);
+    *d = l.kept;
+    l.answer
 }
 
 // A frame arrives with the line side's verdict.
 pub fn receive(
-    d: &mut Device,
+    d: &mut Record,
     memory: &mut [u8],
     holding: &mut [u8],
+    outgoing: &mut [u8],
     frame: &[u8],
     verdict: u32,
-) -> Answer
-    ensures { λ r. ⌜ ((out : List ℕ) → front.Fronted (arrivals.arrivalOf (world.worldOf (now (d .entry)) (now (memory .entry)) (now (holding .entry)) out) (now (frame .entry)) verdict) (now (d .exit)) r (now (memory .exit)) (now (holding .exit)) out) ⌝ }
+) -> u64
+    ensures { λ r. ⌜ front.Fronted (calls.arrivalCall (front.areasWith (now (d .entry)) (now (memory .entry)) (now (holding .entry)) (now (outgoing .entry))) (now (frame .entry)) verdict) (now (d .exit)) r (now (memory .exit)) (now (holding .exit)) (now (outgoing .exit)) ⌝ }
 {
-    let arrived = chip::arrival(memory, holding, *d, frame, verdict);
-    *d = arrived.device;
-    arrived.answer
+    let l = received(*d, memory, holding, outgoing, frame, verdict);
+    *d = l.kept;
+    l.answer
 }
 
-// A turn, with the line report. The holding area is only read.
+// A turn, with the line report.
 pub fn turn(
-    d: &mut Device,
+    d: &mut Record,
     memory: &mut [u8],
-    holding: &[u8],
+    holding: &mut [u8],
     outgoing: &mut [u8],
     report: u16,
-) -> Answer
-    ensures { λ r. ⌜ front.Fronted (turns.turnOf (world.worldOf (now (d .entry)) (now (memory .entry)) (now (holding .entry)) (now (outgoing .entry))) report) (now (d .exit)) r (now (memory .exit)) (now (holding .entry)) (now (outgoing .exit)) ⌝ }
+) -> u64
+    ensures { λ r. ⌜ front.Fronted (calls.turnCall (front.areasWith (now (d .entry)) (now (memory .entry)) (now (holding .entry)) (now (outgoing .entry))) report) (now (d .exit)) r (now (memory .exit)) (now (holding .exit)) (now (outgoing .exit)) ⌝ }
 {
-    let turned = chip::turn(memory, holding, outgoing, *d, report);
-    *d = turned.device;
-    turned.answer
+    let l = turned(*d, memory, holding, outgoing, report);
+    *d = l.kept;
+    l.answer
 }
 
-// ---- the lenders: the same calls for a caller that holds the device by value, in a loop or not
-
-// A device that was lent for one call, and the answer of that call.
-pub struct Lent {
-    pub device: Device,
-    pub answer: Answer,
+// A run of turns, each with the same line report.
+pub fn run(
+    d: &mut Record,
+    memory: &mut [u8],
+    holding: &mut [u8],
+    outgoing: &mut [u8],
+    report: u16,
+    budget: u16,
+) -> u64
+    ensures { λ r. ⌜ front.Fronted (calls.runCall (front.areasWith (now (d .entry)) (now (memory .entry)) (now (holding .entry)) (now (outgoing .entry))) report budget) (now (d .exit)) r (now (memory .exit)) (now (holding .exit)) (now (outgoing .exit)) ⌝ }
+{
+    let l = ran(*d, memory, holding, outgoing, report, budget);
+    *d = l.kept;
+    l.answer
 }
+
+// ---- the lenders: the same calls for a caller that holds the record by value, in a loop or not
 
 // A channel attention, through the front.
-pub fn attend_through(device: Device, memory: &mut [u8]) -> Lent
-    ensures { λ r. ⌜ ((h out : List ℕ) → front.Fronted (attentions.attentionOf (world.worldOf device (now (memory .entry)) h out)) (r .device) (r .answer) (now (memory .exit)) h out) ⌝ }
+pub fn attend_through(
+    kept: Record,
+    memory: &mut [u8],
+    holding: &mut [u8],
+    outgoing: &mut [u8],
+) -> Lent
+    ensures { λ r. ⌜ front.Fronted (calls.attentionCall (front.areasWith kept (now (memory .entry)) (now (holding .entry)) (now (outgoing .entry)))) (r .kept) (r .answer) (now (memory .exit)) (now (holding .exit)) (now (outgoing .exit)) ⌝ }
 {
-    let mut d = device;
-    let answer = attend(&mut d, memory);
-    Lent { device: d, answer }
+    let mut d = kept;
+    let answer = attend(&mut d, memory, holding, outgoing);
+    Lent { kept: d, answer }
 }
 
 // A frame's arrival, through the front.
 pub fn receive_through(
-    device: Device,
+    kept: Record,
     memory: &mut [u8],
     holding: &mut [u8],
+    outgoing: &mut [u8],
     frame: &[u8],
     verdict: u32,
 ) -> Lent
-    ensures { λ r. ⌜ ((out : List ℕ) → front.Fronted (arrivals.arrivalOf (world.worldOf device (now (memory .entry)) (now (holding .entry)) out) (now (frame .entry)) verdict) (r .device) (r .answer) (now (memory .exit)) (now (holding .exit)) out) ⌝ }
+    ensures { λ r. ⌜ front.Fronted (calls.arrivalCall (front.areasWith kept (now (memory .entry)) (now (holding .entry)) (now (outgoing .entry))) (now (frame .entry)) verdict) (r .kept) (r .answer) (now (memory .exit)) (now (holding .exit)) (now (outgoing .exit)) ⌝ }
 {
-    let mut d = device;
-    let answer = receive(&mut d, memory, holding, frame, verdict);
-    Lent { device: d, answer }
+    let mut d = kept;
+    let answer = receive(&mut d, memory, holding, outgoing, frame, verdict);
+    Lent { kept: d, answer }
 }
 
 // A turn, through the front.
 pub fn turn_through(
-    device: Device,
+    kept: Record,
     memory: &mut [u8],
-    holding: &[u8],
+    holding: &mut [u8],
     outgoing: &mut [u8],
     report: u16,
 ) -> Lent
-    ensures { λ r. ⌜ front.Fronted (turns.turnOf (world.worldOf device (now (memory .entry)) (now (holding .entry)) (now (outgoing .entry))) report) (r .device) (r .answer) (now (memory .exit)) (now (holding .entry)) (now (outgoing .exit)) ⌝ }
+    ensures { λ r. ⌜ front.Fronted (calls.turnCall (front.areasWith kept (now (memory .entry)) (now (holding .entry)) (now (outgoing .entry))) report) (r .kept) (r .answer) (now (memory .exit)) (now (holding .exit)) (now (outgoing .exit)) ⌝ }
 {
-    let mut d = device;
+    let mut d = kept;
     let answer = turn(&mut d, memory, holding, outgoing, report);
-    Lent { device: d, answer }
+    Lent { kept: d, answer }
+}
+
+// A run of turns, through the front.
+pub fn run_through(
+    kept: Record,
+    memory: &mut [u8],
+    holding: &mut [u8],
+    outgoing: &mut [u8],
+    report: u16,
+    budget: u16,
+) -> Lent
+    ensures { λ r. ⌜ front.Fronted (calls.runCall (front.areasWith kept (now (memory .entry)) (now (holding .entry)) (now (outgoing .entry))) report budget) (r .kept) (r .answer) (now (memory .exit)) (now (holding .exit)) (now (outgoing .exit)) ⌝ }
+{
+    let mut d = kept;
+    let answer = run(&mut d, memory, holding, outgoing, report, budget);
+    Lent { kept: d, answer }
 }
