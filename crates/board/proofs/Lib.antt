@@ -1,3 +1,2 @@
--- What an accepted call knows of the lengths; the calls on a board against the exported ones.
-pub mod Fits
-pub mod Exported
+-- What is lent of memory; what a board shows before the first reset, and of a device.
+pub mod Laws

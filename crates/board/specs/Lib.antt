@@ -1,3 +1,2 @@
--- The board: the device that is held for a whole run, and the calls on it.
+-- The board: the device record that is held for a whole run, and the calls on it.
 pub mod Board
-pub mod Exported

@@ -1,5 +1,6 @@
 -- `board::reset` meets its contract. Assumes nothing.
 use mathlib.Core.Path.{_∙_}
+use Rattle.board.specs.Board.{saidOf}
 use borrow.Author.Needs.{needs}
 use Rattle.board.proofs.reset.Statement.{statement}
 use Rattle.board.proofs.reset.Tie as tie
@@ -10,5 +11,4 @@ reset-spec =
     (tie.spec
     (λ c κs. search needs)
     (λ c κs. search needs)
-    (λ c κs. search needs)
-    (λ c. c .answering .ensures ∙ rw (c .before .with-made .ensures, c .before .before .before .before .reset .ensures)))
+    (λ c. let st : tie.Start = search needs in c .answering .ensures ∙ (λ i. saidOf (st .args .b) (record { bytes = c .before .reset .ensures .kept i }) (c .before .reset .ensures .answer i))))

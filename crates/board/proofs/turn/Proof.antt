@@ -1,8 +1,8 @@
--- `board::turn` meets its contract: the refusal that applies, or the call itself. Assumes nothing.
-use mathlib.Core.Path.{refl, sym, ap, _∙_}
-use lib.ListN.{length}
-use Rattle.board.specs.Board.{isAccepted, onBoard}
-use Rattle.board.proofs.Fits.{fits}
+-- `board::turn` meets its contract. Assumes nothing.
+use native.Mathlib.Omega.{arith}
+use Rattle.lentoquist.specs.Calls as exported
+use Rattle.board.specs.Board.{onBoard}
+use Rattle.board.proofs.Laws.{taken, leaves}
 use borrow.Author.Needs.{needs}
 use Rattle.board.proofs.turn.Statement.{statement}
 use Rattle.board.proofs.turn.Tie as tie
@@ -13,10 +13,11 @@ turn-spec =
     tie.close
     (tie.spec
     (λ c κs. search needs)
+    (λ c. search needs)
+    (λ c. taken _ _ (omega (arith, c .before .before .lent-length .ensures)))
     (λ c κs. search needs)
-    (λ c κs. fits (c .before .before .before .before .before .before .before .before .args .b .size) (c .before .before .before .before .before .before .before .before .args .b .made) (length (c .before .before .before .before .before .before .before .before .args .memory .now)) (length (c .before .before .before .before .before .before .before .before .args .holding .now)) (length (c .before .before .before .before .before .before .before .before .args .outgoing .now)) 0 (ap isAccepted (sym (c .before .before .before .before .refusal .ensures)) ∙ sym (c .before .before .before .is-accepted .ensures) ∙ c .before .before .if1 .taken))
+    (λ c κs. search needs)
     (λ c. search needs)
     (λ c. search needs)
-    (λ c. rw (← c .before .before .before .before .before .before .before .before .before .refusal .ensures, ← c .before .before .before .before .before .before .before .before .is-accepted .ensures, c .before .before .before .before .before .before .before .if1 .taken) (c .before .before .before .before .turn-on .ensures))
-    (λ c κs. search needs)
-    (λ c. rw (← c .before .before .before .refusal .ensures, ← c .before .before .is-accepted .ensures, c .before .if1 .left) (record { said = c .refuse .ensures; memory = refl; holding = refl; outgoing = refl })))
+    (λ c. search needs)
+    (λ c. let st : tie.Start = search needs in let s = st .args in leaves (λ a. exported.turnCall a (s .report)) _ _ _ _ _ _ _ _ _ _ (c .before .before .before .before .before .before .before .before .before .before .before .before .lent-length .ensures) (c .before .before .before .before .before .before .before .turn-through .ensures) (c .answering .ensures)))
