@@ -1,16 +1,15 @@
 -- The texts of docs/replay.md, computed. No contract cites this file. Assumes nothing.
 use mathlib.Core.Path.{_≡_, refl}
-use mathlib.Core.Bool.{true, false}
+use mathlib.Core.Bool.{true}
 use mathlib.Core.List.{List, [], _∷_}
-use Prim.Native.Nat.{ℕ}
-use Rattle.device.specs.declared.Refusal.the-variants as refusal
+use Prim.Native.Nat.{ℕ, _+_, _*_, _^_}
 use Rattle.texts.specs.Codes.{codes}
 use Rattle.texts.specs.Texts.{
   each,
   hex,
   decimalBy,
   decimal,
-  edgeText,
+  furtherText,
   answerText,
   interruptText,
   byteText,
@@ -52,13 +51,19 @@ hex-word = refl
 
 -- ---- lines
 
-pub sent : answerText (record { number = refusal.Accepted; length = 60; edge = true }) ≡ codes "0 60 1\n"
-unfolding answerText edgeText decimal decimalBy
+-- nothing refused, 60 bytes sent, an edge
+pub sent : answerText (60 * 2 ^ 16 + 2 ^ 32) ≡ codes "0 60 1\n"
+unfolding answerText furtherText decimal decimalBy
 sent = refl
 
-pub refused : answerText (record { number = refusal.Foreign; length = 0; edge = false }) ≡ codes "4 0 0\n"
-unfolding answerText edgeText decimal decimalBy
+pub refused : answerText 4 ≡ codes "4 0 0\n"
+unfolding answerText furtherText decimal decimalBy
 refused = refl
+
+-- and 3 turns of a run
+pub run-sent : answerText (60 * 2 ^ 16 + 2 ^ 32 + 3 * 2 ^ 48) ≡ codes "0 60 1 3\n"
+unfolding answerText furtherText decimal decimalBy
+run-sent = refl
 
 pub high : interruptText true ≡ codes "interrupt high\n"
 unfolding interruptText

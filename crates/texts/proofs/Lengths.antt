@@ -1,22 +1,20 @@
 -- How long the texts are, and that a text for which there is room is put whole. No contract cites this file. Assumes nothing.
 use mathlib.Core.Path.{_≡_, refl, sym, ap, _∙_}
-use mathlib.Core.Bool.{Bool, true, false}
+use mathlib.Core.Bool.{Bool, true, false, cond}
 use mathlib.Core.List.{List, [], _∷_, _++_}
 use mathlib.Core.Logic.{⊎-elim}
 use Prim.Native.Nat.{ℕ, zero, suc, _+_, _-_, _*_, _/_, _^_, _≤_, _<_, min}
 use native.Mathlib.Nat.{pow-suc, suc-mul}
 use native.Mathlib.Omega.{arith}
 use borrow.Author.Tests.{lt-ltb, le-ltb}
+use lib.Dec.{eqb}
 use lib.ListN.{length, take, length-append}
 use lib.Seq.{length-sets, sets-eq, take-append-seam}
 use Rattle.memory.proofs.Laws.{below-or-not}
-use Rattle.device.specs.Numbers.{refusalNumber}
-use Rattle.device.specs.declared.Answer.{Answer}
-use Rattle.device.specs.declared.Refusal.{Refusal}
-use Rattle.device.specs.declared.Refusal.the-variants as refusal
 use Rattle.texts.specs.declared.Expected.{Expected}
 use Rattle.texts.specs.declared.Expected.the-variants as expected
-use Rattle.texts.specs.Texts.{Puts, each, hex, decimalBy, decimal, byteText, wordText, showLine, lookLine, edgeText, answerText, expectedText, faultText}
+use Rattle.texts.specs.Codes.{codes}
+use Rattle.texts.specs.Texts.{Puts, each, hex, decimalBy, decimal, numberIn, lengthIn, edgeIn, turnsIn, furtherText, answerText, byteText, wordText, showLine, lookLine, expectedText, faultText}
 
 -- ---- room
 
@@ -95,25 +93,22 @@ pub length-decimal : (k n : ℕ) → n < 10 ^ suc k → length (decimal n) ≤ s
 unfolding decimal
 length-decimal k n h = digits-by (suc n) k n h
 
-one-digit : (r : Refusal) → length (decimal (refusalNumber r)) ≡ 1
-unfolding decimal decimalBy
-one-digit refusal.Accepted = refl
-one-digit refusal.Memory = refl
-one-digit refusal.Area = refl
-one-digit refusal.Overlong = refl
-one-digit refusal.Foreign = refl
+further-by : (x : Bool) (n : ℕ) → n < 65536 → length (cond x [] (codes " " ++ decimal n)) ≤ 6
+further-by true n h = omega arith
+further-by false n h = let l : length (decimal n) ≤ 5 = length-decimal 4 n (omega arith) in simp length-append (omega arith)
 
-length-edge : (edge : Bool) → length (edgeText edge) ≡ 2
-unfolding edgeText
-length-edge true = refl
-length-edge false = refl
+length-further : (n : ℕ) → n < 65536 → length (furtherText n) ≤ 6
+unfolding furtherText
+length-further n h = further-by (eqb n 0) n h
 
-pub length-answer : (a : Answer) → a .length < 65536 → length (answerText a) ≤ 10
+-- whatever the answer: three numbers of at most 5, 5 and 1 digits, and a further one of at most 5
+pub length-answer : (a : ℕ) → length (answerText a) ≤ 20
 unfolding answerText
-length-answer a h =
-    let n : length (decimal (refusalNumber (a .number))) ≡ 1 = one-digit (a .number) in
-    let l : length (decimal (a .length)) ≤ 5 = length-decimal 4 (a .length) (omega arith) in
-    let e : length (edgeText (a .edge)) ≡ 2 = length-edge (a .edge) in
+length-answer a =
+    let n : length (decimal (numberIn a)) ≤ 5 = length-decimal 4 (numberIn a) (omega arith) in
+    let l : length (decimal (lengthIn a)) ≤ 5 = length-decimal 4 (lengthIn a) (omega arith) in
+    let e : length (decimal (edgeIn a)) ≤ 1 = length-decimal 0 (edgeIn a) (omega arith) in
+    let t : length (furtherText (turnsIn a)) ≤ 6 = length-further (turnsIn a) (omega arith) in
     simp length-append (omega arith)
 
 length-expected : (what : Expected) → length (expectedText what) ≤ 20

@@ -3,12 +3,10 @@ use mathlib.Core.Path.{_≡_}
 use mathlib.Core.Bool.{Bool, cond}
 use mathlib.Core.List.{List, [], _∷_, _++_}
 use Prim.Native.Char.{code}
-use Prim.Native.Nat.{ℕ, zero, suc, _+_, _-_, _*_, _/_, _%_, min}
-use lib.Dec.{ltb}
+use Prim.Native.Nat.{ℕ, zero, suc, _+_, _-_, _*_, _/_, _%_, _^_, min}
+use lib.Dec.{eqb, ltb}
 use lib.ListN.{length, getD}
 use lib.Seq.{sets}
-use Rattle.device.specs.Numbers.{refusalNumber}
-use Rattle.device.specs.declared.Answer.{Answer}
 use Rattle.texts.specs.Codes.{codes}
 use Rattle.texts.specs.declared.Expected.{Expected}
 use Rattle.texts.specs.declared.Expected.the-variants as expected
@@ -43,13 +41,28 @@ decimalBy (suc k) n = cond (ltb n 10) [] (decimalBy k (n / 10)) ++ ((code "0" + 
 unfoldable pub decimal : ℕ → List ℕ
 decimal n = decimalBy (suc n) n
 
--- ---- answers. "An answer is a line of three numbers: the number, the length sent, and 1 or 0 for the interrupt's edge"
+-- ---- answers. "An answer is a line of three numbers: the number .., the length sent, and 1 or 0 for the interrupt's edge"
 
-unfoldable pub edgeText : Bool → List ℕ
-edgeText edge = cond edge (codes "1\n") (codes "0\n")
+-- the parts of an answer, which is one number: bits 0 to 15, 16 to 31, 32, and 48 to 63
+abbrev pub numberIn : ℕ → ℕ
+numberIn a = a % 2 ^ 16
 
-unfoldable pub answerText : Answer → List ℕ
-answerText a = decimal (refusalNumber (a .number)) ++ codes " " ++ decimal (a .length) ++ codes " " ++ edgeText (a .edge)
+abbrev pub lengthIn : ℕ → ℕ
+lengthIn a = a / 2 ^ 16 % 2 ^ 16
+
+abbrev pub edgeIn : ℕ → ℕ
+edgeIn a = a / 2 ^ 32 % 2
+
+abbrev pub turnsIn : ℕ → ℕ
+turnsIn a = a / 2 ^ 48 % 2 ^ 16
+
+-- the turns of a run: what stands behind the three numbers "only if it is not 0"
+unfoldable pub furtherText : ℕ → List ℕ
+furtherText n = cond (eqb n 0) [] (codes " " ++ decimal n)
+
+unfoldable pub answerText : ℕ → List ℕ
+answerText a =
+    decimal (numberIn a) ++ codes " " ++ decimal (lengthIn a) ++ codes " " ++ decimal (edgeIn a) ++ furtherText (turnsIn a) ++ codes "\n"
 
 -- "`interrupt high` or `interrupt low`"
 unfoldable pub interruptText : Bool → List ℕ

@@ -1,6 +1,5 @@
 // What the replay program prints (docs/replay.md), as text: numbers, answers, stretches of memory and faults, put one behind the other into a
 // slice. Each function answers where the next text goes. What would pass the slice's end goes nowhere, and the place stays at the end.
-use device::Answer;
 ghost use mathlib.Core.Path.{_≡_};
 ghost use mathlib.Core.List.{[], _∷_, _++_};
 ghost use Prim.Native.Nat.{_+_, _-_, _%_, min};
@@ -86,27 +85,28 @@ pub fn put_decimal(out: &mut [u8], at: usize, n: u64) -> usize
 
 // ---- answers
 
-// The interrupt's edge, and the line's end.
-fn put_edge(out: &mut [u8], at: usize, edge: bool) -> usize
-    ensures { λ r. ⌜ Puts (texts.edgeText edge) at (now (out .entry)) r (now (out .exit)) ⌝ }
+// A number behind others, unless it is 0.
+fn put_further(out: &mut [u8], at: usize, n: u64) -> usize
+    ensures { λ r. ⌜ Puts (texts.furtherText n) at (now (out .entry)) r (now (out .exit)) ⌝ }
 {
-    if edge {
-        return put_text(out, at, b"1\n");
+    if n == 0 {
+        return at;
     }
-    put_text(out, at, b"0\n")
+    let next = put_byte(out, at, b' ');
+    put_decimal(out, next, n)
 }
 
-// The line of an answer.
-pub fn put_answer(out: &mut [u8], at: usize, a: Answer) -> usize
-    ensures { λ r. ⌜ Puts (texts.answerText a) at (now (out .entry)) r (now (out .exit)) ⌝ }
+// The line of an answer, which is one number: refusal, length sent, edge and the turns of a run stand in it from bits 0, 16, 32 and 48 on.
+pub fn put_answer(out: &mut [u8], at: usize, answer: u64) -> usize
+    ensures { λ r. ⌜ Puts (texts.answerText answer) at (now (out .entry)) r (now (out .exit)) ⌝ }
 {
-    let refusal = a.number;
-    let number = device::refusal_number(refusal);
-    let first = put_decimal(out, at, number as u64);
+    let first = put_decimal(out, at, answer % 65536);
     let second = put_byte(out, first, b' ');
-    let third = put_decimal(out, second, a.length as u64);
+    let third = put_decimal(out, second, answer / 65536 % 65536);
     let fourth = put_byte(out, third, b' ');
-    put_edge(out, fourth, a.edge)
+    let fifth = put_decimal(out, fourth, answer / 4294967296 % 2);
+    let sixth = put_further(out, fifth, answer / 281474976710656 % 65536);
+    put_byte(out, sixth, b'\n')
 }
 
 // The line that shows the interrupt.
