@@ -1,16 +1,11 @@
 -- What the proofs of this room share: scenes that are what is said, turns one by one, the verbs as the code parts them. Assumes nothing.
 use mathlib.Core.Path.{_≡_, refl, ap, subst, _∙_}
-use mathlib.Core.Bool.{Bool, true, false, false≢true, true≢false}
+use mathlib.Core.Bool.{true, false, false≢true, true≢false}
 use mathlib.Core.List.{List, []}
 use Prim.Native.Nat.{ℕ, suc, _+_, _%_}
 use native.Mathlib.Omega.{arith}
-use lib.ListN.{replicate}
-use Rattle.device.specs.Limits.{recordSize}
-use Rattle.image.specs.Image.{stored}
-use Rattle.chip.specs.Call.{Call, turn}
-use Rattle.board.specs.declared.Board.{Board}
 use Rattle.board.specs.declared.Said.{Said}
-use Rattle.board.specs.Board.{Left, leftAs, Leaves, recordOf, recordIn, resized}
+use Rattle.board.specs.Board.{turn, Left, leftAs, Leaves, resized}
 use Rattle.wording.specs.declared.Line.{Line}
 use Rattle.wording.specs.declared.Verb.{Verb}
 use Rattle.wording.specs.declared.Verb.the-variants as verb
@@ -58,16 +53,6 @@ more-turns i report c p m h og o q m′ h′ og′ o′ e t =
     let n : suc i ≡ i + 1 = omega arith in
     subst (λ (k : ℕ). Plays (turnsOf k report c) q m′ h′ og′ o′) n (suc-turns i report c p m h og o q m′ h′ og′ o′ e t)
 
--- ---- the record in 256 bytes that were zeros
-
-record-by : (x : Bool) (b : Board) → b .made ≡ x → recordIn b (replicate recordSize 0) ≡ recordOf b
-unfolding recordIn recordOf stored
-record-by true b e = rw e
-record-by false b e = rw e
-
-pub record-zeros : (b : Board) → recordIn b (replicate recordSize 0) ≡ recordOf b
-record-zeros b = record-by (b .made) b refl
-
 -- ---- the verbs, parted as the code parts them
 
 pub by-call : (v : Verb) (l : Line) (own : List ℕ) (s : Scene) → isCall v ≡ true
@@ -79,6 +64,7 @@ by-call verb.Reset l own s e = refl
 by-call verb.Attention l own s e = refl
 by-call verb.Arrival l own s e = refl
 by-call verb.Turn l own s e = refl
+by-call verb.Run l own s e = refl
 by-call verb.Bytes l own s e = absurd (false≢true e)
 by-call verb.Words l own s e = absurd (false≢true e)
 by-call verb.Show l own s e = absurd (false≢true e)
@@ -95,6 +81,7 @@ by-write verb.Reset l own s e = absurd (false≢true e)
 by-write verb.Attention l own s e = absurd (false≢true e)
 by-write verb.Arrival l own s e = absurd (false≢true e)
 by-write verb.Turn l own s e = absurd (false≢true e)
+by-write verb.Run l own s e = absurd (false≢true e)
 by-write verb.Bytes l own s e = refl
 by-write verb.Words l own s e = refl
 by-write verb.Show l own s e = absurd (false≢true e)
@@ -114,6 +101,7 @@ by-size verb.Reset l own s e = absurd (false≢true e)
 by-size verb.Attention l own s e = absurd (false≢true e)
 by-size verb.Arrival l own s e = absurd (false≢true e)
 by-size verb.Turn l own s e = absurd (false≢true e)
+by-size verb.Run l own s e = absurd (false≢true e)
 by-size verb.Bytes l own s e = absurd (false≢true e)
 by-size verb.Words l own s e = absurd (false≢true e)
 by-size verb.Show l own s e = absurd (false≢true e)
@@ -137,6 +125,7 @@ by-text verb.Reset l own s e f g = absurd (true≢false e)
 by-text verb.Attention l own s e f g = absurd (true≢false e)
 by-text verb.Arrival l own s e f g = absurd (true≢false e)
 by-text verb.Turn l own s e f g = absurd (true≢false e)
+by-text verb.Run l own s e f g = absurd (true≢false e)
 by-text verb.Bytes l own s e f g = absurd (true≢false f)
 by-text verb.Words l own s e f g = absurd (true≢false f)
 by-text verb.Show l own s e f g = refl

@@ -6,12 +6,10 @@ use Prim.Native.Nat.{ℕ, zero, suc, _+_, _-_, _%_, min}
 use lib.Dec.{eqb}
 use lib.ListN.{length}
 use lib.Seq.{sets}
-use Rattle.scb.specs.Words.{anyOf}
 use Rattle.device.specs.Limits.{recordSize}
-use Rattle.chip.specs.Call.{Call, reset, attention, arrive, turn}
 use Rattle.board.specs.declared.Board.{Board}
 use Rattle.board.specs.declared.Said.{Said}
-use Rattle.board.specs.Board.{Left, onBoard, recordOf, resized}
+use Rattle.board.specs.Board.{Call, reset, attention, arrive, turn, run, Left, onBoard, resized, isHigh}
 use Rattle.wording.specs.declared.Area.{Area}
 use Rattle.wording.specs.declared.Area.the-variants as area
 use Rattle.wording.specs.declared.Line.{Line}
@@ -70,7 +68,7 @@ unfoldable pub turnsOf : ℕ → ℕ → Scene → Scene
 turnsOf zero report s = s
 turnsOf (suc n) report s = called (turn report) (turnsOf n report s)
 
--- "`turn`: a turn with the line report 0"; a count is below 65,536
+-- "`turn`: a turn with the line report 0"; a count is below 65,536, and a run says its budget
 abbrev pub turnCount : Line → ℕ
 turnCount l = cond (eqb (l .taken) 0) 1 (l .first % 65536)
 
@@ -116,7 +114,7 @@ looked area.Outgoing m h og place count = lookText og place count
 
 -- the record's 256 bytes
 unfoldable pub recordText : Board → List ℕ
-recordText b = showText (recordOf b) 0 recordSize
+recordText b = showText (b .kept .bytes) 0 recordSize
 
 -- the text and the line's end
 unfoldable pub sayText : List ℕ → List ℕ
@@ -136,11 +134,12 @@ obeyed verb.Reset l own s = called reset s
 obeyed verb.Attention l own s = called attention s
 obeyed verb.Arrival l own s = called (arrive own (l .first % many)) s
 obeyed verb.Turn l own s = turnsOf (turnCount l) (l .second % 65536) s
+obeyed verb.Run l own s = called (run (l .second % 65536) (turnCount l)) s
 obeyed verb.Bytes l own s = wrote l own s
 obeyed verb.Words l own s = wrote l own s
 obeyed verb.Show l own s = printed (shown (l .area) (s .memory) (s .holding) (s .outgoing) (l .first % many) (l .second % many)) s
 obeyed verb.Look l own s = printed (looked (l .area) (s .memory) (s .holding) (s .outgoing) (l .first % many) (l .second % many)) s
-obeyed verb.Interrupt l own s = printed (interruptText (anyOf (s .play .board .device .units .events))) s
+obeyed verb.Interrupt l own s = printed (interruptText (isHigh (s .play .board))) s
 obeyed verb.Record l own s = printed (recordText (s .play .board)) s
 obeyed verb.Say l own s = printed (sayText own) s
 
@@ -153,6 +152,7 @@ isCall verb.Reset = true
 isCall verb.Attention = true
 isCall verb.Arrival = true
 isCall verb.Turn = true
+isCall verb.Run = true
 isCall verb.Bytes = false
 isCall verb.Words = false
 isCall verb.Show = false
@@ -168,6 +168,7 @@ isWrite verb.Reset = false
 isWrite verb.Attention = false
 isWrite verb.Arrival = false
 isWrite verb.Turn = false
+isWrite verb.Run = false
 isWrite verb.Bytes = true
 isWrite verb.Words = true
 isWrite verb.Show = false
@@ -183,6 +184,7 @@ isSize verb.Reset = false
 isSize verb.Attention = false
 isSize verb.Arrival = false
 isSize verb.Turn = false
+isSize verb.Run = false
 isSize verb.Bytes = false
 isSize verb.Words = false
 isSize verb.Show = false
@@ -198,6 +200,7 @@ callBy verb.Reset own verdict count report s = called reset s
 callBy verb.Attention own verdict count report s = called attention s
 callBy verb.Arrival own verdict count report s = called (arrive own verdict) s
 callBy verb.Turn own verdict count report s = turnsOf count report s
+callBy verb.Run own verdict count report s = called (run report count) s
 callBy verb.Bytes own verdict count report s = s
 callBy verb.Words own verdict count report s = s
 callBy verb.Show own verdict count report s = s
@@ -213,10 +216,11 @@ textBy verb.Reset a b m h og own place count = []
 textBy verb.Attention a b m h og own place count = []
 textBy verb.Arrival a b m h og own place count = []
 textBy verb.Turn a b m h og own place count = []
+textBy verb.Run a b m h og own place count = []
 textBy verb.Bytes a b m h og own place count = []
 textBy verb.Words a b m h og own place count = []
 textBy verb.Show a b m h og own place count = shown a m h og place count
 textBy verb.Look a b m h og own place count = looked a m h og place count
-textBy verb.Interrupt a b m h og own place count = interruptText (anyOf (b .device .units .events))
+textBy verb.Interrupt a b m h og own place count = interruptText (isHigh b)
 textBy verb.Record a b m h og own place count = recordText b
 textBy verb.Say a b m h og own place count = sayText own

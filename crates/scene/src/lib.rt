@@ -8,7 +8,6 @@ use wording::Verb;
 ghost use mathlib.Core.Path.{_≡_};
 ghost use mathlib.Core.List.{List};
 ghost use Prim.Native.Nat.{ℕ};
-ghost use Rattle.chip.specs.Call as calls;
 ghost use Rattle.board.specs.Board as board;
 ghost use Rattle.texts.specs.Texts.{Puts};
 ghost use Rattle.scene.specs.Scene.{Plays};
@@ -37,14 +36,20 @@ fn tell(s: Said, out: &mut [u8], at: usize) -> Play
 }
 
 fn reset(p: Play, out: &mut [u8]) -> Play
-    ensures { λ r. ⌜ ((m h og : List ℕ) → Plays (scene.called calls.reset (scene.sceneOf p m h og (now (out .entry)))) r m h og (now (out .exit))) ⌝ }
+    ensures { λ r. ⌜ ((m h og : List ℕ) → Plays (scene.called board.reset (scene.sceneOf p m h og (now (out .entry)))) r m h og (now (out .exit))) ⌝ }
 {
     let b = p.board;
     tell(board::reset(b), out, p.at)
 }
 
-fn attend(p: Play, memory: &mut [u8], holding: &[u8], outgoing: &[u8], out: &mut [u8]) -> Play
-    ensures { λ r. ⌜ Plays (scene.called calls.attention (scene.sceneOf p (now (memory .entry)) (now (holding .entry)) (now (outgoing .entry)) (now (out .entry)))) r (now (memory .exit)) (now (holding .entry)) (now (outgoing .entry)) (now (out .exit)) ⌝ }
+fn attend(
+    p: Play,
+    memory: &mut [u8],
+    holding: &mut [u8],
+    outgoing: &mut [u8],
+    out: &mut [u8],
+) -> Play
+    ensures { λ r. ⌜ Plays (scene.called board.attention (scene.sceneOf p (now (memory .entry)) (now (holding .entry)) (now (outgoing .entry)) (now (out .entry)))) r (now (memory .exit)) (now (holding .exit)) (now (outgoing .exit)) (now (out .exit)) ⌝ }
 {
     let b = p.board;
     let s = board::attend(b, memory, holding, outgoing);
@@ -55,12 +60,12 @@ fn receive(
     p: Play,
     memory: &mut [u8],
     holding: &mut [u8],
-    outgoing: &[u8],
+    outgoing: &mut [u8],
     frame: &[u8],
     verdict: u32,
     out: &mut [u8],
 ) -> Play
-    ensures { λ r. ⌜ Plays (scene.called (calls.arrive (now (frame .entry)) verdict) (scene.sceneOf p (now (memory .entry)) (now (holding .entry)) (now (outgoing .entry)) (now (out .entry)))) r (now (memory .exit)) (now (holding .exit)) (now (outgoing .entry)) (now (out .exit)) ⌝ }
+    ensures { λ r. ⌜ Plays (scene.called (board.arrive (now (frame .entry)) verdict) (scene.sceneOf p (now (memory .entry)) (now (holding .entry)) (now (outgoing .entry)) (now (out .entry)))) r (now (memory .exit)) (now (holding .exit)) (now (outgoing .exit)) (now (out .exit)) ⌝ }
 {
     let b = p.board;
     let s = board::receive(b, memory, holding, outgoing, frame, verdict);
@@ -70,12 +75,12 @@ fn receive(
 fn turn(
     p: Play,
     memory: &mut [u8],
-    holding: &[u8],
+    holding: &mut [u8],
     outgoing: &mut [u8],
     report: u16,
     out: &mut [u8],
 ) -> Play
-    ensures { λ r. ⌜ Plays (scene.called (calls.turn report) (scene.sceneOf p (now (memory .entry)) (now (holding .entry)) (now (outgoing .entry)) (now (out .entry)))) r (now (memory .exit)) (now (holding .entry)) (now (outgoing .exit)) (now (out .exit)) ⌝ }
+    ensures { λ r. ⌜ Plays (scene.called (board.turn report) (scene.sceneOf p (now (memory .entry)) (now (holding .entry)) (now (outgoing .entry)) (now (out .entry)))) r (now (memory .exit)) (now (holding .exit)) (now (outgoing .exit)) (now (out .exit)) ⌝ }
 {
     let b = p.board;
     let s = board::turn(b, memory, holding, outgoing, report);
@@ -86,13 +91,13 @@ fn turn(
 fn turns(
     p: Play,
     memory: &mut [u8],
-    holding: &[u8],
+    holding: &mut [u8],
     outgoing: &mut [u8],
     count: u16,
     report: u16,
     out: &mut [u8],
 ) -> Play
-    ensures { λ r. ⌜ Plays (scene.turnsOf count report (scene.sceneOf p (now (memory .entry)) (now (holding .entry)) (now (outgoing .entry)) (now (out .entry)))) r (now (memory .exit)) (now (holding .entry)) (now (outgoing .exit)) (now (out .exit)) ⌝ }
+    ensures { λ r. ⌜ Plays (scene.turnsOf count report (scene.sceneOf p (now (memory .entry)) (now (holding .entry)) (now (outgoing .entry)) (now (out .entry)))) r (now (memory .exit)) (now (holding .exit)) (now (outgoing .exit)) (now (out .exit)) ⌝ }
 {
     let mut q = p;
     let mut i: u16 = 0;
@@ -103,7 +108,24 @@ fn turns(
     q
 }
 
-// How many turns a line asks for: one, if it does not say.
+// A run of turns, each with the same report.
+fn run(
+    p: Play,
+    memory: &mut [u8],
+    holding: &mut [u8],
+    outgoing: &mut [u8],
+    budget: u16,
+    report: u16,
+    out: &mut [u8],
+) -> Play
+    ensures { λ r. ⌜ Plays (scene.called (board.run report budget) (scene.sceneOf p (now (memory .entry)) (now (holding .entry)) (now (outgoing .entry)) (now (out .entry)))) r (now (memory .exit)) (now (holding .exit)) (now (outgoing .exit)) (now (out .exit)) ⌝ }
+{
+    let b = p.board;
+    let s = board::run(b, memory, holding, outgoing, report, budget);
+    tell(s, out, p.at)
+}
+
+// How many turns a line asks for, each for itself or as a run: one, if it does not say.
 fn turn_count(line: Line) -> u16
     ensures { λ r. ⌜ r ≡ scene.turnCount line ⌝ }
 {
@@ -172,9 +194,9 @@ fn look(
 fn show_record(b: Board, out: &mut [u8], at: usize) -> usize
     ensures { λ r. ⌜ Puts (scene.recordText b) at (now (out .entry)) r (now (out .exit)) ⌝ }
 {
-    let mut image = [0; 256];
-    board::record_to(b, &mut image);
-    texts::put_bytes(out, at, &image, 0, 256)
+    let kept = b.kept;
+    let bytes = kept.bytes;
+    texts::put_bytes(out, at, &bytes, 0, 256)
 }
 
 fn say(own: &[u8], out: &mut [u8], at: usize) -> usize
@@ -195,6 +217,7 @@ fn is_call(verb: Verb) -> bool
         Verb::Attention => true,
         Verb::Arrival => true,
         Verb::Turn => true,
+        Verb::Run => true,
         Verb::Bytes => false,
         Verb::Words => false,
         Verb::Show => false,
@@ -216,6 +239,7 @@ fn is_write(verb: Verb) -> bool
         Verb::Attention => false,
         Verb::Arrival => false,
         Verb::Turn => false,
+        Verb::Run => false,
         Verb::Bytes => true,
         Verb::Words => true,
         Verb::Show => false,
@@ -237,6 +261,7 @@ fn is_size(verb: Verb) -> bool
         Verb::Attention => false,
         Verb::Arrival => false,
         Verb::Turn => false,
+        Verb::Run => false,
         Verb::Bytes => false,
         Verb::Words => false,
         Verb::Show => false,
@@ -247,7 +272,7 @@ fn is_size(verb: Verb) -> bool
     }
 }
 
-// A line that makes a call: reset, attention, arrival, or turns.
+// A line that makes a call: reset, attention, arrival, turns or a run of them.
 fn call(
     verb: Verb,
     p: Play,
@@ -269,6 +294,7 @@ fn call(
         Verb::Attention => attend(p, memory, holding, outgoing, out),
         Verb::Arrival => receive(p, memory, holding, outgoing, own, verdict, out),
         Verb::Turn => turns(p, memory, holding, outgoing, count, report, out),
+        Verb::Run => run(p, memory, holding, outgoing, count, report, out),
         Verb::Bytes => p,
         Verb::Words => p,
         Verb::Show => p,
@@ -302,6 +328,7 @@ fn print(
         Verb::Attention => at,
         Verb::Arrival => at,
         Verb::Turn => at,
+        Verb::Run => at,
         Verb::Bytes => at,
         Verb::Words => at,
         Verb::Show => show(area, memory, holding, outgoing, place, count, out, at),

@@ -14,4 +14,6 @@ attend-spec =
     (λ c κs. search needs)
     (λ c. search needs)
     (λ c. search needs)
-    (λ c. told _ _ _ _ _ _ _ _ _ (c .before .before .before .before .before .before .attend .ensures) (c .before .before .tell .ensures _ _ _)))
+    (λ c. search needs)
+    (λ c. search needs)
+    (λ c. told _ _ _ _ _ _ _ _ _ (c .before .before .before .before .before .before .before .before .before .before .attend .ensures) (c .before .before .tell .ensures _ _ _)))

@@ -15,4 +15,5 @@ receive-spec =
     (λ c. search needs)
     (λ c. search needs)
     (λ c. search needs)
-    (λ c. told _ _ _ _ _ _ _ _ _ (c .before .before .before .before .before .before .before .before .receive .ensures) (c .before .before .tell .ensures _ _ _)))
+    (λ c. search needs)
+    (λ c. told _ _ _ _ _ _ _ _ _ (c .before .before .before .before .before .before .before .before .before .before .receive .ensures) (c .before .before .tell .ensures _ _ _)))

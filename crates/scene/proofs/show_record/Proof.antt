@@ -1,6 +1,5 @@
 -- `scene::show_record` meets its contract. Assumes nothing.
 use Rattle.scene.specs.Scene.{recordText}
-use Rattle.scene.proofs.Laws.{record-zeros}
 use borrow.Author.Needs.{needs}
 use Rattle.scene.proofs.show_record.Statement.{statement}
 use Rattle.scene.proofs.show_record.Tie as tie
@@ -13,6 +12,4 @@ show-record-spec =
     (λ c. search needs)
     (λ c κs. search needs)
     (λ c. search needs)
-    (λ c κs. search needs)
-    (λ c. search needs)
-    (λ c. rw (← record-zeros (c .before .before .before .before .before .before .before .before .before .args .b), ← c .before .before .before .before .before .before .record-to .ensures) (c .before .before .put-bytes .ensures)))
+    (λ c. search needs))
