@@ -2,7 +2,7 @@
 use mathlib.Core.Path.{_≡_, refl, sym, ap, subst, _∙_}
 use mathlib.Core.Bool.{Bool, true, false, cond}
 use mathlib.Core.List.{List, [], _∷_, _++_}
-use Prim.Native.Nat.{ℕ, zero, suc, _+_, _<_, min}
+use Prim.Native.Nat.{ℕ, zero, suc, _+_, _<_}
 use native.Mathlib.Omega.{arith}
 use borrow.Author.Tests.{eq-eqb, ne-eqb}
 use lib.Dec.{eqb}
@@ -28,16 +28,7 @@ state-is t s m h og by o e =
       out = e .out i;
     }
 
--- ---- the bytes that a line brought
-
-pub take-min : (n : ℕ) (xs : List ℕ) → take (min n (length xs)) xs ≡ take n xs
-take-min zero xs =
-    let e : min 0 (length xs) ≡ 0 = omega arith in ap (λ (k : ℕ). take k xs) e
-take-min (suc n) [] =
-    let e : min (suc n) 0 ≡ 0 = omega arith in ap (λ (k : ℕ). take k []) e
-take-min (suc n) (x ∷ xs) =
-    let e : min (suc n) (suc (length xs)) ≡ suc (min n (length xs)) = omega arith in
-    ap (λ (k : ℕ). take k (x ∷ xs)) e ∙ ap (λ (ys : List ℕ). x ∷ ys) (take-min n xs)
+-- ---- a right line
 
 -- a line that was obeyed
 pub line-done : (s : Session) (l : Line) (m h og by out own : List ℕ) (p : Play) (q : Play) (m′ h′ og′ o′ : List ℕ) (r : Session)

@@ -4,8 +4,8 @@ use mathlib.Core.List.{List}
 use Prim.Native.Nat.{ℕ}
 use native.Mathlib.Omega.{arith}
 use lib.ListN.{take}
-use Rattle.board.proofs.Fits.{taken}
-use Rattle.session.proofs.Laws.{take-min, line-done}
+use Rattle.board.proofs.Laws.{taken, take-least}
+use Rattle.session.proofs.Laws.{line-done}
 use borrow.Author.Needs.{needs}
 use Rattle.session.proofs.obey_line.Statement.{statement}
 use Rattle.session.proofs.obey_line.Tie as tie
@@ -23,4 +23,4 @@ obey-line-spec =
     (λ c. search needs)
     (λ c. search needs)
     (λ c. search needs)
-    (λ c. line-done _ _ _ _ _ _ _ _ _ _ _ _ _ _ _ (ap (λ (k : ℕ). take k (c .before .before .before .before .before .before .before .before .before .before .before .before .before .before .before .before .before .before .before .before .before .before .before .args .bytes .now)) (c .before .before .before .before .before .before .before .before .before .before .before .before .before .before .before .before .own-length .ensures) ∙ take-min (c .before .before .before .before .before .before .before .before .before .before .before .before .before .before .before .before .before .before .before .before .before .before .before .args .line .filled) (c .before .before .before .before .before .before .before .before .before .before .before .before .before .before .before .before .before .before .before .before .before .before .before .args .bytes .now)) (c .before .before .before .before .before .before .before .before .before .before .before .before .before .before .before .play-of .ensures) (c .before .before .before .before .before .before .before .before .before .obey .ensures) (c .next-line .ensures)))
+    (λ c. line-done _ _ _ _ _ _ _ _ _ _ _ _ _ _ _ (ap (λ (k : ℕ). take k (c .before .before .before .before .before .before .before .before .before .before .before .before .before .before .before .before .before .before .before .before .before .before .before .args .bytes .now)) (c .before .before .before .before .before .before .before .before .before .before .before .before .before .before .before .before .own-length .ensures) ∙ take-least (c .before .before .before .before .before .before .before .before .before .before .before .before .before .before .before .before .before .before .before .before .before .before .before .args .line .filled) (c .before .before .before .before .before .before .before .before .before .before .before .before .before .before .before .before .before .before .before .before .before .before .before .args .bytes .now)) (c .before .before .before .before .before .before .before .before .before .before .before .before .before .before .before .play-of .ensures) (c .before .before .before .before .before .before .before .before .before .obey .ensures) (c .next-line .ensures)))
