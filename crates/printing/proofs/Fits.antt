@@ -1,5 +1,5 @@
--- One line always fits: what a right line prints in a sound scene has at most 655,350 characters, `line-fits`. Most are printed by
--- `turn 65535`. No contract cites this file. Assumes nothing.
+-- One line always fits: what a right line prints has at most 1,310,700 characters, `line-fits`. Most could be printed by `turn 65535`: as
+-- many answers, of which none has more than 20. No contract cites this file. Assumes nothing.
 use mathlib.Core.Path.{_≡_}
 use mathlib.Core.Bool.{Bool, true, false, cond}
 use mathlib.Core.List.{List, [], _∷_}
@@ -9,11 +9,8 @@ use native.Mathlib.Omega.{arith}
 use borrow.Author.Tests.{leb-true}
 use lib.Dec.{eqb}
 use lib.ListN.{length, length-append}
-use Rattle.memory.proofs.Bytes.{Bytes}
-use Rattle.chip.specs.Call.{Call, reset, attention, arrive, turn}
-use Rattle.closure.specs.Sound.{Fit}
 use Rattle.device.specs.Limits.{recordSize}
-use Rattle.board.specs.Board.{onBoard, recordOf}
+use Rattle.board.specs.Board.{Call, reset, attention, arrive, turn, run, onBoard}
 use Rattle.board.specs.declared.Board.{Board}
 use Rattle.wording.specs.Names.{sizeOf}
 use Rattle.wording.specs.Lines.{hasRoom, fits}
@@ -26,23 +23,19 @@ use Rattle.texts.specs.Texts.{each, showLine, lookLine, showText, lookText, int
 use Rattle.texts.proofs.Lengths.{length-answer, length-show-line, length-look-line}
 use Rattle.scene.specs.Scene.{Scene, turnsOf, turnCount, shown, looked, recordText, sayText, many}
 use Rattle.printing.specs.Line.{callText, turnsText, lineText}
-use Rattle.printing.specs.Sound.{SoundIn}
-use Rattle.printing.proofs.Sound.{called-short, turns-sound}
 
 -- ---- calls
 
-call-fits : (c : Call) (s : Scene) → Fit c → SoundIn s → length (callText c s) ≤ 10
+call-fits : (c : Call) (s : Scene) → length (callText c s) ≤ 20
 unfolding callText
-call-fits c s f h =
-    let l = called-short c s f h in
-    length-answer (onBoard c (s .play .board) (s .memory) (s .holding) (s .outgoing) .said .answer) (omega arith)
+call-fits c s = length-answer (onBoard c (s .play .board) (s .memory) (s .holding) (s .outgoing) .said .answer)
 
-turns-fit : (n report : ℕ) (s : Scene) → SoundIn s → length (turnsText n report s) ≤ 10 * n
+turns-fit : (n report : ℕ) (s : Scene) → length (turnsText n report s) ≤ 20 * n
 unfolding turnsText
-turns-fit zero report s h = omega arith
-turns-fit (suc n) report s h =
-    let a : length (turnsText n report s) ≤ 10 * n = turns-fit n report s h in
-    let b : length (callText (turn report) (turnsOf n report s)) ≤ 10 = call-fits (turn report) (turnsOf n report s) tt (turns-sound n report s h) in
+turns-fit zero report s = omega arith
+turns-fit (suc n) report s =
+    let a : length (turnsText n report s) ≤ 20 * n = turns-fit n report s in
+    let b : length (callText (turn report) (turnsOf n report s)) ≤ 20 = call-fits (turn report) (turnsOf n report s) in
     rw (length-append (turnsText n report s) (callText (turn report) (turnsOf n report s))) (omega arith)
 
 count-by : (x : Bool) (n : ℕ) → cond x 1 (n % 65536) ≤ 65535
@@ -76,23 +69,23 @@ look-fits area place n h =
     (λ k. rw (length-look-line area (place + 16 * k) (min 8 (n - 8 * k))) (omega arith)) in
     omega arith
 
-shown-fits : (a : Area) (m h og : List ℕ) (place n : ℕ) → n ≤ 65536 → length (shown a m h og place n) ≤ 655350
+shown-fits : (a : Area) (m h og : List ℕ) (place n : ℕ) → n ≤ 65536 → length (shown a m h og place n) ≤ 1310700
 unfolding shown
 shown-fits area.Memory m h og place n p = omega (arith, show-fits m place n p)
 shown-fits area.Holding m h og place n p = omega (arith, show-fits h place n p)
 shown-fits area.Outgoing m h og place n p = omega (arith, show-fits og place n p)
 
-looked-fits : (a : Area) (m h og : List ℕ) (place n : ℕ) → n ≤ 65536 → length (looked a m h og place n) ≤ 655350
+looked-fits : (a : Area) (m h og : List ℕ) (place n : ℕ) → n ≤ 65536 → length (looked a m h og place n) ≤ 1310700
 unfolding looked
 looked-fits area.Memory m h og place n p = omega (arith, look-fits m place n p)
 looked-fits area.Holding m h og place n p = omega (arith, look-fits h place n p)
 looked-fits area.Outgoing m h og place n p = omega (arith, look-fits og place n p)
 
-record-fits : (b : Board) → length (recordText b) ≤ 655350
+record-fits : (b : Board) → length (recordText b) ≤ 1310700
 unfolding recordText
-record-fits b = omega (arith, show-fits (recordOf b) 0 recordSize (omega arith))
+record-fits b = omega (arith, show-fits (b .kept .bytes) 0 recordSize (omega arith))
 
-interrupt-fits : (high : Bool) → length (interruptText high) ≤ 655350
+interrupt-fits : (high : Bool) → length (interruptText high) ≤ 1310700
 unfolding interruptText
 interrupt-fits true = omega arith
 interrupt-fits false = omega arith
@@ -111,28 +104,29 @@ room a place n e =
     let q : sizeOf a ≤ 65536 = most-size a in
     omega arith
 
-pub line-fits : (v : Verb) (l : Line) (own : List ℕ) (s : Scene) → SoundIn s → Bytes own → length own ≤ 65536 → fits v l (sizeOf (l .area)) ≡ true
-    → length (lineText v l own s) ≤ 655350
+pub line-fits : (v : Verb) (l : Line) (own : List ℕ) (s : Scene) → length own ≤ 65536 → fits v l (sizeOf (l .area)) ≡ true
+    → length (lineText v l own s) ≤ 1310700
 unfolding lineText sayText
-line-fits verb.Nothing l own s h p n f = omega arith
-line-fits verb.Size l own s h p n f = omega arith
-line-fits verb.Reset l own s h p n f = omega (arith, call-fits reset s tt h)
-line-fits verb.Attention l own s h p n f = omega (arith, call-fits attention s tt h)
-line-fits verb.Arrival l own s h p n f = omega (arith, call-fits (arrive own (l .first % many)) s p h)
-line-fits verb.Turn l own s h p n f =
+line-fits verb.Nothing l own s n f = omega arith
+line-fits verb.Size l own s n f = omega arith
+line-fits verb.Reset l own s n f = omega (arith, call-fits reset s)
+line-fits verb.Attention l own s n f = omega (arith, call-fits attention s)
+line-fits verb.Arrival l own s n f = omega (arith, call-fits (arrive own (l .first % many)) s)
+line-fits verb.Turn l own s n f =
     let k : turnCount l ≤ 65535 = count-by (eqb (l .taken) 0) (l .first) in
-    let a : length (turnsText (turnCount l) (l .second % 65536) s) ≤ 10 * turnCount l = turns-fit (turnCount l) (l .second % 65536) s h in
+    let a : length (turnsText (turnCount l) (l .second % 65536) s) ≤ 20 * turnCount l = turns-fit (turnCount l) (l .second % 65536) s in
     omega arith
-line-fits verb.Bytes l own s h p n f = omega arith
-line-fits verb.Words l own s h p n f = omega arith
-line-fits verb.Show l own s h p n f =
+line-fits verb.Run l own s n f = omega (arith, call-fits (run (l .second % 65536) (turnCount l)) s)
+line-fits verb.Bytes l own s n f = omega arith
+line-fits verb.Words l own s n f = omega arith
+line-fits verb.Show l own s n f =
     let k : l .second ≤ 65536 = room (l .area) (l .first) (l .second) f in
     let q : l .second % many ≤ 65536 = omega arith in
     shown-fits (l .area) _ _ _ _ _ q
-line-fits verb.Look l own s h p n f =
+line-fits verb.Look l own s n f =
     let k : min (l .second) many * 2 ≤ 65536 = room (l .area) (l .first) (min (l .second) many * 2) f in
     let q : l .second % many ≤ 65536 = omega arith in
     looked-fits (l .area) _ _ _ _ _ q
-line-fits verb.Interrupt l own s h p n f = interrupt-fits _
-line-fits verb.Record l own s h p n f = record-fits (s .play .board)
-line-fits verb.Say l own s h p n f = rw (length-append own (10 ∷ [])) (omega arith)
+line-fits verb.Interrupt l own s n f = interrupt-fits _
+line-fits verb.Record l own s n f = record-fits (s .play .board)
+line-fits verb.Say l own s n f = rw (length-append own (10 ∷ [])) (omega arith)

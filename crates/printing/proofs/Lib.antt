@@ -1,7 +1,6 @@
--- A line prints its text (Line), which fits (Sound, Fits, Reading); a run prints the same however its input is cut (Run); what the program
+-- A line prints its text (Line), which fits (Fits, Reading); a run prints the same however its input is cut (Run); what the program
 -- prints in all (Whole), and where it cuts (Cuts).
 pub mod Line
-pub mod Sound
 pub mod Fits
 pub mod Reading
 pub mod Run

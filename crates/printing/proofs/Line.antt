@@ -3,7 +3,7 @@
 use mathlib.Core.Path.{_≡_, refl, sym, ap, _∙_}
 use mathlib.Core.List.{List, _++_}
 use Prim.Native.Nat.{ℕ, zero, suc, _%_}
-use Rattle.chip.specs.Call.{Call, reset, attention, turn}
+use Rattle.board.specs.Board.{Call, reset, attention, turn}
 use Rattle.wording.specs.declared.Line.{Line}
 use Rattle.wording.specs.declared.Verb.{Verb}
 use Rattle.wording.specs.declared.Verb.the-variants as verb
@@ -33,6 +33,7 @@ obeyed-puts verb.Reset l own s = called-puts reset s
 obeyed-puts verb.Attention l own s = called-puts attention s
 obeyed-puts verb.Arrival l own s = called-puts _ s
 obeyed-puts verb.Turn l own s = turns-puts (turnCount l) (l .second % 65536) s
+obeyed-puts verb.Run l own s = called-puts _ s
 obeyed-puts verb.Bytes l own s = puts-none _ _
 obeyed-puts verb.Words l own s = puts-none _ _
 obeyed-puts verb.Show l own s = record { next = refl; bytes = refl }
@@ -64,6 +65,7 @@ quiet-obeyed verb.Reset l own s = quiet-called reset s
 quiet-obeyed verb.Attention l own s = quiet-called attention s
 quiet-obeyed verb.Arrival l own s = quiet-called _ s
 quiet-obeyed verb.Turn l own s = quiet-turns (turnCount l) (l .second % 65536) s
+quiet-obeyed verb.Run l own s = quiet-called _ s
 quiet-obeyed verb.Bytes l own s = refl
 quiet-obeyed verb.Words l own s = refl
 quiet-obeyed verb.Show l own s = refl
@@ -94,6 +96,7 @@ text-quiet verb.Reset l own s = call-quiet reset s
 text-quiet verb.Attention l own s = call-quiet attention s
 text-quiet verb.Arrival l own s = call-quiet _ s
 text-quiet verb.Turn l own s = turns-quiet (turnCount l) (l .second % 65536) s
+text-quiet verb.Run l own s = call-quiet _ s
 text-quiet verb.Bytes l own s = refl
 text-quiet verb.Words l own s = refl
 text-quiet verb.Show l own s = refl

@@ -1,4 +1,4 @@
--- A reader's numbers stay small and what it brings are bytes: `read-narrow`, `end-narrow`; and a line that is right shows what lies in its
+-- A reader's numbers stay small, and so does what it brings: `read-narrow`, `end-narrow`; and a line that is right shows what lies in its
 -- area: `end-fits`. No contract cites this file. Assumes nothing.
 use mathlib.Core.Path.{_≡_, refl, sym, _∙_}
 use mathlib.Core.Bool.{Bool, true, false, cond, false≢true, _&&_}
@@ -8,7 +8,6 @@ use native.Mathlib.Omega.{arith}
 use lib.Dec.{eqb, ltb}
 use lib.ListN.{length, set, replicate, length-set}
 use lib.Seq.{sets, length-sets}
-use Rattle.memory.proofs.Bytes.{Bytes, bytes-nil, bytes-cons, set-bytes}
 use Rattle.wording.specs.Chars.{blank, hash, digit}
 use Rattle.wording.specs.Names.{verbOf, areaOf, sizeOf}
 use Rattle.wording.specs.Words.{many, numberOf, noPiece, joined, afterCount, withOther, withDigit, morePiece, storeDigit, store, moreWord}
@@ -35,84 +34,26 @@ use Rattle.lines.specs.declared.Part.{Part}
 use Rattle.lines.specs.declared.Part.the-variants as part
 use Rattle.lines.specs.declared.Reader.{Reader}
 use Rattle.lines.specs.Reader as lines
-use Rattle.printing.specs.Sound.{Narrow}
-use Rattle.printing.proofs.Sound.{sets-bytes}
+use Rattle.printing.specs.Sane.{Narrow}
 
--- ---- digits and pieces
+-- ---- what is brought is at most so long
 
-lt-if : (x : Bool) (a b : ℕ) → a < 256 → b < 256 → cond x a b < 256
-lt-if true a b p q = p
-lt-if false a b p q = q
-
-digit-byte : (c : ℕ) → c < 256 → digit c < 256
-unfolding digit
-digit-byte c h =
-    lt-if (ltb c 48) _ _ (omega arith)
-    (lt-if (ltb c 58) _ _ (omega arith)
-    (lt-if (ltb c 65) _ _ (omega arith)
-    (lt-if (ltb c 71) _ _ (omega arith)
-    (lt-if (ltb c 97) _ _ (omega arith) (lt-if (ltb c 103) _ _ (omega arith) (omega arith))))))
-
-half-if : (x : Bool) (a b : Piece) → a .half < 256 → b .half < 256 → cond x a b .half < 256
-half-if true a b p q = p
-half-if false a b p q = q
-
-joined-byte : (x y : ℕ) → joined x y < 256
-joined-byte x y = omega arith
-
-digit-half : (s : Stage) (p : Piece) (d : ℕ) → d < 256 → withDigit s p d .half < 256
-digit-half stage.High p d h = h
-digit-half stage.Low p d h = omega arith
-digit-half stage.TimesHigh p d h = h
-digit-half stage.TimesLow p d h = joined-byte (p .half) d
-digit-half stage.Times p d h = omega arith
-digit-half stage.Bad p d h = omega arith
-
-count-half : (n : Digits) (c : ℕ) → afterCount n c .half < 256
-unfolding afterCount
-count-half n c = half-if (eqb c 120 && n .any && n .tens) _ _ (omega arith) (omega arith)
-
-other-half : (s : Stage) (n : Digits) (c : ℕ) → withOther s n c .half < 256
-other-half stage.High n c = count-half n c
-other-half stage.Low n c = count-half n c
-other-half stage.TimesHigh n c = omega arith
-other-half stage.TimesLow n c = omega arith
-other-half stage.Times n c = omega arith
-other-half stage.Bad n c = omega arith
-
-piece-half : (p : Piece) (n : Digits) (c : ℕ) → c < 256 → morePiece p n c .half < 256
-unfolding morePiece
-piece-half p n c h = half-if (ltb (digit c) 16) _ _ (digit-half (p .stage) p (digit c) (digit-byte c h)) (other-half (p .stage) n c)
-
--- ---- bytes that are brought, at most so many
-
-record Brought (by : List ℕ) : Type 0 where
-  bytes : Bytes by
-  most : length by ≤ 65536
+abbrev Brought : List ℕ → Type 0
+Brought by = length by ≤ 65536
 
 brought-if : (x : Bool) (a b : List ℕ) → Brought a → Brought b → Brought (cond x a b)
 brought-if true a b p q = p
 brought-if false a b p q = q
 
-set-brought : (by : List ℕ) (i v : ℕ) → v < 256 → Brought by → Brought (set by i v)
-set-brought by i v h b =
-    let l : length (set by i v) ≡ length by = length-set by i v in
-    let m : length by ≤ 65536 = b .most in
-    record { bytes = set-bytes by i v (b .bytes) h; most = omega arith }
+set-brought : (by : List ℕ) (i v : ℕ) → Brought by → Brought (set by i v)
+set-brought by i v b = rw (length-set by i v) b
 
-replicate-bytes : (n v : ℕ) → v < 256 → Bytes (replicate n v)
-replicate-bytes zero v h = bytes-nil
-replicate-bytes (suc n) v h = bytes-cons v (replicate n v) h (replicate-bytes n v h)
-
-sets-brought : (by : List ℕ) (i n v : ℕ) → v < 256 → Brought by → Brought (sets by i (replicate n v))
-sets-brought by i n v h b =
-    let l : length (sets by i (replicate n v)) ≡ length by = length-sets by i (replicate n v) in
-    let m : length by ≤ 65536 = b .most in
-    record { bytes = sets-bytes by i (replicate n v) (b .bytes) (replicate-bytes n v h); most = omega arith }
+sets-brought : (by : List ℕ) (i n v : ℕ) → Brought by → Brought (sets by i (replicate n v))
+sets-brought by i n v b = rw (length-sets by i (replicate n v)) b
 
 store-by : (s : Stage) (i high d : ℕ) (by : List ℕ) → Brought by → Brought (storeDigit s i high d by)
 store-by stage.High i high d by b = b
-store-by stage.Low i high d by b = set-brought by i (joined high d) (joined-byte high d) b
+store-by stage.Low i high d by b = set-brought by i (joined high d) b
 store-by stage.TimesHigh i high d by b = b
 store-by stage.TimesLow i high d by b = b
 store-by stage.Times i high d by b = b
@@ -165,20 +106,20 @@ fine-if : (x : Bool) (a b : Took) → Fine a → Fine b → Fine (cond x a b)
 fine-if true a b p q = p
 fine-if false a b p q = q
 
-bytes-fine : (s : Stage) (p : Piece) (l : Line) (k : ℕ) (by : List ℕ) → p .half < 256 → l .placed < 2147483648 → k < 2147483648 → Brought by
+bytes-fine : (s : Stage) (p : Piece) (l : Line) (k : ℕ) (by : List ℕ) → l .placed < 2147483648 → k < 2147483648 → Brought by
     → Fine (takeBytes s p l k by)
 unfolding takeBytes
-bytes-fine stage.High p l k by h m q b = record { small = record { placed = m; fault = omega arith }; brought = b }
-bytes-fine stage.Low p l k by h m q b = record { small = record { placed = m; fault = q }; brought = b }
-bytes-fine stage.TimesHigh p l k by h m q b = record { small = record { placed = m; fault = q }; brought = b }
-bytes-fine stage.TimesLow p l k by h m q b = record { small = record { placed = m; fault = q }; brought = b }
-bytes-fine stage.Times p l k by h m q b =
-    record { small = record { placed = m; fault = omega arith }; brought = sets-brought by (l .filled) (p .times) (p .half) h b }
-bytes-fine stage.Bad p l k by h m q b = record { small = record { placed = m; fault = q }; brought = b }
+bytes-fine stage.High p l k by m q b = record { small = record { placed = m; fault = omega arith }; brought = b }
+bytes-fine stage.Low p l k by m q b = record { small = record { placed = m; fault = q }; brought = b }
+bytes-fine stage.TimesHigh p l k by m q b = record { small = record { placed = m; fault = q }; brought = b }
+bytes-fine stage.TimesLow p l k by m q b = record { small = record { placed = m; fault = q }; brought = b }
+bytes-fine stage.Times p l k by m q b =
+    record { small = record { placed = m; fault = omega arith }; brought = sets-brought by (l .filled) (p .times) (p .half) b }
+bytes-fine stage.Bad p l k by m q b = record { small = record { placed = m; fault = q }; brought = b }
 
 value-brought : (i n : ℕ) (by : List ℕ) → Brought by → Brought (putValue i n by)
 unfolding putValue
-value-brought i n by b = set-brought (set by i (n % 256)) (i + 1) (n / 256 % 256) (omega arith) (set-brought by i (n % 256) (omega arith) b)
+value-brought i n by b = set-brought (set by i (n % 256)) (i + 1) (n / 256 % 256) (set-brought by i (n % 256) b)
 
 value-fine : (f : Found) (l : Line) (k : ℕ) (by : List ℕ) → l .placed < 2147483648 → k < 2147483648 → Brought by → Fine (takeValue f l k by)
 unfolding takeValue
@@ -187,33 +128,31 @@ value-fine (found.Number n) l k by m q b =
     (record { small = record { placed = m; fault = q }; brought = b })
 value-fine found.Other l k by m q b = record { small = record { placed = m; fault = q }; brought = b }
 
-word-fine : (w : Want) (l : Line) (d : Word) (by : List ℕ) → d .piece .half < 256 → l .placed < 2147483648 → d .start < 2147483648 → Brought by
+word-fine : (w : Want) (l : Line) (d : Word) (by : List ℕ) → l .placed < 2147483648 → d .start < 2147483648 → Brought by
     → Fine (takeWord w l d by)
 unfolding takeWord
-word-fine want.First l d by h m q b = record { small = verb-small (verbOf (d .letters)) l (d .start) m q; brought = b }
-word-fine want.Size l d by h m q b = record { small = number-small (numberOf (d .digits)) l (d .start) 65537 wrong.Size m q; brought = b }
-word-fine want.Short l d by h m q b = record { small = number-small (numberOf (d .digits)) l (d .start) 65536 wrong.Short m q; brought = b }
-word-fine want.Number l d by h m q b = record { small = number-small (numberOf (d .digits)) l (d .start) many wrong.Number m q; brought = b }
-word-fine want.Area l d by h m q b = record { small = area-small (areaOf (d .letters)) l (d .start) m q; brought = b }
-word-fine want.Place l d by h m q b = record { small = place-small (numberOf (d .digits)) l (d .start) (sizeOf (l .area)) m q; brought = b }
-word-fine want.Bytes l d by h m q b = bytes-fine (d .piece .stage) (d .piece) l (d .start) by h m q b
-word-fine want.Value l d by h m q b = value-fine (numberOf (d .digits)) l (d .start) by m q b
-word-fine want.Text l d by h m q b = record { small = record { placed = m; fault = q }; brought = b }
-word-fine want.End l d by h m q b = record { small = record { placed = m; fault = q }; brought = b }
+word-fine want.First l d by m q b = record { small = verb-small (verbOf (d .letters)) l (d .start) m q; brought = b }
+word-fine want.Size l d by m q b = record { small = number-small (numberOf (d .digits)) l (d .start) 65537 wrong.Size m q; brought = b }
+word-fine want.Short l d by m q b = record { small = number-small (numberOf (d .digits)) l (d .start) 65536 wrong.Short m q; brought = b }
+word-fine want.Number l d by m q b = record { small = number-small (numberOf (d .digits)) l (d .start) many wrong.Number m q; brought = b }
+word-fine want.Area l d by m q b = record { small = area-small (areaOf (d .letters)) l (d .start) m q; brought = b }
+word-fine want.Place l d by m q b = record { small = place-small (numberOf (d .digits)) l (d .start) (sizeOf (l .area)) m q; brought = b }
+word-fine want.Bytes l d by m q b = bytes-fine (d .piece .stage) (d .piece) l (d .start) by m q b
+word-fine want.Value l d by m q b = value-fine (numberOf (d .digits)) l (d .start) by m q b
+word-fine want.Text l d by m q b = record { small = record { placed = m; fault = q }; brought = b }
+word-fine want.End l d by m q b = record { small = record { placed = m; fault = q }; brought = b }
 
 -- ---- a reader
 
-pub start-narrow : (by : List ℕ) → Bytes by → length by ≤ 65536 → Narrow (lines.left lines.start by)
+pub start-narrow : (by : List ℕ) → length by ≤ 65536 → Narrow (lines.left lines.start by)
 unfolding lines.start
-start-narrow by b m =
+start-narrow by m =
     record {
       column = omega arith;
       behind = omega arith;
       start = omega arith;
       placed = omega arith;
       fault = omega arith;
-      half = omega arith;
-      bytes = b;
       most = m;
     }
 
@@ -230,15 +169,10 @@ past-narrow p e n =
       start = n .start;
       placed = n .placed;
       fault = n .fault;
-      half = n .half;
-      bytes = n .bytes;
       most = n .most;
     }
 
 module _ (r : Reader) (by : List ℕ) (n : Narrow (lines.left r by)) where
-  had : Brought by
-  had = record { bytes = n .bytes; most = n .most }
-
   taken-narrow : (t : Took) → Fine t → Narrow (lines.tookBy r t)
   unfolding lines.withTaken
   taken-narrow t f =
@@ -248,41 +182,34 @@ module _ (r : Reader) (by : List ℕ) (n : Narrow (lines.left r by)) where
         start = n .start;
         placed = f .small .placed;
         fault = f .small .fault;
-        half = n .half;
-        bytes = f .brought .bytes;
-        most = f .brought .most;
+        most = f .brought;
       }
 
   word-narrow : Narrow (lines.endWord r by)
   unfolding lines.endWord
-  word-narrow = taken-narrow _ (word-fine (wanted (r .line .verb) (r .line .taken)) (r .line) (r .word) by (n .half) (n .placed) (n .start) had)
+  word-narrow = taken-narrow _ (word-fine (wanted (r .line .verb) (r .line .taken)) (r .line) (r .word) by (n .placed) (n .start) (n .most))
 
-  text-narrow : (c : ℕ) → c < 256 → Narrow (lines.moreText r c by)
+  text-narrow : (c : ℕ) → Narrow (lines.moreText r c by)
   unfolding lines.moreText lines.withLine lines.past
-  text-narrow c h =
-      let b : Brought (set by (r .line .filled) c) = set-brought by (r .line .filled) c h had in
+  text-narrow c =
       record {
         column = omega arith;
         behind = n .behind;
         start = n .start;
         placed = n .placed;
         fault = n .fault;
-        half = n .half;
-        bytes = b .bytes;
-        most = b .most;
+        most = set-brought by (r .line .filled) c (n .most);
       }
 
-  begin-narrow : (c : ℕ) → c < 256 → Narrow (lines.left (lines.beginWord r c) by)
+  begin-narrow : (c : ℕ) → Narrow (lines.left (lines.beginWord r c) by)
   unfolding lines.beginWord lines.withWord lines.past moreWord
-  begin-narrow c h =
+  begin-narrow c =
       record {
         column = omega arith;
         behind = n .behind;
         start = n .column;
         placed = n .placed;
         fault = n .fault;
-        half = piece-half noPiece _ c h;
-        bytes = n .bytes;
         most = n .most;
       }
 
@@ -295,59 +222,54 @@ module _ (r : Reader) (by : List ℕ) (n : Narrow (lines.left r by)) where
         start = n .start;
         placed = n .placed;
         fault = n .column;
-        half = n .half;
-        bytes = n .bytes;
         most = n .most;
       }
 
-  first-narrow : (w : Want) (c : ℕ) → c < 256 → Narrow (lines.firstOf w r c by)
+  first-narrow : (w : Want) (c : ℕ) → Narrow (lines.firstOf w r c by)
   unfolding lines.firstOf
-  first-narrow w c h = narrow-if (isText w) _ _ (text-narrow c h) (narrow-if (isEnd w) _ _ end-wanted (begin-narrow c h))
+  first-narrow w c = narrow-if (isText w) _ _ (text-narrow c) (narrow-if (isEnd w) _ _ end-wanted (begin-narrow c))
 
-  between-narrow : (c : ℕ) → c < 256 → Narrow (lines.between r c by)
+  between-narrow : (c : ℕ) → Narrow (lines.between r c by)
   unfolding lines.between
-  between-narrow c h =
+  between-narrow c =
       narrow-if (blank c) _ _ (past-narrow part.Between (lines.left r by) n)
-      (narrow-if (eqb c hash) _ _ (past-narrow part.Comment (lines.left r by) n) (first-narrow (wanted (r .line .verb) (r .line .taken)) c h))
+      (narrow-if (eqb c hash) _ _ (past-narrow part.Comment (lines.left r by) n) (first-narrow (wanted (r .line .verb) (r .line .taken)) c))
 
-  further-narrow : (c : ℕ) → c < 256 → Narrow (lines.furtherOf r c by)
+  further-narrow : (c : ℕ) → Narrow (lines.furtherOf r c by)
   unfolding lines.furtherOf lines.withWord lines.past moreWord
-  further-narrow c h =
-      let b : Brought (store (r .word .piece) (r .line .filled) c by) = store-brought (r .word .piece) (r .line .filled) c by had in
+  further-narrow c =
       record {
         column = omega arith;
         behind = n .behind;
         start = n .start;
         placed = n .placed;
         fault = n .fault;
-        half = piece-half (r .word .piece) (r .word .digits) c h;
-        bytes = b .bytes;
-        most = b .most;
+        most = store-brought (r .word .piece) (r .line .filled) c by (n .most);
       }
 
   past-word-narrow : (p : Part) → Narrow (lines.pastWord r p by)
   unfolding lines.pastWord
   past-word-narrow p = past-narrow p (lines.endWord r by) word-narrow
 
-  in-word-narrow : (c : ℕ) → c < 256 → Narrow (lines.inWord r c by)
+  in-word-narrow : (c : ℕ) → Narrow (lines.inWord r c by)
   unfolding lines.inWord
-  in-word-narrow c h =
-      narrow-if (blank c) _ _ (past-word-narrow part.Between) (narrow-if (eqb c hash) _ _ (past-word-narrow part.Comment) (further-narrow c h))
+  in-word-narrow c =
+      narrow-if (blank c) _ _ (past-word-narrow part.Between) (narrow-if (eqb c hash) _ _ (past-word-narrow part.Comment) (further-narrow c))
 
-  in-text-narrow : (c : ℕ) → c < 256 → Narrow (lines.inText r c by)
+  in-text-narrow : (c : ℕ) → Narrow (lines.inText r c by)
   unfolding lines.inText
-  in-text-narrow c h = narrow-if (eqb c hash) _ _ (past-narrow part.Comment (lines.left r by) n) (text-narrow c h)
+  in-text-narrow c = narrow-if (eqb c hash) _ _ (past-narrow part.Comment (lines.left r by) n) (text-narrow c)
 
-  read-in : (p : Part) (c : ℕ) → c < 256 → Narrow (lines.readIn p r c by)
+  read-in : (p : Part) (c : ℕ) → Narrow (lines.readIn p r c by)
   unfolding lines.readIn
-  read-in part.Between c h = between-narrow c h
-  read-in part.Word c h = in-word-narrow c h
-  read-in part.Text c h = in-text-narrow c h
-  read-in part.Comment c h = past-narrow part.Comment (lines.left r by) n
+  read-in part.Between c = between-narrow c
+  read-in part.Word c = in-word-narrow c
+  read-in part.Text c = in-text-narrow c
+  read-in part.Comment c = past-narrow part.Comment (lines.left r by) n
 
-  pub read-narrow : (c : ℕ) → c < 256 → Narrow (lines.read r c by)
+  pub read-narrow : (c : ℕ) → Narrow (lines.read r c by)
   unfolding lines.read
-  read-narrow c h = narrow-if (lines.isRight r) _ _ (read-in (r .part) c h) n
+  read-narrow c = narrow-if (lines.isRight r) _ _ (read-in (r .part) c) n
 
   last-narrow : (p : Part) → Narrow (lines.lastWord p r by)
   unfolding lines.lastWord
@@ -378,8 +300,6 @@ judge-narrow e n =
       start = n .start;
       placed = n .placed;
       fault = judged-small (e .reader .line) (e .reader .behind) (n .placed) (n .behind);
-      half = n .half;
-      bytes = n .bytes;
       most = n .most;
     })
     n

@@ -1,9 +1,7 @@
 -- What a line prints, where there is room for it: docs/replay.md, "Lines" and "Answers". Assumes nothing.
 use mathlib.Core.List.{List, [], _++_}
 use Prim.Native.Nat.{ℕ, zero, suc, _%_}
-use Rattle.scb.specs.Words.{anyOf}
-use Rattle.chip.specs.Call.{Call, reset, attention, arrive, turn}
-use Rattle.board.specs.Board.{onBoard}
+use Rattle.board.specs.Board.{Call, reset, attention, arrive, turn, run, onBoard, isHigh}
 use Rattle.wording.specs.declared.Line.{Line}
 use Rattle.wording.specs.declared.Verb.{Verb}
 use Rattle.wording.specs.declared.Verb.the-variants as verb
@@ -27,11 +25,12 @@ lineText verb.Reset l own s = callText reset s
 lineText verb.Attention l own s = callText attention s
 lineText verb.Arrival l own s = callText (arrive own (l .first % many)) s
 lineText verb.Turn l own s = turnsText (turnCount l) (l .second % 65536) s
+lineText verb.Run l own s = callText (run (l .second % 65536) (turnCount l)) s
 lineText verb.Bytes l own s = []
 lineText verb.Words l own s = []
 lineText verb.Show l own s = shown (l .area) (s .memory) (s .holding) (s .outgoing) (l .first % many) (l .second % many)
 lineText verb.Look l own s = looked (l .area) (s .memory) (s .holding) (s .outgoing) (l .first % many) (l .second % many)
-lineText verb.Interrupt l own s = interruptText (anyOf (s .play .board .device .units .events))
+lineText verb.Interrupt l own s = interruptText (isHigh (s .play .board))
 lineText verb.Record l own s = recordText (s .play .board)
 lineText verb.Say l own s = sayText own
 

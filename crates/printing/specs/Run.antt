@@ -4,7 +4,6 @@ use mathlib.Core.List.{List, [], _∷_, _++_}
 use Prim.Native.Nat.{ℕ, _+_, _≤_}
 use lib.Dec.{eqb}
 use lib.ListN.{length, take}
-use Rattle.memory.proofs.Bytes.{Bytes}
 use Rattle.lines.specs.declared.Reader.{Reader}
 use Rattle.lines.specs.Reader as lines
 use Rattle.scene.specs.Scene.{playOf, sceneOf}
@@ -68,7 +67,7 @@ unfoldable pub newlines : List ℕ → ℕ
 newlines [] = 0
 newlines (c ∷ cs) = cond (eqb c 10) 1 0 + newlines cs
 
--- each stretch is of bytes, and at most one line ends in it: so the program cuts its input
+-- at most one line ends in a stretch: so the program cuts its input
 abbrev pub Cut : List (List ℕ) → Type 0
 Cut [] = Unit {0}
-Cut (xs ∷ xss) = Bytes xs × (newlines xs ≤ 1) × Cut xss
+Cut (xs ∷ xss) = (newlines xs ≤ 1) × Cut xss
