@@ -143,11 +143,11 @@ fn run_all(
     run_stretch(s, memory, holding, outgoing, bytes, b"\n", out);
 }
 
-// Room for what one line prints: 65,535 answers of at most 10 characters are the most.
-fn room() -> [u8; 655360]
-    ensures { λ r. ⌜ 655360 ≡ length r ⌝ }
+// Room for what one line prints: 65,535 answers of at most 20 characters are the most.
+fn room() -> [u8; 1310720]
+    ensures { λ r. ⌜ 1310720 ≡ length r ⌝ }
 {
-    [0; 655360]
+    [0; 1310720]
 }
 
 fn run_file(fd: i32) {

@@ -1,6 +1,6 @@
 -- `replay::written` is safe: what is written lies in the slice. Assumes nothing.
 use borrow.Author.Needs.{needs}
-use Rattle.board.proofs.Fits.{taken}
+use Rattle.board.proofs.Laws.{taken}
 use Rattle.replay.proofs.written.Statement.{statement}
 use Rattle.replay.proofs.written.Tie as tie
 
