@@ -102,14 +102,7 @@ pub fn receive(
 {
     let n = lent_length(b.size, memory.len());
     let kept = b.kept;
-    let l = front::receive_through(
-        kept,
-        &mut memory[..n],
-        holding,
-        outgoing,
-        frame,
-        verdict,
-    );
+    let l = front::receive_through(kept, &mut memory[..n], holding, outgoing, frame, verdict);
     answering(b, l)
 }
 
@@ -142,13 +135,6 @@ pub fn run(
 {
     let n = lent_length(b.size, memory.len());
     let kept = b.kept;
-    let l = front::run_through(
-        kept,
-        &mut memory[..n],
-        holding,
-        outgoing,
-        report,
-        budget,
-    );
+    let l = front::run_through(kept, &mut memory[..n], holding, outgoing, report, budget);
     answering(b, l)
 }

@@ -15,7 +15,7 @@ pub struct Lent {
     pub answer: u64,
 }
 
-// ---- the calls by value: a record goes in and comes out
+// ---- the calls of C, on a record by value
 
 // Reset takes the record alone.
 pub fn reset(d: Record) -> Lent
@@ -29,7 +29,8 @@ pub fn reset(d: Record) -> Lent
     }
 }
 
-fn attended(d: Record, memory: &mut [u8], holding: &mut [u8], outgoing: &mut [u8]) -> Lent
+// A channel attention to the device of a record.
+fn attention_on(d: Record, memory: &mut [u8], holding: &mut [u8], outgoing: &mut [u8]) -> Lent
     ensures { λ r. ⌜ front.Fronted (calls.attentionCall (front.areasWith d (now (memory .entry)) (now (holding .entry)) (now (outgoing .entry)))) (r .kept) (r .answer) (now (memory .exit)) (now (holding .exit)) (now (outgoing .exit)) ⌝ }
 {
     let mut bytes = d.bytes;
@@ -40,7 +41,8 @@ fn attended(d: Record, memory: &mut [u8], holding: &mut [u8], outgoing: &mut [u8
     }
 }
 
-fn received(
+// A frame's arrival at the device of a record.
+fn arrival_on(
     d: Record,
     memory: &mut [u8],
     holding: &mut [u8],
@@ -58,7 +60,8 @@ fn received(
     }
 }
 
-fn turned(
+// A turn of the device of a record.
+fn turn_on(
     d: Record,
     memory: &mut [u8],
     holding: &mut [u8],
@@ -75,7 +78,8 @@ fn turned(
     }
 }
 
-fn ran(
+// A run of turns of the device of a record.
+fn run_on(
     d: Record,
     memory: &mut [u8],
     holding: &mut [u8],
@@ -96,17 +100,12 @@ fn ran(
 // ---- the record in place
 
 // A channel attention.
-pub fn attend(
-    d: &mut Record,
-    memory: &mut [u8],
-    holding: &mut [u8],
-    outgoing: &mut [u8],
-) -> u64
+pub fn attend(d: &mut Record, memory: &mut [u8], holding: &mut [u8], outgoing: &mut [u8]) -> u64
     ensures { λ r. ⌜ front.Fronted (calls.attentionCall (front.areasWith (now (d .entry)) (now (memory .entry)) (now (holding .entry)) (now (outgoing .entry)))) (now (d .exit)) r (now (memory .exit)) (now (holding .exit)) (now (outgoing .exit)) ⌝ }
 {
-    let l = attended(*d, memory, holding, outgoing);
-    *d = l.kept;
-    l.answer
+    let attended = attention_on(*d, memory, holding, outgoing);
+    *d = attended.kept;
+    attended.answer
 }
 
 // A frame arrives with the line side's verdict.
@@ -120,9 +119,9 @@ pub fn receive(
 ) -> u64
     ensures { λ r. ⌜ front.Fronted (calls.arrivalCall (front.areasWith (now (d .entry)) (now (memory .entry)) (now (holding .entry)) (now (outgoing .entry))) (now (frame .entry)) verdict) (now (d .exit)) r (now (memory .exit)) (now (holding .exit)) (now (outgoing .exit)) ⌝ }
 {
-    let l = received(*d, memory, holding, outgoing, frame, verdict);
-    *d = l.kept;
-    l.answer
+    let arrived = arrival_on(*d, memory, holding, outgoing, frame, verdict);
+    *d = arrived.kept;
+    arrived.answer
 }
 
 // A turn, with the line report.
@@ -135,9 +134,9 @@ pub fn turn(
 ) -> u64
     ensures { λ r. ⌜ front.Fronted (calls.turnCall (front.areasWith (now (d .entry)) (now (memory .entry)) (now (holding .entry)) (now (outgoing .entry))) report) (now (d .exit)) r (now (memory .exit)) (now (holding .exit)) (now (outgoing .exit)) ⌝ }
 {
-    let l = turned(*d, memory, holding, outgoing, report);
-    *d = l.kept;
-    l.answer
+    let turned = turn_on(*d, memory, holding, outgoing, report);
+    *d = turned.kept;
+    turned.answer
 }
 
 // A run of turns, each with the same line report.
@@ -151,9 +150,9 @@ pub fn run(
 ) -> u64
     ensures { λ r. ⌜ front.Fronted (calls.runCall (front.areasWith (now (d .entry)) (now (memory .entry)) (now (holding .entry)) (now (outgoing .entry))) report budget) (now (d .exit)) r (now (memory .exit)) (now (holding .exit)) (now (outgoing .exit)) ⌝ }
 {
-    let l = ran(*d, memory, holding, outgoing, report, budget);
-    *d = l.kept;
-    l.answer
+    let ran = run_on(*d, memory, holding, outgoing, report, budget);
+    *d = ran.kept;
+    ran.answer
 }
 
 // ---- the lenders: the same calls for a caller that holds the record by value, in a loop or not

@@ -1,19 +1,18 @@
 -- A reader's numbers stay small, and so does what it brings: `read-narrow`, `end-narrow`; and a line that is right shows what lies in its
 -- area: `end-fits`. No contract cites this file. Assumes nothing.
 use mathlib.Core.Path.{_≡_, refl, sym, _∙_}
-use mathlib.Core.Bool.{Bool, true, false, cond, false≢true, _&&_}
+use mathlib.Core.Bool.{Bool, true, false, cond, false≢true}
 use mathlib.Core.List.{List}
-use Prim.Native.Nat.{ℕ, zero, suc, _+_, _/_, _%_, _<_, _≤_}
+use Prim.Native.Nat.{ℕ, _+_, _/_, _%_, _<_, _≤_}
 use native.Mathlib.Omega.{arith}
 use lib.Dec.{eqb, ltb}
 use lib.ListN.{length, set, replicate, length-set}
 use lib.Seq.{sets, length-sets}
 use Rattle.wording.specs.Chars.{blank, hash, digit}
 use Rattle.wording.specs.Names.{verbOf, areaOf, sizeOf}
-use Rattle.wording.specs.Words.{many, numberOf, noPiece, joined, afterCount, withOther, withDigit, morePiece, storeDigit, store, moreWord}
+use Rattle.wording.specs.Words.{many, numberOf, joined, storeDigit, store, moreWord}
 use Rattle.wording.specs.Lines.{least, missing, wanted, isText, isEnd, isVerb, faultAt, noFault, isNothing, fits, judged}
 use Rattle.wording.specs.Take.{withFirst, withSecond, withNumber, takeVerb, takeNumber, takeArea, takePlace, Took, takeBytes, putValue, takeValue, takeWord}
-use Rattle.wording.specs.declared.Digits.{Digits}
 use Rattle.wording.specs.declared.Fault.{Fault}
 use Rattle.wording.specs.declared.Found.{Found}
 use Rattle.wording.specs.declared.Found.the-variants as found

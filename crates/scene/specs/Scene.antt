@@ -8,7 +8,6 @@ use lib.ListN.{length}
 use lib.Seq.{sets}
 use Rattle.device.specs.Limits.{recordSize}
 use Rattle.board.specs.declared.Board.{Board}
-use Rattle.board.specs.declared.Said.{Said}
 use Rattle.board.specs.Board.{Call, reset, attention, arrive, turn, run, Left, onBoard, resized, isHigh}
 use Rattle.wording.specs.declared.Area.{Area}
 use Rattle.wording.specs.declared.Area.the-variants as area

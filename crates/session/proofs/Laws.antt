@@ -13,7 +13,7 @@ use Rattle.lines.specs.Reader as lines
 use Rattle.scene.specs.declared.Play.{Play}
 use Rattle.scene.specs.Scene.{Scene, playOf, sceneOf, Plays, obeyed}
 use Rattle.session.specs.declared.Session.{Session}
-use Rattle.session.specs.Run.{State, stateOf, Runs, withReader, nextLine, lineObeyed, judged, endedBy, lineEnded, readBy, fed, ran}
+use Rattle.session.specs.Run.{State, stateOf, Runs, withReader, nextLine, lineObeyed, judged, lineEnded, readBy, fed, ran}
 
 -- ---- what was left is what is said
 

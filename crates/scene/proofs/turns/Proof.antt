@@ -1,5 +1,5 @@
 -- `scene::turns` meets its contract. The invariant: the first i turns are made. Assumes nothing.
-use mathlib.Core.Path.{_≡_, refl, ap, subst}
+use mathlib.Core.Path.{_≡_, refl, subst}
 use Prim.Native.Nat.{ℕ, _-_, _≤_}
 use native.Mathlib.Nat.{le-antisymm}
 use borrow.Author.Needs.{needs}
