@@ -1,2 +1,2 @@
--- What the proofs of this crate cite.
+-- What the proofs of the crates above cite.
 pub mod Laws

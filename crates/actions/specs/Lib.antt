@@ -2,4 +2,3 @@
 pub mod Block
 pub mod Setup
 pub mod Actions
-pub mod Inner

@@ -1,5 +1,4 @@
 -- Attention: 01, "First attention after reset" and "The SCB". Assumes nothing.
-use mathlib.Core.Path.{_≡_}
 use mathlib.Core.Bool.{Bool, true, false}
 use mathlib.Core.List.{List, [], _∷_, _++_}
 use Prim.Native.Nat.{ℕ}
@@ -109,10 +108,3 @@ attentionBy true d m = attend d m
 
 unfoldable pub attention : Device → List ℕ → Attended
 attention d m = attentionBy (d .units .initialised) d m
-
--- ---- what the code does
-
--- an outcome and a memory are those of an attention
-pub record Attends (said : Attended) (before : List ℕ) (o : Outcome) (m : List ℕ) : Type 0 where
-  pub outcome : o ≡ said .outcome
-  pub memory : m ≡ apply (said .writes) before

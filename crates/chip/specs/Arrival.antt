@@ -1,5 +1,4 @@
 -- Arrival of a frame: 01, "Arrival and storing". It raises nothing, so it reports no edge. Assumes nothing.
-use mathlib.Core.Path.{_≡_}
 use mathlib.Core.Bool.{false}
 use mathlib.Core.List.{List}
 use Prim.Native.Nat.{ℕ}
@@ -31,10 +30,3 @@ arrivedBy w a =
 
 unfoldable pub arrivalOf : World → List ℕ → ℕ → Ran
 arrivalOf w f v = arrivedBy w (arrival (w .device) f v (w .memory) (w .holding))
-
--- ---- what the code does: an outcome, a memory and a holding area are those of an arrival
-
-pub record Arrives (said : receive.Arrival) (d : Device) (before : List ℕ) (o : Outcome) (m h : List ℕ) : Type 0 where
-  pub outcome : o ≡ outcomeBy d said
-  pub memory : m ≡ apply (said .writes) before
-  pub holding : h ≡ said .area

@@ -1,13 +1,10 @@
 -- A run: turns in a row under one call, each as in 01, "Turns". It ends when as many are taken as the caller allows, or at the first turn that a
 -- host has to know of. Assumes nothing.
-use mathlib.Core.Path.{_≡_}
 use mathlib.Core.Bool.{Bool, true, false, not, _||_}
-use mathlib.Core.List.{List}
 use Prim.Native.Nat.{ℕ, zero, suc, _+_}
 use lib.Dec.{eqb}
 use Rattle.device.specs.Answers.{answered}
 use Rattle.device.specs.declared.Answer.{Answer}
-use Rattle.device.specs.declared.Device.{Device}
 use Rattle.chip.specs.declared.Served.{Served}
 use Rattle.chip.specs.declared.Served.the-variants as served
 use Rattle.chip.specs.World.{World, Ran, afterwards}
@@ -64,13 +61,3 @@ counting taken r = record { world = r .world; answer = r .answer; taken = taken 
 
 unfoldable pub runFrom : (taken budget : ℕ) → World → (report : ℕ) → Run
 runFrom taken budget w report = counting taken (runOf budget w report)
-
--- ---- what the code does: a device, an answer, a number of turns and three areas are what is said
-
-pub record Runs (said : Run) (d : Device) (a : Answer) (n : ℕ) (m h out : List ℕ) : Type 0 where
-  pub device : d ≡ said .world .device
-  pub answer : a ≡ said .answer
-  pub taken : n ≡ said .taken
-  pub memory : m ≡ said .world .memory
-  pub holding : h ≡ said .world .holding
-  pub outgoing : out ≡ said .world .outgoing

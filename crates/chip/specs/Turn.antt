@@ -1,5 +1,4 @@
 -- A turn: 01, "Turns". Assumes nothing.
-use mathlib.Core.Path.{_≡_}
 use mathlib.Core.Bool.{Bool, true, false}
 use mathlib.Core.List.{List, [], _∷_, _++_}
 use Prim.Native.Nat.{ℕ}
@@ -91,20 +90,3 @@ turnBy served.ReceiveUnit w report = receiveTurn w
 
 unfoldable pub turnOf : World → ℕ → Ran
 turnOf w report = turnBy (servedOf (w .device .units)) w report
-
--- ---- what the code does
-
--- the end of a working turn
-pub record Concludes (d : Device) (u : Units) (raised : Events) (length : ℕ) (f : Fate) (before : List ℕ) (o : Outcome) (m : List ℕ) : Type 0 where
-  pub outcome : o ≡ concluded d u raised length f
-  pub memory : m ≡ apply (statusBy (anyOf raised) (raisedIn u raised)) before
-
--- a turn of each unit
-pub record Commands (s : command.Service) (d : Device) (before : List ℕ) (o : Outcome) (m out : List ℕ) : Type 0 where
-  pub outcome : o ≡ concluded (command.withPart d (s .part)) (commandUnits d s) (s .raised) (s .length) fate.Nothing
-  pub memory : m ≡ apply (written (s .writes) (s .raised) (commandUnits d s)) before
-  pub outgoing : out ≡ s .part .outgoing
-
-pub record Receives (s : receive.Service) (d : Device) (before : List ℕ) (o : Outcome) (m : List ℕ) : Type 0 where
-  pub outcome : o ≡ concluded d (receiveUnits d s) (s .raised) 0 (s .fate)
-  pub memory : m ≡ apply (written (s .writes) (s .raised) (receiveUnits d s)) before

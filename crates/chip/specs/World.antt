@@ -1,13 +1,10 @@
 -- What a call is given and what it leaves. Assumes nothing.
-use mathlib.Core.Path.{_≡_}
 use mathlib.Core.List.{List}
 use Prim.Native.Nat.{ℕ}
 use Rattle.memory.specs.Memory.{Write, apply}
 use Rattle.device.specs.State.{fresh}
 use Rattle.device.specs.Answers.{answered, outcomeOf}
-use Rattle.device.specs.declared.Answer.{Answer}
 use Rattle.device.specs.declared.Device.{Device}
-use Rattle.device.specs.declared.Fate.{Fate}
 use Rattle.device.specs.declared.Fate.the-variants as fate
 use Rattle.device.specs.declared.Outcome.{Outcome}
 use mathlib.Core.Bool.{false}
@@ -28,13 +25,6 @@ pub record Ran : Type 0 where
   pub memory : List ℕ
   pub holding : List ℕ
   pub outgoing : List ℕ
-
--- an outcome and three areas are what is said: the shape of every call's promise
-pub record Does (said : Ran) (o : Outcome) (m h out : List ℕ) : Type 0 where
-  pub outcome : o ≡ said .outcome
-  pub memory : m ≡ said .memory
-  pub holding : h ≡ said .holding
-  pub outgoing : out ≡ said .outgoing
 
 -- a call that only writes memory
 abbrev pub writing : World → List Write → Outcome → Ran

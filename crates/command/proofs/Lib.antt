@@ -1,3 +1,3 @@
--- What the proofs of this crate cite, and what its definitions say where another reading would swap the columns.
+-- What the proofs of the crates above cite, and what the definitions say where another reading would swap the columns.
 pub mod Laws
 pub mod Swaps

@@ -4,4 +4,3 @@ pub mod Begin
 pub mod Buffer
 pub mod End
 pub mod Service
-pub mod Inner

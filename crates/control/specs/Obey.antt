@@ -1,10 +1,9 @@
 -- A control code is obeyed: 01, "The SCB". Which state the table leads to, and where a unit begins. Assumes nothing.
-use mathlib.Core.Path.{_≡_}
 use mathlib.Core.Bool.{Bool, not, cond, _&&_}
 use mathlib.Core.List.{List}
 use Prim.Native.Nat.{ℕ}
 use lib.Dec.{eqb}
-use Rattle.memory.specs.Memory.{Write, apply}
+use Rattle.memory.specs.Memory.{Write}
 use Rattle.memory.specs.Address.{place, offsetAt}
 use Rattle.memory.specs.declared.Offset.{Offset}
 use Rattle.scb.specs.Control.{cuNext, ruNext}
@@ -15,8 +14,6 @@ use Rattle.device.specs.State.{cuState, ruState, isActive, isReady}
 use Rattle.device.specs.declared.Cu.{Cu}
 use Rattle.device.specs.declared.Ru.{Ru}
 use Rattle.device.specs.declared.Units.{Units}
-use Rattle.control.specs.declared.CuObeyed.{CuObeyed}
-use Rattle.control.specs.declared.RuObeyed.{RuObeyed}
 use Rattle.control.specs.Control.{cuGoes, cuWrites, resumesAt, ruGoes, ruWrites, readyAt}
 
 -- a field of the SCB
@@ -60,16 +57,3 @@ ruFirst u command m = cond (eqb (ruc command) 1) (offsetAt m (ofScb u rfaAt)) (r
 
 unfoldable pub obeyRuc : Units → ℕ → List ℕ → Obeyed Ru
 obeyRuc u command m = ruObeys (ruNext (ruc command) (ruState (u .ru))) u (ruFirst u command m)
-
--- ---- what the code does
-
--- the command unit obeyed; the receive unit obeyed
-pub record CuObeys (said : Obeyed Cu) (before : List ℕ) (r : CuObeyed) (m : List ℕ) : Type 0 where
-  pub unit : r .unit ≡ said .unit
-  pub left : r .left ≡ said .left
-  pub memory : m ≡ apply (said .writes) before
-
-pub record RuObeys (said : Obeyed Ru) (before : List ℕ) (r : RuObeyed) (m : List ℕ) : Type 0 where
-  pub unit : r .unit ≡ said .unit
-  pub left : r .left ≡ said .left
-  pub memory : m ≡ apply (said .writes) before

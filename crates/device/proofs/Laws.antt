@@ -1,14 +1,15 @@
--- The paper's numbers lead back to the cases that have them, and a unit's state is all that its phases share. Assumes nothing.
+-- The paper's numbers lead back to the cases that have them; what is known of a held frame. Assumes nothing.
 use mathlib.Core.Path.{_≡_, refl}
-use mathlib.Core.Bool.{Bool, true, false, true≢false, false≢true}
-use Rattle.scb.specs.declared.CuState.the-variants as cus
-use Rattle.scb.specs.declared.RuState.the-variants as rus
-use Rattle.device.specs.Numbers.{actionNumber, actionOf, transmit, verdictNumber, verdictOf}
+use mathlib.Core.Bool.{true}
+use Rattle.device.specs.Numbers.{actionNumber, actionOf, verdictNumber, verdictOf}
 use Rattle.device.specs.State.{ruState, isReady, isHolding}
+use Rattle.device.specs.Change.{withSettings}
 use Rattle.device.specs.declared.Action.{Action}
 use Rattle.device.specs.declared.Action.the-variants as action
 use Rattle.device.specs.declared.Ru.{Ru}
 use Rattle.device.specs.declared.Ru.the-variants as ru
+use Rattle.device.specs.declared.Settings.{Settings}
+use Rattle.device.specs.declared.Units.{Units}
 use Rattle.device.specs.declared.Verdict.{Verdict}
 use Rattle.device.specs.declared.Verdict.the-variants as verdict
 
@@ -38,3 +39,7 @@ held-ready (ru.Held o f p) h = refl
 held-ready (ru.Filling s w) h = refl
 held-ready (ru.Closing s o e) h = refl
 held-ready (ru.Lacking s) h = refl
+
+-- 01, "Arrival and storing": a later Configure changes nothing of a held frame
+pub held-through-configure : (u : Units) (s : Settings) → withSettings u s .ru ≡ u .ru
+held-through-configure u s = refl

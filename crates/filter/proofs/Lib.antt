@@ -1,2 +1,2 @@
--- What the loops over an address and over the listed addresses rest on.
+-- What loops over an address and over the listed addresses rest on.
 pub mod Laws

@@ -28,7 +28,7 @@ ghost use Rattle.attention.specs.Attention as attentions;
 ghost use Rattle.attention.specs.Status as statuses;
 ghost use Rattle.kept_attention.specs.Attends as attends;
 
-// The SCB: +0 status, +2 command; its other fields are the rooms control's and device's to say.
+// The SCB: +0 status, +2 command; its other fields are the rooms kept_control's and kept_receive's to say.
 const STATUS: u16 = 0;
 
 const COMMAND: u16 = 2;

@@ -1,3 +1,2 @@
 -- What the proofs of this crate and of the crates above it cite.
-pub mod Small
 pub mod Units

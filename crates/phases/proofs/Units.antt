@@ -89,9 +89,6 @@ pub bits : (n : ℕ) → n < 64 → flagsOf (odd n) (odd (n / 2)) (odd (n / 4)) 
 bits n h =
     eqb→eq _ n (below (λ k. eqb (flagsOf (odd k) (odd (k / 2)) (odd (k / 4)) (odd (k / 8)) (odd (k / 16)) (odd (k / 32))) k) 64 tt n h)
 
-pub bits2 : (n : ℕ) → n < 4 → flagsOf (odd n) (odd (n / 2)) false false false false ≡ n
-bits2 n h = eqb→eq _ n (below (λ k. eqb (flagsOf (odd k) (odd (k / 2)) false false false false) k) 4 tt n h)
-
 pub bits3 : (n : ℕ) → n < 8 → flagsOf (odd n) (odd (n / 2)) (odd (n / 4)) false false false ≡ n
 bits3 n h = eqb→eq _ n (below (λ k. eqb (flagsOf (odd k) (odd (k / 2)) (odd (k / 4)) false false false) k) 8 tt n h)
 

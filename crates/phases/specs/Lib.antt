@@ -1,2 +1,2 @@
--- A unit's words, for the contracts of this crate and the definitions of the crates above it.
+-- A unit's words, for the definitions of the crates above.
 pub mod Words

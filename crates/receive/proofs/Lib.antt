@@ -1,3 +1,2 @@
--- What the receive unit's definitions say where another reading would swap the columns, and what its code rests on.
+-- What the receive unit's definitions say where another reading would swap the columns.
 pub mod Swaps
-mod Laws

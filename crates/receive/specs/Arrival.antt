@@ -1,13 +1,12 @@
 -- What becomes of an arriving frame: 01, "Arrival and storing", in its order. Memory, holding area and unit follow from the fate.
 -- Assumes nothing.
-use mathlib.Core.Path.{_≡_}
 use mathlib.Core.Bool.{Bool, true, false}
 use mathlib.Core.List.{List}
 use Prim.Native.Nat.{ℕ, _+_, min}
 use lib.Dec.{ltb}
 use lib.ListN.{length}
 use lib.Seq.{sets}
-use Rattle.memory.specs.Memory.{Write, apply}
+use Rattle.memory.specs.Memory.{Write}
 use Rattle.device.specs.Answers.{counterOf, counts, isHeld}
 use Rattle.device.specs.Limits.{header, heldFrom, longest, fcs}
 use Rattle.device.specs.Numbers.{verdictOf}
@@ -23,7 +22,6 @@ use Rattle.device.specs.declared.Settings.{Settings}
 use Rattle.device.specs.declared.Units.{Units}
 use Rattle.device.specs.declared.Verdict.{Verdict}
 use Rattle.device.specs.declared.Verdict.the-variants as verdict
-use Rattle.receive.specs.declared.Arrived.{Arrived}
 
 -- a frame's length; one that exceeds 2,048 bytes is refused before anything here is asked
 unfoldable pub lengthOf : List ℕ → ℕ
@@ -120,12 +118,3 @@ arrivalBy fate u f v m area =
 
 unfoldable pub arrival : Units → (matched : Bool) → List ℕ → ℕ → List ℕ → List ℕ → Arrival
 arrival u matched f v m area = arrivalBy (fateOf (u .settings) matched (u .ru) f v) u f v m area
-
--- what the code of an arrival answers, and that it does what is said
-abbrev pub arrivedBy : Arrival → Arrived
-arrivedBy a = record { unit = a .unit; fate = a .fate }
-
-pub record Arrives (said : Arrival) (before : List ℕ) (r : Arrived) (m h : List ℕ) : Type 0 where
-  pub result : r ≡ arrivedBy said
-  pub memory : m ≡ apply (said .writes) before
-  pub holding : h ≡ said .area

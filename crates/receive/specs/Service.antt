@@ -1,11 +1,8 @@
 -- One service of the receive unit: 01, "Turns": every held frame takes a begin turn, at most 64 buffer turns and an end turn. Assumes nothing.
-use mathlib.Core.Path.{_≡_}
 use mathlib.Core.List.{List, []}
 use Prim.Native.Nat.{ℕ}
-use Rattle.memory.specs.Memory.{apply}
 use Rattle.device.specs.declared.Ru.{Ru}
 use Rattle.device.specs.declared.Ru.the-variants as ru
-use Rattle.receive.specs.declared.Received.{Received}
 use Rattle.receive.specs.Part.{Part, Service, quietly}
 use Rattle.receive.specs.Begin.{begin}
 use Rattle.receive.specs.Buffer.{buffer}
@@ -24,11 +21,3 @@ serviceBy (ru.Lacking s) p m = lack p s m
 
 unfoldable pub service : Part → List ℕ → Service
 service p m = serviceBy (p .unit) p m
-
--- what the code of a service answers, and that it does what is said
-abbrev pub receivedBy : Service → Received
-receivedBy s = record { unit = s .unit; raised = s .raised; fate = s .fate }
-
-pub record Serves (said : Service) (before : List ℕ) (r : Received) (m : List ℕ) : Type 0 where
-  pub result : r ≡ receivedBy said
-  pub memory : m ≡ apply (said .writes) before

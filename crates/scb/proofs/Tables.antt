@@ -1,6 +1,6 @@
 -- The control tables say what the control rules say, at every pair of a code and a state.
 -- One law for any table: a test that antt computes for each state over all the codes. Assumes nothing.
-use mathlib.Core.Path.{_≡_, refl}
+use mathlib.Core.Path.{_≡_}
 use mathlib.Core.Bool.{Bool}
 use mathlib.Core.List.{List, [], _∷_}
 use Prim.Native.Nat.{ℕ, _*_, _/_, _^_, _<_}
@@ -13,7 +13,7 @@ use Rattle.scb.specs.declared.RuState.{RuState}
 use Rattle.scb.specs.declared.RuState.the-variants as ru
 use Rattle.scb.specs.Words.{cuNumber, ruNumber}
 use Rattle.scb.specs.Control.{cuNext, ruNext}
-use Rattle.scb.specs.Numbers.{cuOf, ruOf, ruColumn}
+use Rattle.scb.specs.Numbers.{ruColumn}
 use Rattle.scb.proofs.Below.{all, below}
 
 -- ---- any table: a byte for each code, two bits for each state's number
@@ -41,11 +41,6 @@ cu-below cu.Idle = lit< tt
 cu-below cu.Suspended = lit< tt
 cu-below cu.Active = lit< tt
 
-pub cu-back : (s : CuState) → cuOf (cuNumber s) ≡ s
-cu-back cu.Idle = refl
-cu-back cu.Suspended = refl
-cu-back cu.Active = refl
-
 cu-tested : (s : CuState) → T (all (right cuNumber cuNext cuTable s) 8)
 unfolding cuNext
 cu-tested cu.Idle = tt
@@ -65,18 +60,6 @@ ru-below ru.Idle = lit< tt
 ru-below ru.Suspended = lit< tt
 ru-below ru.NoResources = lit< tt
 ru-below ru.Ready = lit< tt
-
-pub column-below : (s : RuState) → ruColumn s < 4
-column-below ru.Idle = lit< tt
-column-below ru.Suspended = lit< tt
-column-below ru.NoResources = lit< tt
-column-below ru.Ready = lit< tt
-
-pub ru-back : (s : RuState) → ruOf (ruColumn s) ≡ s
-ru-back ru.Idle = refl
-ru-back ru.Suspended = refl
-ru-back ru.NoResources = refl
-ru-back ru.Ready = refl
 
 ru-tested : (s : RuState) → T (all (right ruColumn ruNext ruTable s) 8)
 unfolding ruNext
