@@ -122,7 +122,7 @@ asks-arrival a f v = refl
 
 pub asks-run : (a : Areas) (report budget : ℕ) → report < 65536 → askedCall asked.Turns a [] report budget 281474976710656 ≡ runCall a report budget
 unfolding askedCall runCall
-asks-run a report budget h = let z : report % 65536 ≡ report = omega arith in rw z
+asks-run a report budget h = ap (λ (x : ℕ). unlessRefused (refusalOf a []) (λ w. keptRun (runOf budget w x)) a) (omega arith)
 
 pub run-kept : (a : Areas) (report budget : ℕ) (u : Units) → sizeAllowed (length (a .memory)) ≡ true → areasRight a ≡ true → decodeOf (a .kept) ≡ is.Units u
     → runCall a report budget ≡ keptRun (runOf budget (worldOf (deviceAt (a .kept) u) (a .memory) (a .holding) (a .outgoing)) report)
@@ -148,7 +148,8 @@ one-by refusal.Foreign a report = refl
 -- a run of one turn, uncounted, is a turn
 pub asks-turn : (a : Areas) (report : ℕ) → report < 65536 → askedCall asked.Turns a [] report 1 0 ≡ turnCall a report
 unfolding askedCall turnCall
-asks-turn a report h = let z : report % 65536 ≡ report = omega arith in rw z (one-by (refusalOf a []) a report)
+asks-turn a report h =
+    ap (λ (x : ℕ). unlessRefused (refusalOf a []) (λ w. keptTurns 0 (runOf 1 w x)) a) (omega arith) ∙ one-by (refusalOf a []) a report
 
 and-first : (x y z : Bool) → (x && y && z) ≡ true → x ≡ true
 and-first true y z e = refl

@@ -6,7 +6,7 @@ use image::Decoded;
 use kept::Kept;
 ghost use mathlib.Core.Path.{_≡_};
 ghost use mathlib.Core.Bool.{true};
-ghost use Prim.Native.Nat.{_<_, _≤_};
+ghost use Prim.Native.Nat.{_+_, _*_, _<_, _≤_};
 ghost use lib.Dec.{leb};
 ghost use lib.ListN.{length};
 ghost use Rattle.memory.specs.Size.{sizeAllowed};
@@ -118,6 +118,14 @@ fn arrival_on(
     answer_of(false)
 }
 
+// The answer of turns: what the last one told, and as many units as turns.
+fn answer_told(told: u32, taken: u16, unit: u64) -> u64
+    requires { ⌜ unit ≤ 281474976710656 ⌝ }
+    ensures { λ r. ⌜ r ≡ told * 65536 + taken * unit ⌝ }
+{
+    told as u64 * TOLD + taken as u64 * unit
+}
+
 // Turns of the device of the numbers k. Each adds `unit` to the answer.
 fn turns_on(
     memory: &mut [u8],
@@ -143,7 +151,7 @@ fn turns_on(
     );
     let after = t.kept;
     image::store(kept, after);
-    t.told as u64 * TOLD + t.taken as u64 * unit
+    answer_told(t.told, t.taken, unit)
 }
 
 // ---- a call
