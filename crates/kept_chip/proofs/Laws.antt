@@ -2,9 +2,9 @@
 use mathlib.Core.Path.{_≡_, refl, sym, ap, _∙_}
 use mathlib.Core.Bool.{Bool, true, false, not, _&&_, _||_, true≢false, false≢true}
 use mathlib.Core.List.{List, [], _∷_, _++_}
-use Prim.Native.Nat.{ℕ}
+use Prim.Native.Nat.{ℕ, zero, suc, _+_, _/_, _<_, _≤_}
 use native.Mathlib.Omega.{arith}
-use borrow.Author.Tests.{ne-eqb}
+use borrow.Author.Tests.{ne-eqb, le-leb, lt-leb}
 use lib.Dec.{eqb, leb, ltb}
 use lib.ListN.{length}
 use Rattle.memory.specs.Memory.{apply}
@@ -36,16 +36,16 @@ use Rattle.chip.specs.World.{World, Ran, worldOf}
 use Rattle.chip.specs.Arrival.{arrival, arrivalOf}
 use Rattle.chip.specs.Turn.{commandUnits, receiveUnits, raisedIn, statusBy, concluded, commandTurn, receiveTurn, turnBy, turnOf, servedBy}
 use Rattle.chip.specs.Run.{tells, stops, stopsAt}
-use Rattle.phases.specs.Words.{cuTag, ruTag}
-use Rattle.kept.specs.Kept.{keptOf, cuTagIn, ruTagIn, UnitsWide, KeptIs, cuServed, ruServed}
-use Rattle.kept.proofs.Laws.{cu-is, ru-is}
+use Rattle.phases.specs.Words.{odd, cuTag, ruTag}
+use Rattle.kept.specs.Kept.{keptOf, flagsIn, cuTagIn, ruTagIn, UnitsWide, KeptIs, cuServed, ruServed}
+use Rattle.kept.proofs.Laws.{cu-is, ru-is, rulast-is}
 use Rattle.kept.specs.SetUp.{SetIs}
 use Rattle.kept.specs.declared.Kept.{Kept}
-use Rattle.kept_command.specs.Serves as commands
+use Rattle.kept_command.specs.Serves as command-serves
 use Rattle.kept_command.specs.declared.Commanded.{Commanded}
 use Rattle.kept_receive.specs.Receives as receives
 use Rattle.kept_receive.specs.declared.Received.{Received}
-use Rattle.kept_chip.specs.Does.{DeviceIs, Concludes, Does, Tells, Arrives}
+use Rattle.kept_chip.specs.Does.{DeviceIs, toldBy, commands, Concludes, Does, Tells, Arrives}
 use Rattle.kept_chip.specs.declared.Turned.{Turned}
 
 -- CU has work while Active, RU while a frame is held
@@ -101,18 +101,27 @@ or-false : (x : Bool) → (x || false) ≡ x
 or-false true = refl
 or-false false = refl
 
+tells-nothing : (n : ℕ) (e : Bool) → (not (eqb n 0) || e) ≡ false → toldBy n e ≡ 0
+tells-nothing zero false p = refl
+tells-nothing zero true p = absurd (true≢false p)
+tells-nothing (suc n) e p = let q : eqb (suc n) 0 ≡ false = ne-eqb (suc n) 0 (λ z. omega (arith, z)) in absurd (true≢false (rw q at p))
+
+-- a working turn that does not end a run has nothing to tell
+quiet : (u : Units) (by : Events) (k : Kept) (n : ℕ) (before : List ℕ) (r : Turned) (m : List ℕ) → Concludes u by k n before r m → r .stops ≡ false → r .told ≡ 0
+quiet u by k n before r m f e = f .told ∙ tells-nothing n (anyOf by) (sym (f .stops) ∙ e)
+
 module _ (u : Units) (by : Events) (k : Kept) (length raised : ℕ) (before m : List ℕ) (e : raised ≡ eventBits by) where
   pub concludes-raised : (raised ≡ 0 → ⊥) → m ≡ apply (statusTo u ∷ []) before
-      → Concludes u by k length before (record { kept = k; length = length; edge = true; stops = true }) m
+      → Concludes u by k length before (record { kept = k; told = length + 65536; stops = true }) m
   concludes-raised n w =
       let a : anyOf by ≡ true = any-bits by ∙ rw (← e, ne-eqb raised 0 n) in
-      record { kept = refl; sent = refl; edge = sym a; stops = rw (a, or-true (not (eqb length 0))); memory = rw a w }
+      record { kept = refl; told = rw a; stops = rw (a, or-true (not (eqb length 0))); memory = rw a w }
 
   pub concludes-quiet : raised ≡ 0 → m ≡ before
-      → Concludes u by k length before (record { kept = k; length = length; edge = false; stops = not (eqb length 0) }) m
+      → Concludes u by k length before (record { kept = k; told = length; stops = not (eqb length 0) }) m
   concludes-quiet z w =
       let a : anyOf by ≡ false = any-bits by ∙ rw (← e, z) in
-      record { kept = refl; sent = refl; edge = sym a; stops = rw (a, or-false (not (eqb length 0))); memory = rw a w }
+      record { kept = refl; told = rw a (omega arith); stops = rw (a, or-false (not (eqb length 0))); memory = rw a w }
 
 -- ---- a service of each unit
 
@@ -127,15 +136,15 @@ module _ (d : Device) (m h out : List ℕ) (report : ℕ) where
   pub commanded-is : (k : Kept) → KeptIs (cuServed (d .units) (served .part .unit) (served .raised)) k → KeptIs commandedUnits k
   commanded-is k e = kept-settings (cuServed (d .units) (served .part .unit) (served .raised)) k (served .part .setup .settings) e
 
-  pub command-tells : (k : Kept) (c : Commanded) (r : Turned) (m1 m2 out1 set1 : List ℕ) → commands.Serves served m c m1 out1 set1 → KeptIs commandedUnits k
+  pub command-tells : (k : Kept) (c : Commanded) (r : Turned) (m1 m2 out1 set1 : List ℕ) → command-serves.Serves served m c m1 out1 set1 → KeptIs commandedUnits k
       → Concludes commandedUnits (served .raised) k (c .length) m1 r m2 → Tells (commandTurn (worldOf d m h out) report) r m2 out1 set1
   unfolding commandTurn concluded
   command-tells k c r m1 m2 out1 set1 s e f =
       record {
         device = record { units = rw (f .kept) e; setup = s .setup };
-        length = f .sent ∙ s .length;
-        edge = f .edge;
+        told = f .told ∙ ap (λ (n : ℕ). toldBy n (anyOf (served .raised))) (s .length);
         stops = f .stops ∙ ap (λ (n : ℕ). tells (answered n (anyOf (served .raised)))) (s .length);
+        nothing = λ q. quiet _ _ _ _ _ _ _ f q;
         memory = f .memory ∙ rw (s .memory) (sym (apply-append (served .writes) (statusBy (anyOf (served .raised)) commandedUnits) m));
         outgoing = s .outgoing;
       }
@@ -153,9 +162,9 @@ module _ (d : Device) (m h out set : List ℕ) where
   receive-tells k c r m1 m2 s e t f =
       record {
         device = record { units = rw (f .kept) e; setup = t };
-        length = f .sent;
-        edge = f .edge;
+        told = f .told;
         stops = f .stops;
+        nothing = λ q. quiet _ _ _ _ _ _ _ f q;
         memory = f .memory ∙ rw (s .memory) (sym (apply-append (received .writes) (statusBy (anyOf (received .raised)) receivedUnits) m));
         outgoing = refl;
       }
@@ -180,14 +189,14 @@ module _ (w : World) (report : ℕ) (r : Turned) (m out set : List ℕ) where
   by-receive false true c e f t = t
   by-receive false false c e f t = absurd (false≢true f)
 
-  by-neither : (a b c : Bool) → (a && (not b || c)) ≡ false → b ≡ false → DeviceIs (w .device) (r .kept) set → r .length ≡ 0 → r .edge ≡ false → r .stops ≡ true
+  by-neither : (a b c : Bool) → (a && (not b || c)) ≡ false → b ≡ false → DeviceIs (w .device) (r .kept) set → r .told ≡ 0 → r .stops ≡ true
       → m ≡ w .memory → out ≡ w .outgoing
       → Does (turnBy (servedBy a b c) w report) (stops (servedBy a b c) (turnBy (servedBy a b c) w report .outcome .answer)) r m out set
   unfolding stops
-  by-neither true true c e f d l g s x y = absurd (true≢false f)
-  by-neither true false c e f d l g s x y = absurd (true≢false e)
-  by-neither false true c e f d l g s x y = absurd (true≢false f)
-  by-neither false false c e f d l g s x y = record { device = d; length = l; edge = g; stops = s; memory = x; outgoing = y }
+  by-neither true true c e f d l s x y = absurd (true≢false f)
+  by-neither true false c e f d l s x y = absurd (true≢false e)
+  by-neither false true c e f d l s x y = absurd (true≢false f)
+  by-neither false false c e f d l s x y = record { device = d; told = l; stops = s; nothing = λ q. l; memory = x; outgoing = y }
 
   abbrev active : Bool
   active = isActive (cuState (w .device .units .cu))
@@ -195,28 +204,46 @@ module _ (w : World) (report : ℕ) (r : Turned) (m out set : List ℕ) where
   abbrev holds : Bool
   holds = isHolding (w .device .units .ru)
 
-  pub turn-command : (active && (not holds || w .device .units .rulast)) ≡ true → Tells (commandTurn w report) r m out set
+  pub turn-command : commands (w .device .units) ≡ true → Tells (commandTurn w report) r m out set
       → Does (turnOf w report) (stopsAt w report) r m out set
-  unfolding turnOf
+  unfolding turnOf commands
   turn-command e t = by-command active holds (w .device .units .rulast) e t
 
-  pub turn-receive : (active && (not holds || w .device .units .rulast)) ≡ false → holds ≡ true → Tells (receiveTurn w) r m out set
+  pub turn-receive : commands (w .device .units) ≡ false → holds ≡ true → Tells (receiveTurn w) r m out set
       → Does (turnOf w report) (stopsAt w report) r m out set
-  unfolding turnOf
+  unfolding turnOf commands
   turn-receive e f t = by-receive active holds (w .device .units .rulast) e f t
 
-  pub turn-neither : (active && (not holds || w .device .units .rulast)) ≡ false → holds ≡ false → DeviceIs (w .device) (r .kept) set → r .length ≡ 0
-      → r .edge ≡ false → r .stops ≡ true → m ≡ w .memory → out ≡ w .outgoing → Does (turnOf w report) (stopsAt w report) r m out set
-  unfolding turnOf
-  turn-neither e f d l g s x y = by-neither active holds (w .device .units .rulast) e f d l g s x y
+  pub turn-neither : commands (w .device .units) ≡ false → holds ≡ false → DeviceIs (w .device) (r .kept) set → r .told ≡ 0
+      → r .stops ≡ true → m ≡ w .memory → out ≡ w .outgoing → Does (turnOf w report) (stopsAt w report) r m out set
+  unfolding turnOf commands
+  turn-neither e f d l s x y = by-neither active holds (w .device .units .rulast) e f d l s x y
 
 -- what the code tests is that
-module _ (d : Device) (k : Kept) (h : KeptIs (d .units) k) where
-  pub active-is : leb 2 (cuTagIn k) ≡ isActive (cuState (d .units .cu))
-  active-is = rw (cu-is (d .units) k h .tag-is) (active-tag (d .units .cu))
+module _ (u : Units) (k : Kept) (h : KeptIs u k) where
+  active-is : leb 2 (cuTagIn k) ≡ isActive (cuState (u .cu))
+  active-is = rw (cu-is u k h .tag-is) (active-tag (u .cu))
 
-  pub holds-is : leb 4 (ruTagIn k) ≡ isHolding (d .units .ru)
-  holds-is = rw (ru-is (d .units) k h .tag-is) (holding-tag (d .units .ru))
+  pub holds-is : leb 4 (ruTagIn k) ≡ isHolding (u .ru)
+  holds-is = rw (ru-is u k h .tag-is) (holding-tag (u .ru))
+
+  pub commands-idle : cuTagIn k < 2 → false ≡ commands u
+  unfolding commands
+  commands-idle l = let a = sym active-is ∙ lt-leb 2 (cuTagIn k) l in rw a
+
+  pub commands-alone : 2 ≤ cuTagIn k → ruTagIn k < 4 → true ≡ commands u
+  unfolding commands
+  commands-alone l n =
+      let a = sym active-is ∙ le-leb 2 (cuTagIn k) l in
+      let b = sym holds-is ∙ lt-leb 4 (ruTagIn k) n in
+      rw (a, b)
+
+  pub commands-next : 2 ≤ cuTagIn k → 4 ≤ ruTagIn k → odd (flagsIn k / 2) ≡ commands u
+  unfolding commands
+  commands-next l n =
+      let a = sym active-is ∙ le-leb 2 (cuTagIn k) l in
+      let b = sym holds-is ∙ le-leb 4 (ruTagIn k) n in
+      rw (a, b) (rulast-is u k h)
 
 -- ---- an arrival
 

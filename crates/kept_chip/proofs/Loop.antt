@@ -28,19 +28,20 @@ pub holding-kept : (w : World) (report : ℕ) → turnOf w report .holding ≡ w
 unfolding turnOf
 holding-kept w report = holding-by (isActive (cuState (w .device .units .cu))) (isHolding (w .device .units .ru)) (w .device .units .rulast) w report
 
--- so many turns are taken, and the rest of the run is that of the device here
-pub record Going (total : Run) (report budget taken : ℕ) (k : Kept) (m h out set : List ℕ) : Type 0 where
+-- so many turns are taken, the last of them had nothing to tell, and the rest of the run is that of the device here
+pub record Going (total : Run) (report budget taken told : ℕ) (k : Kept) (m h out set : List ℕ) : Type 0 where
   pub here : Device
+  pub nothing : told ≡ 0
   pub numbers : DeviceIs here k set
   pub rest : runFrom taken (budget - taken) (worldOf here m h out) report ≡ total
 
 pub going-start : (d : Device) (report budget : ℕ) (k : Kept) (m h out set : List ℕ) → DeviceIs d k set
-    → Going (runOf budget (worldOf d m h out) report) report budget 0 k m h out set
+    → Going (runOf budget (worldOf d m h out) report) report budget 0 0 k m h out set
 going-start d report budget k m h out set e =
     let n : budget - 0 ≡ budget = omega arith in
-    record { here = d; numbers = e; rest = rw n (from-start budget (worldOf d m h out) report) }
+    record { here = d; nothing = refl; numbers = e; rest = rw n (from-start budget (worldOf d m h out) report) }
 
-module _ (total : Run) (report budget taken : ℕ) (k : Kept) (m h out set : List ℕ) (g : Going total report budget taken k m h out set) where
+module _ (total : Run) (report budget taken told : ℕ) (k : Kept) (m h out set : List ℕ) (g : Going total report budget taken told k m h out set) where
   abbrev pub world : World
   world = worldOf (g .here) m h out
 
@@ -48,19 +49,19 @@ module _ (total : Run) (report budget taken : ℕ) (k : Kept) (m h out set : Lis
     left : afterwards (turnOf world report) ≡ worldOf (turnOf world report .outcome .device) m1 h out1
     left = rw (s .memory, s .outgoing, holding-kept world report)
 
-    pub going-on : t .stops ≡ false → Going total report budget (taken + 1) (t .kept) m1 h out1 set1
+    pub going-on : t .stops ≡ false → Going total report budget (taken + 1) (t .told) (t .kept) m1 h out1 set1
     going-on e =
         let n : budget - (taken + 1) ≡ budget - taken - 1 = omega arith in
         let z = from-goes taken (budget - taken) world report (omega arith) (sym (s .stops) ∙ e) in
-        record { here = turnOf world report .outcome .device; numbers = s .device; rest = rw (← left, n) (sym z ∙ g .rest) }
+        record { here = turnOf world report .outcome .device; nothing = s .nothing e; numbers = s .device; rest = rw (← left, n) (sym z ∙ g .rest) }
 
-    pub going-stops : t .stops ≡ true → Runs total (record { kept = t .kept; length = t .length; edge = t .edge; taken = taken + 1 }) m1 out1 set1
+    pub going-stops : t .stops ≡ true → Runs total (record { kept = t .kept; told = t .told; taken = taken + 1 }) m1 out1 set1
     going-stops e =
         let z = sym (from-stops taken (budget - taken) world report (omega arith) (sym (s .stops) ∙ e)) ∙ g .rest in
-        rw (← z) (record { device = s .device; length = s .length; edge = s .edge; taken = refl; memory = s .memory; outgoing = s .outgoing })
+        rw (← z) (record { device = s .device; told = s .told; taken = refl; memory = s .memory; outgoing = s .outgoing })
 
-  pub going-none : taken ≤ budget → budget ≤ taken → Runs total (record { kept = k; length = 0; edge = false; taken = taken }) m out set
+  pub going-none : taken ≤ budget → budget ≤ taken → Runs total (record { kept = k; told = told; taken = taken }) m out set
   going-none a b =
       let n : budget - taken ≡ 0 = omega arith in
       let z = rw n at (g .rest) in
-      rw (← (sym (from-none taken world report) ∙ z)) (record { device = g .numbers; length = refl; edge = refl; taken = refl; memory = refl; outgoing = refl })
+      rw (← (sym (from-none taken world report) ∙ z)) (record { device = g .numbers; told = g .nothing; taken = refl; memory = refl; outgoing = refl })

@@ -1,13 +1,15 @@
 -- A turn, a run and an arrival in numbers: the crate chip says what is done, and here stands that the numbers, the answer and every lent byte
 -- afterwards are those. Assumes nothing.
 use mathlib.Core.Path.{_≡_}
-use mathlib.Core.Bool.{Bool}
+use mathlib.Core.Bool.{Bool, false, not, _&&_, _||_}
 use mathlib.Core.List.{List}
-use Prim.Native.Nat.{ℕ}
+use Prim.Native.Nat.{ℕ, _+_, _*_}
 use Rattle.memory.specs.Memory.{apply}
-use Rattle.scb.specs.Words.{anyOf}
+use Rattle.scb.specs.Words.{anyOf, one}
 use Rattle.scb.specs.declared.Events.{Events}
 use Rattle.device.specs.Answers.{answered}
+use Rattle.device.specs.State.{cuState, isActive, isHolding}
+use Rattle.device.specs.declared.Answer.{Answer}
 use Rattle.device.specs.declared.Units.{Units}
 use Rattle.actions.specs.Setup.{setupOf}
 use Rattle.device.specs.declared.Device.{Device}
@@ -25,20 +27,30 @@ pub record DeviceIs (d : Device) (k : Kept) (set : List ℕ) : Type 0 where
   pub units : KeptIs (d .units) k
   pub setup : SetIs (setupOf d) set
 
+-- what an answer that is not refused tells, as one number: the length sent, and the edge above its 16 bits
+abbrev pub toldBy : ℕ → Bool → ℕ
+toldBy length edge = length + 65536 * one edge
+
+abbrev pub toldOf : Answer → ℕ
+toldOf a = toldBy (a .length) (a .edge)
+
+-- the command unit is served: it has work, and the receive unit has none or was served at the last working turn
+unfoldable pub commands : Units → Bool
+commands u = isActive (cuState (u .cu)) && (not (isHolding (u .ru)) || u .rulast)
+
 -- the end of a working turn, after which the units are u: the status is written if an event was raised
 pub record Concludes (u : Units) (by : Events) (k : Kept) (length : ℕ) (before : List ℕ) (r : Turned) (m : List ℕ) : Type 0 where
   pub kept : r .kept ≡ k
-  pub sent : r .length ≡ length
-  pub edge : r .edge ≡ anyOf by
+  pub told : r .told ≡ toldBy length (anyOf by)
   pub stops : r .stops ≡ tells (answered length (anyOf by))
   pub memory : m ≡ apply (statusBy (anyOf by) u) before
 
--- a turn; `stopped` says whether it ends a run
+-- a turn; `stopped` says whether it ends a run. One that does not has nothing to tell
 pub record Does (said : Ran) (stopped : Bool) (r : Turned) (m out set : List ℕ) : Type 0 where
   pub device : DeviceIs (said .outcome .device) (r .kept) set
-  pub length : r .length ≡ said .outcome .answer .length
-  pub edge : r .edge ≡ said .outcome .answer .edge
+  pub told : r .told ≡ toldOf (said .outcome .answer)
   pub stops : r .stops ≡ stopped
+  pub nothing : r .stops ≡ false → r .told ≡ 0
   pub memory : m ≡ said .memory
   pub outgoing : out ≡ said .outgoing
 
@@ -49,8 +61,7 @@ Tells said r m out set = Does said (tells (said .outcome .answer)) r m out set
 -- turns in a row
 pub record Runs (said : Run) (r : Turns) (m out set : List ℕ) : Type 0 where
   pub device : DeviceIs (said .world .device) (r .kept) set
-  pub length : r .length ≡ said .answer .length
-  pub edge : r .edge ≡ said .answer .edge
+  pub told : r .told ≡ toldOf (said .answer)
   pub taken : r .taken ≡ said .taken
   pub memory : m ≡ said .world .memory
   pub outgoing : out ≡ said .world .outgoing

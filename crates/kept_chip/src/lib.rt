@@ -16,21 +16,22 @@ ghost use Rattle.chip.specs.Run as runs;
 ghost use Rattle.kept.specs.Kept as keeps;
 ghost use Rattle.kept_chip.specs.Does as does;
 
-// What a turn comes to, besides the lent bytes. A turn that sends a frame, reports an edge or has no work ends a run.
+// What a turn comes to, besides the lent bytes; `told` is the length that it sent, with EDGE above it if it reports one. A turn that sends a
+// frame, reports an edge or has no work ends a run.
 pub struct Turned {
     pub kept: Kept,
-    pub length: u16,
-    pub edge: bool,
+    pub told: u32,
     pub stops: bool,
 }
 
-// What turns in a row come to: the last one's answer, and how many were taken.
+// What turns in a row come to: what the last one told, and how many were taken.
 pub struct Turns {
     pub kept: Kept,
-    pub length: u16,
-    pub edge: bool,
+    pub told: u32,
     pub taken: u16,
 }
+
+const EDGE: u32 = 65536;
 
 // The command unit has work from this tag on, while Active; the receive unit from that one on, while a frame is held.
 const ACTIVE: u64 = 2;
@@ -53,15 +54,13 @@ fn conclude(memory: &mut [u8], k: Kept, raised: u64, length: u16) -> Turned
         kept_attention::write_status(memory, k);
         return Turned {
             kept: k,
-            length: length,
-            edge: true,
+            told: length as u32 + EDGE,
             stops: true,
         };
     }
     Turned {
         kept: k,
-        length: length,
-        edge: false,
+        told: length as u32,
         stops: length != 0,
     }
 }
@@ -107,6 +106,19 @@ fn receive_turn(memory: &mut [u8], holding: &[u8], k: Kept) -> Turned
     conclude(memory, after, s.raised, 0)
 }
 
+// Whether the command unit is served: it has work while Active, and of two units with work the one not served at the last working turn is.
+fn commands(k: Kept) -> bool
+    ensures { λ r. ⌜ ((u : Units) → keeps.KeptIs u k → r ≡ does.commands u) ⌝ }
+{
+    if kept::cu_tag(k) < ACTIVE {
+        return false;
+    }
+    if kept::ru_tag(k) < HOLDING {
+        return true;
+    }
+    kept::flag(kept::flags(k), RU_LAST)
+}
+
 // A turn: RU has work while a frame is held, CU while Active; if both have, the one not served at the last working turn is served.
 pub fn turn(
     memory: &mut [u8],
@@ -119,25 +131,22 @@ pub fn turn(
     requires { ⌜ length (now setup) ≡ 104 ⌝ }
     ensures { λ r. ⌜ ((d : Device) → does.DeviceIs d k (now (setup .entry)) → does.Does (turns.turnOf (world.worldOf d (now (memory .entry)) (now (holding .entry)) (now (outgoing .entry))) report) (runs.stopsAt (world.worldOf d (now (memory .entry)) (now (holding .entry)) (now (outgoing .entry))) report) r (now (memory .exit)) (now (outgoing .exit)) (now (setup .exit))) ⌝ }
 {
-    let ruworks = HOLDING <= kept::ru_tag(k);
-    if (ACTIVE <= kept::cu_tag(k)) & (!ruworks | kept::flag(kept::flags(k), RU_LAST)) {
+    if commands(k) {
         return command_turn(memory, outgoing, setup, k, report);
     }
-    if ruworks {
+    if HOLDING <= kept::ru_tag(k) {
         return receive_turn(memory, holding, k);
     }
     Turned {
         kept: k,
-        length: 0,
-        edge: false,
+        told: 0,
         stops: true,
     }
 }
 
 // ---- turns in a row
 
-// Turns with the same line report, until `budget` are taken or one ends the run. A turn that does not end it has nothing to tell, so that is the
-// answer where the budget ends it.
+// Turns with the same line report, until `budget` are taken or one ends the run.
 pub fn run(
     memory: &mut [u8],
     holding: &[u8],
@@ -151,24 +160,24 @@ pub fn run(
     ensures { λ r. ⌜ ((d : Device) → does.DeviceIs d k (now (setup .entry)) → does.Runs (runs.runOf budget (world.worldOf d (now (memory .entry)) (now (holding .entry)) (now (outgoing .entry))) report) r (now (memory .exit)) (now (outgoing .exit)) (now (setup .exit))) ⌝ }
 {
     let mut state = k;
+    let mut told: u32 = 0;
     let mut taken: u16 = 0;
     while taken < budget {
         let t = turn(memory, holding, outgoing, setup, state, report);
         taken += 1;
+        told = t.told;
         state = t.kept;
         if t.stops {
             return Turns {
                 kept: state,
-                length: t.length,
-                edge: t.edge,
+                told: told,
                 taken: taken,
             };
         }
     }
     Turns {
         kept: state,
-        length: 0,
-        edge: false,
+        told: told,
         taken: taken,
     }
 }

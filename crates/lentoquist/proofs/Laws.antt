@@ -9,19 +9,19 @@ use lib.Dec.{eqb, leb}
 use lib.ListN.{length, take, drop, replicate, take-append-drop}
 use Rattle.memory.specs.Size.{sizeAllowed}
 use Rattle.memory.proofs.Bytes.{Bytes}
-use Rattle.device.specs.Answers.{answered}
+use Rattle.device.specs.Numbers.{refusalNumber}
+use Rattle.device.specs.declared.Answer.{Answer}
 use Rattle.device.specs.Limits.{recordSize, longest}
 use Rattle.device.specs.declared.Device.{Device}
 use Rattle.device.specs.declared.Refusal.{Refusal}
 use Rattle.device.specs.declared.Refusal.the-variants as refusal
 use Rattle.device.specs.declared.Units.{Units}
 use Rattle.kept.specs.declared.Kept.{Kept}
-use Rattle.phases.proofs.Units.{one-below}
 use Rattle.actions.specs.Setup.{setupOf}
 use Rattle.memory.specs.Memory.{digits}
 use Rattle.kept.specs.Kept.{keptOf}
 use Rattle.kept_attention.proofs.States.{setup-length}
-use Rattle.kept_chip.specs.Does.{DeviceIs}
+use Rattle.kept_chip.specs.Does.{DeviceIs, toldOf}
 use Rattle.image.specs.Image.{front, unitBytes, imageOf, decodeOf, deviceFrom, deviceAt, storedUnits}
 use Rattle.image.proofs.Lent.{its-image, its-numbers, its-setup, setup-lent, setup-returned, first-part}
 use Rattle.image.specs.Found.{Found}
@@ -33,9 +33,11 @@ use Rattle.chip.specs.Turn.{turnOf}
 use Rattle.chip.specs.Run.{Run, stopsAt, goesOn, runOf}
 use Rattle.chip.proofs.Run.{run-one}
 use Rattle.kept_chip.proofs.Loop.{holding-kept}
-use Rattle.lentoquist.proofs.Answers.{run-plain}
-use Rattle.lentoquist.specs.Calls.{Areas, Called, Calls, areasRight, refusalOf, refused, keptBy, decodedOn, unlessRefused, calledBy, keptRun, turnCall, runCall, packed}
-use Rattle.lentoquist.specs.Inner.{Finds, keptTurns, turnsCall}
+use Rattle.lentoquist.proofs.Answers.{Plain, run-plain}
+use Rattle.lentoquist.specs.Calls.{Areas, Called, Calls, areasRight, refusedBy, isImage, refusalOf, refused, keptBy, decodedOn, unlessRefused, calledBy, keptRun, attentionCall, arrivalCall, turnCall, runCall, packed}
+use Rattle.lentoquist.specs.declared.Asked.{Asked}
+use Rattle.lentoquist.specs.declared.Asked.the-variants as asked
+use Rattle.lentoquist.specs.Inner.{Finds, keptTurns, askedOn, askedCall}
 
 module _ (a : Areas) (f : List ℕ) (run : World → Ran) where
   -- 1: N is not allowed
@@ -67,35 +69,65 @@ module _ (a : Areas) (f : List ℕ) (run : World → Ran) where
   unfolding refusalOf
   accepted u s r l d = rw (s, r, l, d, d)
 
--- turns in a row are refused as one is: the same four, and those that are not refused
-module _ (a : Areas) (report budget unit : ℕ) where
-  pub run-bad-size : sizeAllowed (length (a .memory)) ≡ false → turnsCall a report budget unit ≡ refused refusal.Memory a
-  unfolding turnsCall refusalOf
-  run-bad-size s = rw s
+-- ---- a call, whatever is asked
 
-  pub run-bad-area : sizeAllowed (length (a .memory)) ≡ true → areasRight a ≡ false → turnsCall a report budget unit ≡ refused refusal.Area a
-  unfolding turnsCall refusalOf
-  run-bad-area s r = rw (s, r)
+-- refused for a length: the record was not looked at
+early : (does : World → Called) (a : Areas) (s l w i : Bool) (r : Refusal) → r ≡ refusedBy s l w true → (refusalNumber r ≡ 0 → ⊥)
+    → unlessRefused (refusedBy s l w i) does a ≡ refused r a
+early does a false l w i r e n = ap (λ (x : Refusal). refused x a) (sym e)
+early does a true false w i r e n = ap (λ (x : Refusal). refused x a) (sym e)
+early does a true true false i r e n = ap (λ (x : Refusal). refused x a) (sym e)
+early does a true true true i r e n = absurd (n (ap refusalNumber e))
 
-  pub run-no-image : sizeAllowed (length (a .memory)) ≡ true → areasRight a ≡ true → decodeOf (a .kept) ≡ is.Foreign
-      → turnsCall a report budget unit ≡ refused refusal.Foreign a
-  unfolding turnsCall refusalOf
-  run-no-image s r d = rw (s, r, d)
+-- not refused for a length
+pub record LengthsRight (s l w : Bool) : Type 0 where
+  pub size : s ≡ true
+  pub areas : l ≡ true
+  pub frame : w ≡ true
 
-  pub run-accepted : (u : Units) → sizeAllowed (length (a .memory)) ≡ true → areasRight a ≡ true → decodeOf (a .kept) ≡ is.Units u
-      → turnsCall a report budget unit ≡ keptTurns unit (runOf budget (worldOf (deviceAt (a .kept) u) (a .memory) (a .holding) (a .outgoing)) report)
-  unfolding turnsCall refusalOf
-  run-accepted u s r d = rw (s, r, d, d)
+lengths-right : (s l w : Bool) (r : Refusal) → r ≡ refusedBy s l w true → refusalNumber r ≡ 0 → LengthsRight s l w
+lengths-right false l w r e n = let q : refusalNumber r ≡ 1 = ap refusalNumber e in absurd (omega (arith, q, n))
+lengths-right true false w r e n = let q : refusalNumber r ≡ 2 = ap refusalNumber e in absurd (omega (arith, q, n))
+lengths-right true true false r e n = let q : refusalNumber r ≡ 3 = ap refusalNumber e in absurd (omega (arith, q, n))
+lengths-right true true true r e n = record { size = refl; areas = refl; frame = refl }
 
--- ---- a run, and one turn
+module _ (x : Asked) (a : Areas) (f : List ℕ) (line budget unit : ℕ) (r : Refusal)
+    (e : r ≡ refusedBy (sizeAllowed (length (a .memory))) (areasRight a) (leb (length f) longest) true) where
+  pub asked-early : (refusalNumber r ≡ 0 → ⊥) → askedCall x a f line budget unit ≡ refused r a
+  unfolding askedCall refusalOf
+  asked-early n = early (askedOn x f line budget unit) a (sizeAllowed (length (a .memory))) (areasRight a) (leb (length f) longest) (isImage (decodeOf (a .kept))) r e n
 
-pub run-counts : (a : Areas) (report budget : ℕ) → turnsCall a report budget 281474976710656 ≡ runCall a report budget
-unfolding turnsCall runCall
-run-counts a report budget = refl
+  module _ (n : refusalNumber r ≡ 0) where
+    pub asked-right : LengthsRight (sizeAllowed (length (a .memory))) (areasRight a) (leb (length f) longest)
+    asked-right = lengths-right (sizeAllowed (length (a .memory))) (areasRight a) (leb (length f) longest) r e n
+
+    pub asked-foreign : decodeOf (a .kept) ≡ is.Foreign → askedCall x a f line budget unit ≡ refused refusal.Foreign a
+    unfolding askedCall refusalOf
+    asked-foreign d = let h = asked-right in rw (h .size, h .areas, h .frame, d)
+
+    pub asked-accepted : (u : Units) → decodeOf (a .kept) ≡ is.Units u
+        → askedCall x a f line budget unit ≡ askedOn x f line budget unit (worldOf (deviceAt (a .kept) u) (a .memory) (a .holding) (a .outgoing))
+    unfolding askedCall refusalOf
+    asked-accepted u d = let h = asked-right in rw (h .size, h .areas, h .frame, d, d)
+
+-- ---- which call is asked
+
+pub asks-attention : (a : Areas) → askedCall asked.Attention a [] 0 0 0 ≡ attentionCall a
+unfolding askedCall attentionCall
+asks-attention a = refl
+
+pub asks-arrival : (a : Areas) (f : List ℕ) (v : ℕ) → askedCall asked.Arrival a f v 0 0 ≡ arrivalCall a f v
+unfolding askedCall arrivalCall
+asks-arrival a f v = refl
+
+pub asks-run : (a : Areas) (report budget : ℕ) → report < 65536 → askedCall asked.Turns a [] report budget 281474976710656 ≡ runCall a report budget
+unfolding askedCall runCall
+asks-run a report budget h = ap (λ (x : ℕ). unlessRefused (refusalOf a []) (λ w. keptRun (runOf budget w x)) a) (omega arith)
 
 pub run-kept : (a : Areas) (report budget : ℕ) (u : Units) → sizeAllowed (length (a .memory)) ≡ true → areasRight a ≡ true → decodeOf (a .kept) ≡ is.Units u
     → runCall a report budget ≡ keptRun (runOf budget (worldOf (deviceAt (a .kept) u) (a .memory) (a .holding) (a .outgoing)) report)
-run-kept a report budget u s r d = sym (run-counts a report budget) ∙ run-accepted a report budget 281474976710656 u s r d
+unfolding runCall refusalOf
+run-kept a report budget u s r d = rw (s, r, d, d)
 
 one-kept : (w : World) (report : ℕ) → keptTurns 0 (runOf 1 w report) ≡ keptBy (turnOf w report)
 one-kept w report =
@@ -113,9 +145,11 @@ one-by refusal.Area a report = refl
 one-by refusal.Overlong a report = refl
 one-by refusal.Foreign a report = refl
 
-pub one-turn : (a : Areas) (report : ℕ) → turnsCall a report 1 0 ≡ turnCall a report
-unfolding turnsCall turnCall
-one-turn a report = one-by (refusalOf a []) a report
+-- a run of one turn, uncounted, is a turn
+pub asks-turn : (a : Areas) (report : ℕ) → report < 65536 → askedCall asked.Turns a [] report 1 0 ≡ turnCall a report
+unfolding askedCall turnCall
+asks-turn a report h =
+    ap (λ (x : ℕ). unlessRefused (refusalOf a []) (λ w. keptTurns 0 (runOf 1 w x)) a) (omega arith) ∙ one-by (refusalOf a []) a report
 
 and-first : (x y z : Bool) → (x && y && z) ≡ true → x ≡ true
 and-first true y z e = refl
@@ -125,13 +159,6 @@ and-first false y z e = e
 pub record-length : (a : Areas) → areasRight a ≡ true → length (a .kept) ≡ 256
 unfolding areasRight
 record-length a r = eqb-true _ _ (and-first (eqb (length (a .kept)) recordSize) _ _ r)
-
--- ---- answers
-
--- an answer that is not refused stands below the turns of a run
-pub packed-below : (n : ℕ) (e : Bool) → n < 65536 → packed (answered n e) < 281474976710656
-unfolding packed
-packed-below n e h = omega (arith, one-below e)
 
 -- ---- numbers that go to a record
 
@@ -187,13 +214,14 @@ arrival-outgoing w f v = refl
 
 -- ---- a run
 
--- what is packed of its length and its edge, with its turns above, is its answer
-pub run-answer : (n : ℕ) (w : World) (report unit : ℕ) (x length taken : ℕ) (edge : Bool) → x ≡ packed (answered length edge)
-    → length ≡ runOf n w report .answer .length → edge ≡ runOf n w report .answer .edge → taken ≡ runOf n w report .taken
-    → x + taken * unit ≡ keptTurns unit (runOf n w report) .answer
-run-answer n w report unit x length taken edge e l g t =
-    let p = sym (run-plain n w report) in
-    rw (e, l, g, t, p)
+-- what the last turn told, with the turns above, is its answer
+told-packed : (a : Answer) → Plain a → toldOf a * 65536 ≡ packed a
+unfolding packed
+told-packed a p = let q = ap (λ (x : Answer). refusalNumber (x .number)) p in omega (arith, q)
+
+pub run-answer : (n : ℕ) (w : World) (report unit : ℕ) (told taken : ℕ) → told ≡ toldOf (runOf n w report .answer) → taken ≡ runOf n w report .taken
+    → told * 65536 + taken * unit ≡ keptTurns unit (runOf n w report) .answer
+run-answer n w report unit told taken e t = rw (e, t, told-packed (runOf n w report .answer) (run-plain n w report))
 
 -- it leaves the holding area alone
 holding-by : (s : Bool) (r : Ran) (rest : Run) (h : List ℕ) → r .holding ≡ h → rest .world .holding ≡ h → goesOn s r rest .world .holding ≡ h

@@ -1,18 +1,19 @@
 -- The shapes of the contracts of the code's inner functions: a call on a record that is an image. Assumes nothing.
 use mathlib.Core.Path.{_≡_}
-use mathlib.Core.Bool.{Bool, true, false}
-use mathlib.Core.List.{List, []}
-use Prim.Native.Nat.{ℕ, _+_, _*_}
+use mathlib.Core.List.{List}
+use Prim.Native.Nat.{ℕ, _+_, _*_, _%_}
 use Rattle.device.specs.declared.Units.{Units}
 use Rattle.kept.specs.Kept.{keptOf}
 use Rattle.kept.specs.declared.Kept.{Kept}
 use Rattle.image.specs.Found as is
 use Rattle.image.specs.Image.{imageOf, decodeOf, deviceAt}
-use Rattle.chip.specs.World.{Ran, worldOf}
+use Rattle.chip.specs.World.{World, worldOf}
 use Rattle.chip.specs.Attention.{attentionOf}
 use Rattle.chip.specs.Arrival.{arrivalOf}
 use Rattle.chip.specs.Run.{Run, runOf}
-use Rattle.lentoquist.specs.Calls.{Areas, Called, areasOf, packed, refusalOf, unlessRefused}
+use Rattle.lentoquist.specs.Calls.{Areas, Called, areasOf, packed, refusalOf, unlessRefused, keptBy}
+use Rattle.lentoquist.specs.declared.Asked.{Asked}
+use Rattle.lentoquist.specs.declared.Asked.the-variants as asked
 
 -- a record is the image of a device with these units, whose numbers these are
 pub record Finds (r : List ℕ) (k : Kept) (u : Units) : Type 0 where
@@ -31,10 +32,6 @@ pub record ArrivesOn (u : Units) (m h r f : List ℕ) (v : ℕ) (a : ℕ) (m′ 
   pub holding : (out : List ℕ) → h′ ≡ arrivalOf (worldOf (deviceAt r u) m h out) f v .holding
   pub kept : (out : List ℕ) → r′ ≡ imageOf (arrivalOf (worldOf (deviceAt r u) m h out) f v .outcome .device)
 
-abbrev pub unitOf : (counted : Bool) → ℕ
-unitOf true = 281474976710656
-unitOf false = 0
-
 -- turns in a row, each of which adds a unit to the answer: none for a turn, that of bit 48 for a run
 abbrev pub keptTurns : (unit : ℕ) → Run → Called
 keptTurns unit r =
@@ -43,8 +40,15 @@ keptTurns unit r =
       areas = areasOf (r .world .memory) (r .world .holding) (r .world .outgoing) (imageOf (r .world .device));
     }
 
-unfoldable pub turnsCall : Areas → (report budget unit : ℕ) → Called
-turnsCall a report budget unit = unlessRefused (refusalOf a []) (λ w. keptTurns unit (runOf budget w report)) a
+-- what is asked of a world: `line` is what the line side tells, a verdict or a report of 16 bits
+abbrev pub askedOn : Asked → (f : List ℕ) (line budget unit : ℕ) → World → Called
+askedOn asked.Attention f line budget unit w = keptBy (attentionOf w)
+askedOn asked.Arrival f line budget unit w = keptBy (arrivalOf w f line)
+askedOn asked.Turns f line budget unit w = keptTurns unit (runOf budget w (line % 65536))
+
+-- every call but reset
+unfoldable pub askedCall : Asked → Areas → (f : List ℕ) (line budget unit : ℕ) → Called
+askedCall x a f line budget unit = unlessRefused (refusalOf a f) (askedOn x f line budget unit) a
 
 pub record RunsOn (u : Units) (m h out r : List ℕ) (report budget unit : ℕ) (a : ℕ) (m′ out′ r′ : List ℕ) : Type 0 where
   pub answer : a ≡ keptTurns unit (runOf budget (worldOf (deviceAt r u) m h out) report) .answer

@@ -5,10 +5,14 @@ use device::Refusal;
 use image::Decoded;
 use kept::Kept;
 ghost use mathlib.Core.Path.{_≡_};
-ghost use Prim.Native.Nat.{_*_, _<_};
+ghost use mathlib.Core.Bool.{true};
+ghost use Prim.Native.Nat.{_+_, _*_, _<_, _≤_};
+ghost use lib.Dec.{leb};
 ghost use lib.ListN.{length};
+ghost use Rattle.memory.specs.Size.{sizeAllowed};
 ghost use Rattle.scb.specs.Words as words;
 ghost use Rattle.device.specs.Answers as answers;
+ghost use Rattle.device.specs.Limits.{longest};
 ghost use Rattle.device.specs.declared.Units.{Units};
 ghost use Rattle.lentoquist.specs.Calls as calls;
 ghost use Rattle.lentoquist.specs.Inner as inner;
@@ -47,13 +51,29 @@ fn lengths_right(holding: usize, outgoing: usize, kept: usize) -> bool
     (kept == 256) & (holding == 2048) & (outgoing == 2048)
 }
 
-// The answer of a call that is not refused.
-fn answer_of(length: u16, edge: bool) -> u64
-    ensures { λ x. ⌜ (x ≡ calls.packed (answers.answered length edge)) × (x < 281474976710656) ⌝ }
+// Why a call is refused, if it is not for its record: the lowest number that applies, by the lengths of what is lent and of the frame.
+fn refusal(memory: usize, holding: usize, outgoing: usize, kept: usize, frame: usize) -> Refusal
+    ensures { λ r. ⌜ r ≡ calls.refusedBy (sizeAllowed memory) (calls.lengthsRight holding outgoing kept) (leb frame longest) true ⌝ }
+{
+    if !memory::size_allowed(memory) {
+        return Refusal::Memory;
+    }
+    if !lengths_right(holding, outgoing, kept) {
+        return Refusal::Area;
+    }
+    if frame > 2048 {
+        return Refusal::Overlong;
+    }
+    Refusal::Accepted
+}
+
+// The answer of a call that is not refused and sends nothing.
+fn answer_of(edge: bool) -> u64
+    ensures { λ x. ⌜ x ≡ calls.packed (answers.answered 0 edge) ⌝ }
 {
     packed(Answer {
         number: Refusal::Accepted,
-        length: length,
+        length: 0,
         edge: edge,
     })
 }
@@ -65,6 +85,11 @@ const SETUP: usize = 152;
 
 const RECORD: usize = 256;
 
+// Where in an answer stands what a turn tells, and where the turns of a run are counted.
+const TOLD: u64 = 65536;
+
+const TURN: u64 = 281474976710656;
+
 // An attention to the device of the numbers k.
 fn attention_on(memory: &mut [u8], kept: &mut [u8], k: Kept) -> u64
     requires { ⌜ length (now kept) ≡ 256 ⌝ }
@@ -73,7 +98,7 @@ fn attention_on(memory: &mut [u8], kept: &mut [u8], k: Kept) -> u64
     let a = kept_attention::attend(memory, &mut kept[SETUP..RECORD], k);
     let after = a.kept;
     image::store(kept, after);
-    answer_of(0, a.edge)
+    answer_of(a.edge)
 }
 
 // A frame that arrives at the device of the numbers k.
@@ -90,20 +115,18 @@ fn arrival_on(
 {
     let after = kept_chip::arrival(memory, holding, &kept[SETUP..RECORD], k, frame, verdict);
     image::store(kept, after);
-    answer_of(0, false)
+    answer_of(false)
 }
 
-// The turns of a run are counted from bit 48 of its answer on.
-fn turns_taken(taken: u16, counted: bool) -> u64
-    ensures { λ r. ⌜ (r ≡ taken * inner.unitOf counted) × (r < 18446462598732840961) ⌝ }
+// The answer of turns: what the last one told, and as many units as turns.
+fn answer_told(told: u32, taken: u16, unit: u64) -> u64
+    requires { ⌜ unit ≤ 281474976710656 ⌝ }
+    ensures { λ r. ⌜ r ≡ told * 65536 + taken * unit ⌝ }
 {
-    if counted {
-        return taken as u64 * 281474976710656;
-    }
-    0
+    told as u64 * TOLD + taken as u64 * unit
 }
 
-// Turns of the device of the numbers k.
+// Turns of the device of the numbers k. Each adds `unit` to the answer.
 fn turns_on(
     memory: &mut [u8],
     holding: &[u8],
@@ -112,10 +135,10 @@ fn turns_on(
     k: Kept,
     report: u16,
     budget: u16,
-    counted: bool,
+    unit: u64,
 ) -> u64
-    requires { ⌜ length (now kept) ≡ 256 ⌝ }
-    ensures { λ r. ⌜ ((u : Units) → inner.Finds (now (kept .entry)) k u → inner.RunsOn u (now (memory .entry)) (now (holding .entry)) (now (outgoing .entry)) (now (kept .entry)) report budget (inner.unitOf counted) r (now (memory .exit)) (now (outgoing .exit)) (now (kept .exit))) ⌝ }
+    requires { ⌜ (length (now kept) ≡ 256) × (unit ≤ 281474976710656) ⌝ }
+    ensures { λ r. ⌜ ((u : Units) → inner.Finds (now (kept .entry)) k u → inner.RunsOn u (now (memory .entry)) (now (holding .entry)) (now (outgoing .entry)) (now (kept .entry)) report budget unit r (now (memory .exit)) (now (outgoing .exit)) (now (kept .exit))) ⌝ }
 {
     let t = kept_chip::run(
         memory,
@@ -128,31 +151,55 @@ fn turns_on(
     );
     let after = t.kept;
     image::store(kept, after);
-    answer_of(t.length, t.edge) + turns_taken(t.taken, counted)
+    answer_told(t.told, t.taken, unit)
 }
 
-// A run of turns: refusals first. `counted` says whether its answer has the turns taken.
-fn run_on(
+// ---- a call
+
+// What is asked of the chip.
+enum Asked {
+    Attention,
+    Arrival,
+    Turns,
+}
+
+// Every call but reset: refusals first, then what is asked. `line` is what the line side tells, an arrival's verdict or the report of turns;
+// `frame` is an arrival's, else empty; `budget` and `unit` are those of turns.
+fn call(
     memory: &mut [u8],
     holding: &mut [u8],
     outgoing: &mut [u8],
     kept: &mut [u8],
-    report: u16,
+    asked: Asked,
+    frame: &[u8],
+    line: u32,
     budget: u16,
-    counted: bool,
+    unit: u64,
 ) -> u64
-    ensures { λ r. ⌜ calls.Calls (inner.turnsCall (calls.areasOf (now (memory .entry)) (now (holding .entry)) (now (outgoing .entry)) (now (kept .entry))) report budget (inner.unitOf counted)) r (now (memory .exit)) (now (holding .exit)) (now (outgoing .exit)) (now (kept .exit)) ⌝ }
+    requires { ⌜ unit ≤ 281474976710656 ⌝ }
+    ensures { λ r. ⌜ calls.Calls (inner.askedCall asked (calls.areasOf (now (memory .entry)) (now (holding .entry)) (now (outgoing .entry)) (now (kept .entry))) (now (frame .entry)) line budget unit) r (now (memory .exit)) (now (holding .exit)) (now (outgoing .exit)) (now (kept .exit)) ⌝ }
 {
-    if !memory::size_allowed(memory.len()) {
-        return refuse(Refusal::Memory);
-    }
-    if !lengths_right(holding.len(), outgoing.len(), kept.len()) {
-        return refuse(Refusal::Area);
+    let r = refusal(
+        memory.len(),
+        holding.len(),
+        outgoing.len(),
+        kept.len(),
+        frame.len(),
+    );
+    if device::refusal_number(r) != 0 {
+        return refuse(r);
     }
     let Decoded::Units(k) = image::decode(kept) else {
         return refuse(Refusal::Foreign);
     };
-    turns_on(memory, holding, outgoing, kept, k, report, budget, counted)
+    match asked {
+        Asked::Attention => attention_on(memory, kept, k),
+        Asked::Arrival => arrival_on(memory, holding, kept, k, frame, line),
+        Asked::Turns => {
+            let report = (line % 65536) as u16;
+            turns_on(memory, holding, outgoing, kept, k, report, budget, unit)
+        }
+    }
 }
 
 // ---- the exported calls
@@ -164,7 +211,7 @@ pub extern "C" fn lq_reset(kept: &mut [u8]) -> u64
 {
     if kept.len() == 256 {
         image::renew(kept);
-        return answer_of(0, false);
+        return answer_of(false);
     }
     refuse(Refusal::Area)
 }
@@ -179,16 +226,18 @@ pub extern "C" fn lq_attention(
 ) -> u64
     ensures { λ r. ⌜ calls.Calls (calls.attentionCall (calls.areasOf (now (memory .entry)) (now (holding .entry)) (now (outgoing .entry)) (now (kept .entry)))) r (now (memory .exit)) (now (holding .exit)) (now (outgoing .exit)) (now (kept .exit)) ⌝ }
 {
-    if !memory::size_allowed(memory.len()) {
-        return refuse(Refusal::Memory);
-    }
-    if !lengths_right(holding.len(), outgoing.len(), kept.len()) {
-        return refuse(Refusal::Area);
-    }
-    let Decoded::Units(k) = image::decode(kept) else {
-        return refuse(Refusal::Foreign);
-    };
-    attention_on(memory, kept, k)
+    let no_frame: [u8; 0] = [0; 0];
+    call(
+        memory,
+        holding,
+        outgoing,
+        kept,
+        Asked::Attention,
+        &no_frame,
+        0,
+        0,
+        0,
+    )
 }
 
 // A frame arrives, with the line side's verdict.
@@ -203,19 +252,17 @@ pub extern "C" fn lq_arrival(
 ) -> u64
     ensures { λ r. ⌜ calls.Calls (calls.arrivalCall (calls.areasOf (now (memory .entry)) (now (holding .entry)) (now (outgoing .entry)) (now (kept .entry))) (now (frame .entry)) verdict) r (now (memory .exit)) (now (holding .exit)) (now (outgoing .exit)) (now (kept .exit)) ⌝ }
 {
-    if !memory::size_allowed(memory.len()) {
-        return refuse(Refusal::Memory);
-    }
-    if !lengths_right(holding.len(), outgoing.len(), kept.len()) {
-        return refuse(Refusal::Area);
-    }
-    if frame.len() > 2048 {
-        return refuse(Refusal::Overlong);
-    }
-    let Decoded::Units(k) = image::decode(kept) else {
-        return refuse(Refusal::Foreign);
-    };
-    arrival_on(memory, holding, kept, k, frame, verdict)
+    call(
+        memory,
+        holding,
+        outgoing,
+        kept,
+        Asked::Arrival,
+        frame,
+        verdict,
+        0,
+        0,
+    )
 }
 
 // A turn, with the line report that counts if it is the end turn of a Transmit: a run of one turn, which no answer of a turn counts.
@@ -229,7 +276,18 @@ pub extern "C" fn lq_turn(
 ) -> u64
     ensures { λ r. ⌜ calls.Calls (calls.turnCall (calls.areasOf (now (memory .entry)) (now (holding .entry)) (now (outgoing .entry)) (now (kept .entry))) report) r (now (memory .exit)) (now (holding .exit)) (now (outgoing .exit)) (now (kept .exit)) ⌝ }
 {
-    run_on(memory, holding, outgoing, kept, report, 1, false)
+    let no_frame: [u8; 0] = [0; 0];
+    call(
+        memory,
+        holding,
+        outgoing,
+        kept,
+        Asked::Turns,
+        &no_frame,
+        report as u32,
+        1,
+        0,
+    )
 }
 
 // Turns in a row, until `budget` are taken or one has sent a frame, reported an edge or found no work. The record is read and written once.
@@ -244,5 +302,16 @@ pub extern "C" fn lq_run(
 ) -> u64
     ensures { λ r. ⌜ calls.Calls (calls.runCall (calls.areasOf (now (memory .entry)) (now (holding .entry)) (now (outgoing .entry)) (now (kept .entry))) report budget) r (now (memory .exit)) (now (holding .exit)) (now (outgoing .exit)) (now (kept .exit)) ⌝ }
 {
-    run_on(memory, holding, outgoing, kept, report, budget, true)
+    let no_frame: [u8; 0] = [0; 0];
+    call(
+        memory,
+        holding,
+        outgoing,
+        kept,
+        Asked::Turns,
+        &no_frame,
+        report as u32,
+        budget,
+        TURN,
+    )
 }

@@ -112,19 +112,27 @@ fn spelled(low: u8, high: u8) -> u16
     low as u16 + 256 * high as u16
 }
 
-// The word at a, low byte first. Each byte's address wraps by itself, so a word may lie across the end of memory: then its second byte is the
-// first of all. Elsewhere the two lie side by side, and one load reads both.
-pub fn word_at(m: &[u8], a: RealAddress) -> u16
-    ensures { λ r. ⌜ r ≡ wordAt (now (m .entry)) (a .0) ⌝ }
+// The word at index a, low byte first. Each byte's index wraps by itself, so a word may lie across the end of memory: then its second byte is
+// the first of all. Elsewhere the two lie side by side, and one load reads both.
+fn read_word(m: &[u8], a: usize) -> u16
+    ensures { λ r. ⌜ r ≡ wordAt (now (m .entry)) a ⌝ }
 {
     if m.len() == 0 {
         return 0;
     }
-    let i = slot(a.0 as usize, m.len());
-    if i < m.len() - 1 {
+    let last = m.len() - 1;
+    let i = slot(a, m.len());
+    if i < last {
         return spelled(m[i], m[i + 1]);
     }
     spelled(m[i], m[0])
+}
+
+// The word at a.
+pub fn word_at(m: &[u8], a: RealAddress) -> u16
+    ensures { λ r. ⌜ r ≡ wordAt (now (m .entry)) (a .0) ⌝ }
+{
+    read_word(m, a.0 as usize)
 }
 
 // The word at a, which is an offset.
@@ -139,7 +147,8 @@ pub fn real_at(m: &[u8], a: RealAddress) -> RealAddress
     ensures { λ r. ⌜ r ≡ addressAt (now (m .entry)) (a .0) ⌝ }
 {
     let low = word_at(m, a) as u32;
-    RealAddress(low + 65536 * read(m, a.0 as usize + 2) as u32)
+    let high = read_word(m, a.0 as usize + 2) % 256;
+    RealAddress(low + 65536 * high as u32)
 }
 
 // The byte v goes to a.
@@ -158,8 +167,9 @@ pub fn put_word(m: &mut [u8], a: RealAddress, w: u16)
     }
     let low = (w % 256) as u8;
     let high = (w / 256) as u8;
+    let last = m.len() - 1;
     let i = slot(a.0 as usize, m.len());
-    if i < m.len() - 1 {
+    if i < last {
         m[i] = low;
         m[i + 1] = high;
         return;

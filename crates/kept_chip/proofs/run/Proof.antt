@@ -13,15 +13,15 @@ use Rattle.kept_chip.proofs.run.Statement.{statement}
 use Rattle.kept_chip.proofs.run.Tie as tie
 
 abbrev Inv-loop : tie.InvT-loop
-Inv-loop memory₀ holding outgoing₀ setup₀ report budget state₀ taken₀ memory outgoing setup state taken =
+Inv-loop memory₀ holding outgoing₀ setup₀ report budget state₀ told₀ taken₀ memory outgoing setup state told taken =
     (taken ≤ budget)
     × (length memory ≡ length memory₀)
     × (length outgoing ≡ length outgoing₀)
     × (length setup ≡ length setup₀)
-    × ((d : Device) → DeviceIs d state₀ setup₀ → Going (runOf budget (worldOf d memory₀ holding outgoing₀) report) report budget taken state memory holding outgoing setup)
+    × ((d : Device) → DeviceIs d state₀ setup₀ → Going (runOf budget (worldOf d memory₀ holding outgoing₀) report) report budget taken told state memory holding outgoing setup)
 
 abbrev μ-loop : tie.MeasureT-loop
-μ-loop memory₀ holding outgoing₀ setup₀ report budget state₀ taken₀ memory outgoing setup state taken = budget - taken
+μ-loop memory₀ holding outgoing₀ setup₀ report budget state₀ told₀ taken₀ memory outgoing setup state told taken = budget - taken
 
 loop-holds : tie.Need-loop-holds Inv-loop μ-loop
 loop-holds c =
@@ -40,7 +40,7 @@ loop-again c =
       search needs,
       search needs,
       search needs,
-      (λ d e. let g = l .loop .inv .4 d e in going-on _ (s .args .report) (s .args .budget) (l .loop .taken) _ _ _ _ _ g _ _ _ _ (search needs) (t .turn .ensures (g .here) (g .numbers)) (c .if1 .left)),
+      (λ d e. let g = l .loop .inv .4 d e in going-on _ (s .args .report) (s .args .budget) (l .loop .taken) _ _ _ _ _ _ g _ _ _ _ (search needs) (t .turn .ensures (g .here) (g .numbers)) (c .if1 .left)),
     )
 
 returns : tie.Need-returns Inv-loop μ-loop
@@ -48,12 +48,12 @@ returns c =
     let l : tie.At-loop Inv-loop μ-loop = search needs in
     let t : tie.After-turn Inv-loop μ-loop = search needs in
     let s : tie.Start Inv-loop μ-loop = search needs in
-    λ d e. let g = l .loop .inv .4 d e in going-stops _ (s .args .report) (s .args .budget) (l .loop .taken) _ _ _ _ _ g _ _ _ _ (search needs) (t .turn .ensures (g .here) (g .numbers)) (c .if1 .taken)
+    λ d e. let g = l .loop .inv .4 d e in going-stops _ (s .args .report) (s .args .budget) (l .loop .taken) _ _ _ _ _ _ g _ _ _ _ (search needs) (t .turn .ensures (g .here) (g .numbers)) (c .if1 .taken)
 
 returns-2 : tie.Need-returns-2 Inv-loop μ-loop
 returns-2 c =
     let s : tie.Start Inv-loop μ-loop = search needs in
-    λ d e. going-none _ (s .args .report) (s .args .budget) (c .before .loop .taken) _ _ _ _ _ (c .before .loop .inv .4 d e) (c .before .loop .inv .0) (c .loop-test .left)
+    λ d e. going-none _ (s .args .report) (s .args .budget) (c .before .loop .taken) _ _ _ _ _ _ (c .before .loop .inv .4 d e) (c .before .loop .inv .0) (c .loop-test .left)
 
 pub run-spec : {M : Type 1} → statement M
 run-spec =

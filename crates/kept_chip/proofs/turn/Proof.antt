@@ -1,11 +1,39 @@
 -- `kept_chip::turn` meets its contract: each unit, or neither. Assumes nothing.
 use mathlib.Core.Path.{_≡_, refl, sym, _∙_}
+use borrow.Author.Tests.{le-leb, lt-leb}
 use Rattle.chip.specs.World.{worldOf}
-use Rattle.kept.proofs.Laws.{rulast-is}
-use Rattle.kept_chip.proofs.Laws.{active-is, holds-is, turn-command, turn-receive, turn-neither}
+use Rattle.kept_chip.proofs.Laws.{holds-is, turn-command, turn-receive, turn-neither}
 use borrow.Author.Needs.{needs}
 use Rattle.kept_chip.proofs.turn.Statement.{statement}
 use Rattle.kept_chip.proofs.turn.Tie as tie
+
+returns : tie.Need-returns
+returns c =
+    let s : tie.Start = search needs in
+    let t : tie.After-commands = search needs in
+    let y : tie.Then1 = search needs in
+    let x : tie.After-command-turn = search needs in
+    λ d e. turn-command (worldOf d _ _ _) (s .args .report) _ _ _ _ (sym (t .commands .ensures (d .units) (e .units)) ∙ y .if1 .taken) (x .command-turn .ensures d _ e)
+
+returns-2 : tie.Need-returns-2
+returns-2 c =
+    let s : tie.Start = search needs in
+    let t : tie.After-commands = search needs in
+    let y : tie.Else1 = search needs in
+    let n : tie.After-ru-tag = search needs in
+    let z : tie.Then2 = search needs in
+    let x : tie.After-receive-turn = search needs in
+    λ d e. turn-receive (worldOf d _ _ _) (s .args .report) _ _ _ _ (sym (t .commands .ensures (d .units) (e .units)) ∙ y .if1 .left)
+    (sym (holds-is (d .units) (s .args .k) (e .units)) ∙ le-leb _ _ (rw (n .ru-tag .ensures) at (z .if2 .taken))) (x .receive-turn .ensures d _ _ e)
+
+returns-3 : tie.Need-returns-3
+returns-3 c =
+    let s : tie.Start = search needs in
+    let t : tie.After-commands = search needs in
+    let y : tie.Else1 = search needs in
+    let n : tie.After-ru-tag = search needs in
+    λ d e. turn-neither (worldOf d _ _ _) (s .args .report) _ _ _ _ (sym (t .commands .ensures (d .units) (e .units)) ∙ y .if1 .left)
+    (sym (holds-is (d .units) (s .args .k) (e .units)) ∙ lt-leb _ _ (rw (n .ru-tag .ensures) at (c .if2 .left))) e refl refl refl refl
 
 pub turn-spec : {M : Type 1} → statement M
 turn-spec =
@@ -13,20 +41,12 @@ turn-spec =
     (tie.spec
     (λ c κs. search needs)
     (λ c κs. search needs)
-    (λ c κs. search needs)
-    (λ c κs. search needs)
-    (λ c κs. search needs)
     (λ c. search needs)
     (λ c. search needs)
     (λ c. search needs)
-    (λ c. λ d e. turn-command (worldOf d _ _ _) (c .before .before .before .before .before .before .before .before .before .before .before .before .before .before .before .before .before .before .before .args .report) _ _ _ _
-    (rw (c .before .before .before .before .before .before .before .before .before .before .before .flag .ensures, c .before .before .before .before .before .before .before .before .before .before .before .before .flags .ensures, rulast-is (d .units) (c .before .before .before .before .before .before .before .before .before .before .before .before .before .before .before .before .before .before .before .args .k) (e .units), c .before .before .before .before .before .before .before .before .before .before .before .before .before .cu-tag .ensures, active-is d (c .before .before .before .before .before .before .before .before .before .before .before .before .before .before .before .before .before .before .before .args .k) (e .units), c .before .before .before .before .before .before .before .before .before .before .before .before .before .before .ru-tag .ensures, holds-is d (c .before .before .before .before .before .before .before .before .before .before .before .before .before .before .before .before .before .before .before .args .k) (e .units)) at (c .before .before .before .before .before .before .before .before .before .before .if1 .taken))
-    (c .before .before .before .before .before .before .command-turn .ensures d _ e))
+    returns
+    (λ c κs. search needs)
     (λ c κs. search needs)
     (λ c. search needs)
-    (λ c. λ d e. turn-receive (worldOf d _ _ _) (c .before .before .before .before .before .before .before .before .before .before .before .before .before .before .args .report) _ _ _ _
-    (rw (c .before .before .before .before .before .before .flag .ensures, c .before .before .before .before .before .before .before .flags .ensures, rulast-is (d .units) (c .before .before .before .before .before .before .before .before .before .before .before .before .before .before .args .k) (e .units), c .before .before .before .before .before .before .before .before .cu-tag .ensures, active-is d (c .before .before .before .before .before .before .before .before .before .before .before .before .before .before .args .k) (e .units), c .before .before .before .before .before .before .before .before .before .ru-tag .ensures, holds-is d (c .before .before .before .before .before .before .before .before .before .before .before .before .before .before .args .k) (e .units)) at (c .before .before .before .before .before .if1 .left))
-    (rw (c .before .before .before .before .before .before .before .before .before .ru-tag .ensures, holds-is d (c .before .before .before .before .before .before .before .before .before .before .before .before .before .before .args .k) (e .units)) at (c .before .before .before .before .if2 .taken)) (c .before .before .receive-turn .ensures d _ _ e))
-    (λ c. λ d e. turn-neither (worldOf d _ _ _) (c .before .before .before .before .before .before .before .before .before .before .args .report) _ _ _ _
-    (rw (c .before .before .flag .ensures, c .before .before .before .flags .ensures, rulast-is (d .units) (c .before .before .before .before .before .before .before .before .before .before .args .k) (e .units), c .before .before .before .before .cu-tag .ensures, active-is d (c .before .before .before .before .before .before .before .before .before .before .args .k) (e .units), c .before .before .before .before .before .ru-tag .ensures, holds-is d (c .before .before .before .before .before .before .before .before .before .before .args .k) (e .units)) at (c .before .if1 .left))
-    (rw (c .before .before .before .before .before .ru-tag .ensures, holds-is d (c .before .before .before .before .before .before .before .before .before .before .args .k) (e .units)) at (c .if2 .left)) e refl refl refl refl refl))
+    returns-2
+    returns-3)

@@ -29,7 +29,7 @@ arrival-on-spec =
     let b : Bytes r = record { each = λ i. omega (arith, c .before .before .before .before .before .before .before .before .before .before .before .before .before .before .before .slice-known3 .given i) } in
     let e = lent-device r (s .args .k) u (s .pre) b f in
     record {
-      answer = λ out. c .answer-of .ensures .0;
+      answer = λ out. c .answer-of .ensures;
       memory = λ out. c .before .before .before .before .before .before .before .before .before .arrival .ensures (deviceAt r u) out e .memory;
       holding = λ out. c .before .before .before .before .before .before .before .before .before .arrival .ensures (deviceAt r u) out e .holding;
       kept = λ out. c .before .before .before .store .ensures ∙ put-numbers r (s .args .k) u (s .pre) b f _ _ (c .before .before .before .before .before .before .before .before .before .arrival .ensures (deviceAt r u) out e .device);

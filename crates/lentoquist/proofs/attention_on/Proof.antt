@@ -34,7 +34,7 @@ attention-on-spec =
     let e = lent-device r (s .args .k) u (s .pre) b f in
     let a = c .before .before .before .before .before .before .before .before .before .before .attend .ensures (deviceAt r u) (e .units) (e .setup) in
     record {
-      answer = λ h out. c .answer-of .ensures .0 ∙ ap (λ (x : Bool). packed (answered 0 x)) (a .edge) ∙ ap packed (sym (attention-plain (deviceAt r u) (s .args .memory .now)));
+      answer = λ h out. c .answer-of .ensures ∙ ap (λ (x : Bool). packed (answered 0 x)) (a .edge) ∙ ap packed (sym (attention-plain (deviceAt r u) (s .args .memory .now)));
       memory = λ h out. a .memory;
       kept = λ h out. c .before .before .before .store .ensures ∙ put-back r (s .args .k) u (s .pre) b f _ _ _ (record { units = a .kept; setup = a .setup });
     }))

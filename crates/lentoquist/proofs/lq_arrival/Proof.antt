@@ -1,39 +1,26 @@
--- `lentoquist::lq_arrival` meets its promise: each refusal in its order, then the call itself. Assumes nothing.
-use mathlib.Core.Path.{refl, sym, _∙_}
-use lib.ListN.{length}
-use borrow.Author.Tests.{not-true, not-false, le-leb, lt-leb}
-use Rattle.chip.specs.Arrival.{arrivalOf}
-use Rattle.image.specs.Image.{decodeOf}
-use Rattle.image.proofs.Lent.{found-units, found-foreign}
-use Rattle.lentoquist.specs.Calls.{areasOf, areasRight, arrivalCall}
-use Rattle.lentoquist.proofs.Laws.{bad-size, bad-area, too-long, no-image, accepted, record-length, as-said, arrival-outgoing}
+-- `lentoquist::lq_arrival` meets its promise. Assumes nothing.
+use mathlib.Core.Path.{_≡_, sym}
+use Rattle.lentoquist.specs.Calls.{areasOf}
+use Rattle.lentoquist.proofs.Laws.{asks-arrival, as-said}
 use borrow.Author.Needs.{needs}
 use Rattle.lentoquist.proofs.lq_arrival.Statement.{statement}
 use Rattle.lentoquist.proofs.lq_arrival.Tie as tie
 
+returns : tie.Need-returns
+returns c =
+    let st : tie.Start = search needs in
+    let s = st .args in
+    let a = areasOf (s .memory .now) (s .holding .now) (s .outgoing .now) (s .kept .now) in
+    let t : tie.After-call = search needs in
+    as-said (sym (asks-arrival a (s .frame .now) (s .verdict))) (t .call .ensures)
+
 pub lq-arrival-spec : {M : Type 1} → statement M
-unfolding areasRight arrivalCall
 lq-arrival-spec =
     tie.close
     (tie.spec
     (λ c κs. search needs)
-    (λ c κs. search needs)
-    (λ c. let st : tie.Start = search needs in let s = st .args in let a = areasOf (s .memory .now) (s .holding .now) (s .outgoing .now) (s .kept .now) in as-said (bad-size a (s .frame .now) (λ w. arrivalOf w (s .frame .now) (s .verdict)) (sym (c .before .before .size-allowed .ensures) ∙ not-true _ (c .before .if1 .taken))) (record { answer = c .refuse .ensures; memory = refl; holding = refl; outgoing = refl; kept = refl }))
-    (λ c κs. search needs)
-    (λ c κs. search needs)
-    (λ c. let st : tie.Start = search needs in let s = st .args in let a = areasOf (s .memory .now) (s .holding .now) (s .outgoing .now) (s .kept .now) in as-said (bad-area a (s .frame .now) (λ w. arrivalOf w (s .frame .now) (s .verdict)) (sym (c .before .before .before .before .size-allowed .ensures) ∙ not-false _ (c .before .before .before .if1 .left)) (sym (c .before .before .lengths-right .ensures) ∙ not-true _ (c .before .if2 .taken))) (record { answer = c .refuse2 .ensures; memory = refl; holding = refl; outgoing = refl; kept = refl }))
-    (λ c κs. search needs)
-    (λ c. let st : tie.Start = search needs in let s = st .args in let a = areasOf (s .memory .now) (s .holding .now) (s .outgoing .now) (s .kept .now) in as-said (too-long a (s .frame .now) (λ w. arrivalOf w (s .frame .now) (s .verdict)) (sym (c .before .before .before .before .before .size-allowed .ensures) ∙ not-false _ (c .before .before .before .before .if1 .left)) (sym (c .before .before .before .lengths-right .ensures) ∙ not-false _ (c .before .before .if2 .left)) (lt-leb _ _ (c .before .if3 .taken))) (record { answer = c .refuse3 .ensures; memory = refl; holding = refl; outgoing = refl; kept = refl }))
-    (λ c κs. search needs)
-    (λ c. search needs)
-    (λ c. search needs)
-    (λ c κs. search needs)
-    (λ c. search needs)
-    (λ c. let st : tie.Start = search needs in let s = st .args in let a = areasOf (s .memory .now) (s .holding .now) (s .outgoing .now) (s .kept .now) in as-said (no-image a (s .frame .now) (λ w. arrivalOf w (s .frame .now) (s .verdict)) (sym (c .before .before .before .before .before .before .before .before .before .size-allowed .ensures) ∙ not-false _ (c .before .before .before .before .before .before .before .before .if1 .left)) (sym (c .before .before .before .before .before .before .before .lengths-right .ensures) ∙ not-false _ (c .before .before .before .before .before .before .if2 .left)) (le-leb (length (s .frame .now)) 2048 (c .before .before .before .before .before .if3 .left)) (found-foreign (decodeOf (s .kept .now)) (sym (c .before .before .before .decode .ensures) ∙ c .before .enum-told .given .1))) (record { answer = c .refuse4 .ensures; memory = refl; holding = refl; outgoing = refl; kept = refl }))
-    (λ c κs. let st : tie.Start = search needs in let s = st .args in let a = areasOf (s .memory .now) (s .holding .now) (s .outgoing .now) (s .kept .now) in record-length a (sym (c .before .before .before .before .before .before .before .before .before .before .lengths-right .ensures) ∙ not-false _ (c .before .before .before .before .before .before .before .before .before .if2 .left)))
     (λ c. search needs)
     (λ c. search needs)
     (λ c. search needs)
-    (λ c. let st : tie.Start = search needs in let s = st .args in let a = areasOf (s .memory .now) (s .holding .now) (s .outgoing .now) (s .kept .now) in let f = found-units (decodeOf (s .kept .now)) _ (sym (c .before .before .before .before .before .before .before .before .before .before .before .before .before .decode .ensures) ∙ c .before .before .before .before .before .before .before .before .before .before .before .k .given .1) in
-    let k = c .before .before .before .before .before .before .arrival-on .ensures (f .units) (record { found = f .found; numbers = f .numbers }) in
-    as-said (accepted a (s .frame .now) (λ w. arrivalOf w (s .frame .now) (s .verdict)) (f .units) (sym (c .before .before .before .before .before .before .before .before .before .before .before .before .before .before .before .before .before .before .before .size-allowed .ensures) ∙ not-false _ (c .before .before .before .before .before .before .before .before .before .before .before .before .before .before .before .before .before .before .if1 .left)) (sym (c .before .before .before .before .before .before .before .before .before .before .before .before .before .before .before .before .before .lengths-right .ensures) ∙ not-false _ (c .before .before .before .before .before .before .before .before .before .before .before .before .before .before .before .before .if2 .left)) (le-leb (length (s .frame .now)) 2048 (c .before .before .before .before .before .before .before .before .before .before .before .before .before .before .before .if3 .left)) (f .found)) (record { answer = k .answer _; memory = k .memory _; holding = k .holding _; outgoing = arrival-outgoing _ _ _; kept = k .kept _ })))
+    (λ c. search needs)
+    returns)

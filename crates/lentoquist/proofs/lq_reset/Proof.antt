@@ -16,6 +16,6 @@ lq-reset-spec =
     (λ c κs. search needs)
     (λ c κs. search needs)
     (λ c. search needs)
-    (λ c. rw (eq-eqb _ _ (c .before .before .before .before .before .if1 .taken)) (record { answer = c .answer-of .ensures .0; kept = rw (eq-eqb _ _ (c .before .before .before .before .before .if1 .taken)) at (c .before .before .before .renew .ensures) }))
+    (λ c. rw (eq-eqb _ _ (c .before .before .before .before .before .if1 .taken)) (record { answer = c .answer-of .ensures; kept = rw (eq-eqb _ _ (c .before .before .before .before .before .if1 .taken)) at (c .before .before .before .renew .ensures) }))
     (λ c κs. search needs)
     (λ c. rw (ne-eqb _ _ (c .before .if1 .left)) (record { answer = c .refuse .ensures; kept = refl })))

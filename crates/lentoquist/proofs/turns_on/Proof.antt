@@ -4,7 +4,6 @@ use native.Mathlib.Omega.{arith}
 use Rattle.memory.proofs.Bytes.{Bytes}
 use Rattle.image.specs.Image.{deviceAt}
 use Rattle.chip.specs.World.{worldOf}
-use Rattle.lentoquist.specs.Inner.{unitOf}
 use Rattle.lentoquist.proofs.Laws.{lent-device, put-back, run-answer, run-holding}
 use borrow.Author.Needs.{needs}
 use Rattle.lentoquist.proofs.turns_on.Statement.{statement}
@@ -20,21 +19,22 @@ turns-on-spec =
     (λ c κs. search needs)
     (λ c κs. search needs)
     (λ c κs. search needs)
-    (λ c κs. search needs)
-    (λ c. search needs)
     (λ c. search needs)
     (λ c. search needs)
     (λ c. search needs)
     (λ c. λ u f.
     let s : tie.Start = search needs in
+    let back = c .before .before .before in
+    let ran = back .before .before .before .before .before .before .before .before .before in
+    let known = ran .before .before .before .before in
     let r = s .args .kept .now in
-    let b : Bytes r = record { each = λ i. omega (arith, c .before .before .before .before .before .before .before .before .before .before .before .before .before .before .before .before .before .slice-known3 .given i) } in
-    let e = lent-device r (s .args .k) u (s .pre) b f in
-    let t = c .before .before .before .before .before .before .before .before .before .before .before .before .before .run .ensures (deviceAt r u) e in
+    let b : Bytes r = record { each = λ i. omega (arith, known .slice-known3 .given i) } in
+    let e = lent-device r (s .args .k) u (s .pre .0) b f in
+    let t = ran .run .ensures (deviceAt r u) e in
     record {
-      answer = rw (c .turns-taken .ensures .0) (run-answer (s .args .budget) (worldOf (deviceAt r u) (s .args .memory .now) (s .args .holding .now) (s .args .outgoing .now)) (s .args .report) (unitOf (s .args .counted)) _ _ _ _ (c .before .answer-of .ensures .0) (t .length) (t .edge) (t .taken));
+      answer = c .answer-told .ensures ∙ run-answer (s .args .budget) (worldOf (deviceAt r u) (s .args .memory .now) (s .args .holding .now) (s .args .outgoing .now)) (s .args .report) (s .args .unit) _ _ (t .told) (t .taken);
       memory = t .memory;
       holding = run-holding (s .args .budget) (worldOf (deviceAt r u) (s .args .memory .now) (s .args .holding .now) (s .args .outgoing .now)) (s .args .report);
       outgoing = t .outgoing;
-      kept = c .before .before .before .before .store .ensures ∙ put-back r (s .args .k) u (s .pre) b f _ _ _ (t .device);
+      kept = back .store .ensures ∙ put-back r (s .args .k) u (s .pre .0) b f _ _ _ (t .device);
     }))
