@@ -1,7 +1,7 @@
 -- What a turn in numbers comes to: which unit has work, the end of a working turn, a service of each unit, and an arrival. Assumes nothing.
 use mathlib.Core.Path.{_≡_, refl, sym, ap, _∙_}
 use mathlib.Core.Bool.{Bool, true, false, not, _&&_, _||_, true≢false, false≢true}
-use mathlib.Core.List.{List, [], _∷_, _++_}
+use mathlib.Core.List.{List, [], _∷_}
 use Prim.Native.Nat.{ℕ, zero, suc, _+_, _/_, _<_, _≤_}
 use native.Mathlib.Omega.{arith}
 use borrow.Author.Tests.{ne-eqb, le-leb, lt-leb}
@@ -11,11 +11,11 @@ use Rattle.memory.specs.Memory.{apply}
 use Rattle.memory.specs.declared.Offset.{Offset}
 use Rattle.memory.specs.declared.RealAddress.{RealAddress}
 use Rattle.memory.proofs.Laws.{apply-append}
-use Rattle.scb.specs.Words.{eventBits, anyOf, raise}
+use Rattle.scb.specs.Words.{eventBits, anyOf}
 use Rattle.scb.specs.declared.Events.{Events}
 use Rattle.scb.proofs.Status.{any-bits}
 use Rattle.device.specs.Answers.{answered, counts}
-use Rattle.device.specs.Change.{withSettings, withRu}
+use Rattle.device.specs.Change.{withSettings}
 use Rattle.device.specs.State.{cuState, isActive, isHolding}
 use Rattle.device.specs.declared.Cu.{Cu}
 use Rattle.device.specs.declared.Cu.the-variants as cu
@@ -32,12 +32,12 @@ use Rattle.receive.specs.Arrival as receive-arrival
 use Rattle.receive.specs.Part as receive
 use Rattle.receive.specs.Service as receive-service
 use Rattle.attention.specs.Status.{statusTo}
-use Rattle.chip.specs.World.{World, Ran, worldOf}
+use Rattle.chip.specs.World.{World, worldOf}
 use Rattle.chip.specs.Arrival.{arrival, arrivalOf}
 use Rattle.chip.specs.Turn.{commandUnits, receiveUnits, raisedIn, statusBy, concluded, commandTurn, receiveTurn, turnBy, turnOf, servedBy}
 use Rattle.chip.specs.Run.{tells, stops, stopsAt}
 use Rattle.phases.specs.Words.{odd, cuTag, ruTag}
-use Rattle.kept.specs.Kept.{keptOf, flagsIn, cuTagIn, ruTagIn, UnitsWide, KeptIs, cuServed, ruServed}
+use Rattle.kept.specs.Kept.{keptOf, flagsIn, cuTagIn, ruTagIn, KeptIs, cuServed}
 use Rattle.kept.proofs.Laws.{cu-is, ru-is, rulast-is}
 use Rattle.kept.specs.SetUp.{SetIs}
 use Rattle.kept.specs.declared.Kept.{Kept}

@@ -1,12 +1,12 @@
 -- Turns in a row, for the loop that takes them: where it stands, one turn more, and its ends. Assumes nothing.
-use mathlib.Core.Path.{_≡_, refl, sym, ap, _∙_}
+use mathlib.Core.Path.{_≡_, refl, sym, _∙_}
 use mathlib.Core.Bool.{Bool, true, false}
 use mathlib.Core.List.{List}
 use Prim.Native.Nat.{ℕ, _+_, _-_, _≤_, _<_}
 use native.Mathlib.Omega.{arith}
 use Rattle.device.specs.State.{cuState, isActive, isHolding}
 use Rattle.device.specs.declared.Device.{Device}
-use Rattle.chip.specs.World.{World, Ran, worldOf, afterwards}
+use Rattle.chip.specs.World.{World, worldOf, afterwards}
 use Rattle.chip.specs.Turn.{commandTurn, receiveTurn, servedBy, turnBy, turnOf}
 use Rattle.chip.specs.Run.{Run, stopsAt, runOf, runFrom}
 use Rattle.chip.proofs.Run.{from-start, from-none, from-stops, from-goes}

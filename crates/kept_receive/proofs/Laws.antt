@@ -1,14 +1,14 @@
 -- What a unit's word tells of a frame, which counter an arrival adds to, and an end whose writes come in two parts. No contract cites this
 -- file. Assumes nothing.
 use mathlib.Core.Path.{_≡_, _∙_, refl, sym, ap}
-use mathlib.Core.Bool.{Bool, true, false, not, cond, _&&_, _||_}
+use mathlib.Core.Bool.{Bool, true, false, not, cond, _&&_, _||_, true≢false, false≢true}
 use mathlib.Core.List.{List, [], _∷_}
 use mathlib.Core.Logic.{⊎-elim}
 use Prim.Native.Nat.{ℕ, zero, suc, _+_, _*_, _/_, _%_, _<_, _≤_}
 use native.Mathlib.Nat.{div-one}
 use native.Mathlib.Omega.{arith}
 use borrow.Author.Tests.{leb-false, le-leb, lt-leb, eq-eqb, ne-eqb}
-use lib.Dec.{eqb, leb, ltb}
+use lib.Dec.{eqb, leb}
 use lib.ListN.{getD}
 use Rattle.memory.proofs.Laws.{apply-append, below-or-not}
 use Rattle.memory.specs.Address.{place}
@@ -26,12 +26,13 @@ use Rattle.device.specs.declared.Frame.{Frame}
 use Rattle.device.specs.declared.Ru.{Ru}
 use Rattle.device.specs.declared.Ru.the-variants as ru
 use Rattle.device.specs.declared.Storing.{Storing}
+use Rattle.device.specs.declared.Verdict.{Verdict}
 use Rattle.device.specs.declared.Verdict.the-variants as verdict
 use Rattle.device.specs.declared.Walk.{Walk}
 use Rattle.actions.specs.Setup.{Setup}
-use Rattle.receive.specs.Arrival.{counterFor, inReady, inNoResources, fateIn}
+use Rattle.receive.specs.Arrival.{counterBy, counterFor, inReady, inNoResources, fateIn}
 use Rattle.receive.specs.Buffer.{afterBuffer}
-use Rattle.receive.specs.End.{fateBy, raisedBy, goesOn}
+use Rattle.receive.specs.End.{verdictBit, errorBits, frameStatus, fateBy, raisedBy, goesOn}
 use Rattle.receive.specs.Part.{quietly}
 use Rattle.receive.specs.Service.{service}
 use Rattle.phases.specs.Words.{odd, wordOf, ruTag}
@@ -161,27 +162,103 @@ good-is true k = refl
 good-is false k = sym (good-by (eqb k 0) (eqb k 1))
 
 -- the place of the counter that an arrival adds to, by the unit's tag
-abbrev pub placeBy : ℕ → Bool → ℕ → ℕ
-placeBy tag good own = cond (ltb 3 tag) 14 (cond (eqb tag 2 && good) 12 (cond (ltb 1 tag) own 0))
-
-none-place : (g : Bool) (c : Counter) → counterPlace (counterOf (inNoResources g c)) ≡ placeBy 2 g (counterPlace c)
-none-place true c = refl
-none-place false c = refl
-
 ready-place : (g s : Bool) (c : Counter) → counterPlace (counterOf (inReady g s c)) ≡ counterPlace c
 ready-place true s c = refl
 ready-place false true c = refl
 ready-place false false c = refl
 
-pub place-is : (u : Ru) (f : Frame) → counterPlace (counterOf (fateIn u f)) ≡ placeBy (ruTag u) (isGood f) (counterPlace (counterFor f))
-place-is ru.Idle f = refl
-place-is ru.NoResources f = none-place (isGood f) (counterFor f)
-place-is (ru.Suspended o) f = refl
-place-is (ru.Ready o) f = ready-place (isGood f) (f .savebad) (counterFor f)
-place-is (ru.Held o h p) f = refl
-place-is (ru.Filling s w) f = refl
-place-is (ru.Closing s o full) f = refl
-place-is (ru.Lacking s) f = refl
+good-place : (short : Bool) (v : Verdict) → goodBy short v ≡ true → counterPlace (counterBy short v) ≡ 0
+good-place true v g = refl
+good-place false verdict.Good g = refl
+good-place false verdict.Crc g = absurd (false≢true g)
+good-place false verdict.Misaligned g = absurd (false≢true g)
+
+module _ (f : Frame) where
+  abbrev placed : Ru → ℕ
+  placed u = counterPlace (counterOf (fateIn u f))
+
+  -- a frame is held already
+  pub place-held : (u : Ru) → 3 < ruTag u → 14 ≡ placed u
+  place-held ru.Idle l = absurd (omega (arith, l))
+  place-held ru.NoResources l = absurd (omega (arith, l))
+  place-held (ru.Suspended o) l = absurd (omega (arith, l))
+  place-held (ru.Ready o) l = absurd (omega (arith, l))
+  place-held (ru.Held o h p) l = refl
+  place-held (ru.Filling s w) l = refl
+  place-held (ru.Closing s o full) l = refl
+  place-held (ru.Lacking s) l = refl
+
+  -- none is, and this one is good
+  pub place-lost : (u : Ru) → isGood f ≡ true → ruTag u ≡ 2 → 12 ≡ placed u
+  place-lost ru.Idle g e = absurd (omega (arith, e))
+  place-lost ru.NoResources g e = rw g
+  place-lost (ru.Suspended o) g e = absurd (omega (arith, e))
+  place-lost (ru.Ready o) g e = absurd (omega (arith, e))
+  place-lost (ru.Held o h p) g e = absurd (omega (arith, e))
+  place-lost (ru.Filling s w) g e = absurd (omega (arith, e))
+  place-lost (ru.Closing s o full) g e = absurd (omega (arith, e))
+  place-lost (ru.Lacking s) g e = absurd (omega (arith, e))
+
+  pub place-good : (u : Ru) → ruTag u ≤ 3 → isGood f ≡ true → (ruTag u ≡ 2 → ⊥) → 0 ≡ placed u
+  place-good ru.Idle l g n = refl
+  place-good ru.NoResources l g n = absurd (n refl)
+  place-good (ru.Suspended o) l g n = refl
+  place-good (ru.Ready o) l g n = sym (ready-place (isGood f) (f .savebad) (counterFor f) ∙ good-place (f .short) (f .verdict) g)
+  place-good (ru.Held o h p) l g n = absurd (omega (arith, l))
+  place-good (ru.Filling s w) l g n = absurd (omega (arith, l))
+  place-good (ru.Closing s o full) l g n = absurd (omega (arith, l))
+  place-good (ru.Lacking s) l g n = absurd (omega (arith, l))
+
+  -- or bad, and then it counts in Ready and No Resources
+  pub place-bad : (u : Ru) → ruTag u ≤ 3 → isGood f ≡ false → 1 < ruTag u → counterPlace (counterFor f) ≡ placed u
+  place-bad ru.Idle l g m = absurd (omega (arith, m))
+  place-bad ru.NoResources l g m = rw g
+  place-bad (ru.Suspended o) l g m = absurd (omega (arith, m))
+  place-bad (ru.Ready o) l g m = sym (ready-place (isGood f) (f .savebad) (counterFor f))
+  place-bad (ru.Held o h p) l g m = absurd (omega (arith, l))
+  place-bad (ru.Filling s w) l g m = absurd (omega (arith, l))
+  place-bad (ru.Closing s o full) l g m = absurd (omega (arith, l))
+  place-bad (ru.Lacking s) l g m = absurd (omega (arith, l))
+
+  pub place-none : (u : Ru) → ruTag u ≤ 1 → 0 ≡ placed u
+  place-none ru.Idle l = refl
+  place-none ru.NoResources l = absurd (omega (arith, l))
+  place-none (ru.Suspended o) l = refl
+  place-none (ru.Ready o) l = absurd (omega (arith, l))
+  place-none (ru.Held o h p) l = absurd (omega (arith, l))
+  place-none (ru.Filling s w) l = absurd (omega (arith, l))
+  place-none (ru.Closing s o full) l = absurd (omega (arith, l))
+  place-none (ru.Lacking s) l = absurd (omega (arith, l))
+
+-- a frame has no error bit exactly if it is good and buffers sufficed
+no-error : (lacking short : Bool) (v : Verdict) → (not lacking && goodBy short v) ≡ true → eqb (verdictBit v + cond lacking 0x0200 0 + cond short 0x0080 0) 0 ≡ true
+no-error true short v e = absurd (false≢true e)
+no-error false true v e = absurd (false≢true e)
+no-error false false verdict.Good e = refl
+no-error false false verdict.Crc e = absurd (false≢true e)
+no-error false false verdict.Misaligned e = absurd (false≢true e)
+
+some-error : (lacking short : Bool) (v : Verdict) → (not lacking && goodBy short v) ≡ false → eqb (verdictBit v + cond lacking 0x0200 0 + cond short 0x0080 0) 0 ≡ false
+some-error true true verdict.Good e = refl
+some-error true true verdict.Crc e = refl
+some-error true true verdict.Misaligned e = refl
+some-error true false verdict.Good e = refl
+some-error true false verdict.Crc e = refl
+some-error true false verdict.Misaligned e = refl
+some-error false true verdict.Good e = refl
+some-error false true verdict.Crc e = refl
+some-error false true verdict.Misaligned e = refl
+some-error false false verdict.Good e = absurd (true≢false e)
+some-error false false verdict.Crc e = refl
+some-error false false verdict.Misaligned e = refl
+
+pub status-good : (lacking : Bool) (f : Frame) → (not lacking && isGood f) ≡ true → 0xA000 ≡ frameStatus lacking f
+unfolding frameStatus
+status-good lacking f e = let z = no-error lacking (f .short) (f .verdict) e in rw z
+
+pub status-bad : (lacking : Bool) (f : Frame) → (not lacking && isGood f) ≡ false → 0x8000 + errorBits lacking f ≡ frameStatus lacking f
+unfolding frameStatus
+status-bad lacking f e = let z = some-error lacking (f .short) (f .verdict) e in rw z
 
 none-held : (g : Bool) (c : Counter) → isHeld (inNoResources g c) ≡ false
 none-held true c = refl

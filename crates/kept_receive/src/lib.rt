@@ -187,11 +187,7 @@ fn length_of(frame: &[u8]) -> u64
 fn verdict_number(v: u32) -> u64
     ensures { λ r. ⌜ (r ≡ verdictNumber (verdictOf v)) × (r < 3) ⌝ }
 {
-    match v {
-        0 => 0,
-        1 => 1,
-        _ => 2,
-    }
+    if v < 2 { v as u64 } else { 2 }
 }
 
 // Short, bad and good are judged once, by the settings at arrival. Short: bytes plus 4 below the minimum.
@@ -227,15 +223,18 @@ fn counter_of(f: u64) -> u16
     }
 }
 
-// A frame already held: OVRNERRS. A good frame in No Resources: RSCERRS. In Ready, and a bad one in No Resources: as it was judged.
+// A frame already held: OVRNERRS. A good frame in No Resources: RSCERRS. A bad one in Ready or No Resources: as it was judged.
 fn counter_for(tag: u64, f: u64) -> u16
     ensures { λ r. ⌜ ((u : Ru) → tag ≡ ruTag u → r ≡ counterPlace (counterOf (arrivals.fateIn u (frameIn f)))) ⌝ }
 {
     if READY < tag {
         return OVRNERRS;
     }
-    if (tag == NO_RESOURCES) & is_good(f) {
-        return RSCERRS;
+    if is_good(f) {
+        if tag == NO_RESOURCES {
+            return RSCERRS;
+        }
+        return UNCOUNTED;
     }
     if SUSPENDED < tag {
         return counter_of(f);
@@ -462,11 +461,10 @@ fn error_bits(lacking: bool, n: u64) -> u16
 fn frame_status(lacking: bool, n: u64) -> u16
     ensures { λ r. ⌜ r ≡ ends.frameStatus lacking (frameIn n) ⌝ }
 {
-    let errors = error_bits(lacking, n);
-    if errors == 0 {
+    if !lacking & is_good(n) {
         return COMPLETE + OK;
     }
-    COMPLETE + errors
+    COMPLETE + error_bits(lacking, n)
 }
 
 // FFFFh at +6 if no data.

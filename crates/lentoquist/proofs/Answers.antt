@@ -10,7 +10,7 @@ use Rattle.device.specs.Answers.{answered}
 use Rattle.device.specs.State.{cuState, isActive, isHolding}
 use Rattle.device.specs.declared.Answer.{Answer}
 use Rattle.device.specs.declared.Device.{Device}
-use Rattle.attention.specs.Attention.{Attended, initialise, resetBy, obey, attendBy, attend, attentionBy, attention}
+use Rattle.attention.specs.Attention.{initialise, resetBy, obey, attendBy, attend, attentionBy, attention}
 use Rattle.chip.specs.World.{World, Ran, afterwards}
 use Rattle.chip.specs.Turn.{concluded, commandTurn, receiveTurn, servedBy, turnBy, turnOf}
 use Rattle.chip.specs.Run.{Run, stopsAt, goesOn, runOf}

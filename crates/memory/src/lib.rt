@@ -6,7 +6,7 @@ ghost use Prim.Native.Nat.{_+_, _-_, _*_, _%_, _≤_, _<_, min};
 ghost use lib.ListN.{length, take, drop};
 ghost use lib.Seq.{sets};
 ghost use Rattle.memory.specs.Memory.{byteAt, putByte, wordAt, bytesAt, putBytes, digits};
-ghost use Rattle.memory.specs.Address.{place, beyond, offsetAt, isNone, addressAt, realOf, origin, scp};
+ghost use Rattle.memory.specs.Address.{place, beyond, offsetAt, isNone, addressAt, realOf, scp};
 ghost use Rattle.memory.specs.Size.{sizeAllowed};
 
 // The distance from the SCB base.
@@ -35,13 +35,6 @@ pub fn beyond(a: RealAddress, field: u16) -> RealAddress
     ensures { λ r. ⌜ r .0 ≡ beyond a field ⌝ }
 {
     RealAddress(a.0 % 16777216 + field as u32)
-}
-
-// Address 0.
-pub fn origin() -> RealAddress
-    ensures { λ r. ⌜ r ≡ origin ⌝ }
-{
-    RealAddress(0)
 }
 
 // Where the chip looks for the SCP.

@@ -2,15 +2,14 @@
 use mathlib.Core.Path.{_≡_, refl, sym, ap, _∙_}
 use mathlib.Core.List.{List, [], _∷_, _++_, append-nil}
 use mathlib.Core.Bool.{false, _&&_}
-use Prim.Native.Nat.{ℕ, zero, suc, _+_, _-_, _*_, _/_, _^_, _<_}
+use Prim.Native.Nat.{ℕ, zero, suc, _+_, _*_, _/_, _^_, _<_}
 use native.Mathlib.Nat.{add-zero, zero-add, add-suc, suc-add, pow-suc, pow-succ', div-div-eq-div-mul, mod-eq-of-lt, mul-suc}
-use native.Mathlib.Numerals.{add-one}
 use native.Mathlib.Omega.{arith}
 use borrow.Author.Tests.{ne-eqb}
 use lib.Bits.{bitOr, or-add-and, and-le-l, and-le-r}
 use lib.Dec.{eqb}
-use lib.ListN.{length, getD, set, take, replicate, length-replicate, replicate-append-replicate, drop-of-length-le}
-use lib.Seq.{sets, sets-eq, take-suc, length-take-le}
+use lib.ListN.{length, getD, set, replicate, length-replicate, replicate-append-replicate, drop-of-length-le}
+use lib.Seq.{sets, sets-eq}
 use Rattle.memory.specs.Memory.{value, digits}
 use Rattle.memory.proofs.Laws.{sets-append}
 use Rattle.memory.proofs.Fields.{value-append, value-digits, length-digits}
@@ -175,18 +174,6 @@ pub clear-more : (r : List ℕ) (at i : ℕ) → set (sets r at (replicate i 0))
 clear-more r at i =
     let l : length {A = ℕ} (replicate i 0) ≡ i = length-replicate {A = ℕ} i 0 in
     sym (rw (← replicate-append-replicate {A = ℕ} i 1 0, sets-append, l))
-
-pub copy-more : (r : List ℕ) (at : ℕ) (a : List ℕ) (i : ℕ) → i < length a
-    → set (sets r at (take i a)) (at + i) (getD a i 0) ≡ sets r at (take (i + 1) a)
-copy-more r at a i h =
-    let l : length (take i a) ≡ i = length-take-le i a (omega arith) in
-    sym (rw (add-one i, take-suc a i 0 h, sets-append, l))
-
-pub read-more : (r d : List ℕ) (at i : ℕ) → set (sets d 0 (bytesFrom r at i)) i (getD r (at + i) 0) ≡ sets d 0 (bytesFrom r at (i + 1))
-unfolding bytesFrom
-read-more r d at i =
-    let z : 0 + i ≡ i = zero-add i in
-    sym (rw (from-append, sets-append, length-from, z))
 
 -- stores over a whole list
 pub sets-whole : (r bs : List ℕ) → length bs ≡ length r → sets r 0 bs ≡ bs

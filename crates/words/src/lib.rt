@@ -1,4 +1,4 @@
-// Numbers and runs of bytes at places of a slice, the low byte first. It knows no record, and asks that what it reads or writes lies
+// Numbers at places of a slice, the low byte first. It knows no record, and asks that what it reads or writes lies
 // in the slice.
 ghost use mathlib.Core.Path.{_≡_};
 ghost use Prim.Native.Nat.{_+_, _*_, _<_, _≤_};
@@ -6,7 +6,7 @@ ghost use lib.Dec.{eqb};
 ghost use lib.ListN.{length, replicate};
 ghost use lib.Seq.{sets};
 ghost use Rattle.memory.specs.Memory.{digits};
-ghost use Rattle.words.specs.Places.{bytesFrom, field};
+ghost use Rattle.words.specs.Places.{field};
 
 // ---- reading
 
@@ -68,28 +68,6 @@ pub fn is_zero(r: &[u8], at: usize, n: usize) -> bool
     joined == 0
 }
 
-// Six bytes as they are.
-pub fn run6(r: &[u8], at: usize) -> [u8; 6]
-    requires { ⌜ at + 5 < length (now r) ⌝ }
-    ensures { λ x. ⌜ x ≡ bytesFrom (now (r .entry)) at 6 ⌝ }
-{
-    [r[at], r[at + 1], r[at + 2], r[at + 3], r[at + 4], r[at + 5]]
-}
-
-// Ninety-six bytes as they are.
-pub fn run96(r: &[u8], at: usize) -> [u8; 96]
-    requires { ⌜ at + 95 < length (now r) ⌝ }
-    ensures { λ x. ⌜ x ≡ bytesFrom (now (r .entry)) at 96 ⌝ }
-{
-    let mut a: [u8; 96] = [0; 96];
-    let mut i: usize = 0;
-    while i < 96 {
-        a[i] = r[at + i];
-        i += 1;
-    }
-    a
-}
-
 // ---- writing
 
 pub fn put8(r: &mut [u8], at: usize, v: u8)
@@ -140,30 +118,6 @@ pub fn clear(r: &mut [u8], at: usize, n: usize)
     let mut i: usize = 0;
     while i < n {
         r[at + i] = 0;
-        i += 1;
-    }
-}
-
-// Six bytes as they are.
-pub fn put_run6(r: &mut [u8], at: usize, a: [u8; 6])
-    requires { ⌜ at + 5 < length (now r) ⌝ }
-    ensures { λ _. ⌜ now (r .exit) ≡ sets (now (r .entry)) at a ⌝ }
-{
-    let mut i: usize = 0;
-    while i < 6 {
-        r[at + i] = a[i];
-        i += 1;
-    }
-}
-
-// Ninety-six bytes as they are.
-pub fn put_run96(r: &mut [u8], at: usize, a: [u8; 96])
-    requires { ⌜ at + 95 < length (now r) ⌝ }
-    ensures { λ _. ⌜ now (r .exit) ≡ sets (now (r .entry)) at a ⌝ }
-{
-    let mut i: usize = 0;
-    while i < 96 {
-        r[at + i] = a[i];
         i += 1;
     }
 }

@@ -1,17 +1,26 @@
 -- `kept_receive::frame_status` meets its contract. Assumes nothing.
-use borrow.Author.Tests.{ne-eqb}
-use Rattle.receive.specs.End.{frameStatus}
+use mathlib.Core.Path.{_≡_, _∙_, sym, ap}
+use mathlib.Core.Bool.{Bool, not, _&&_}
+use Rattle.kept_receive.specs.Receives.{frameIn}
+use Rattle.kept_receive.proofs.Laws.{status-good, status-bad}
 use borrow.Author.Needs.{needs}
 use Rattle.kept_receive.proofs.frame_status.Statement.{statement}
 use Rattle.kept_receive.proofs.frame_status.Tie as tie
 
+returns : tie.Need-returns
+returns c =
+    let s : tie.Start = search needs in
+    let g : tie.After-is-good = search needs in
+    let a = s .args in
+    status-good (a .lacking) (frameIn (a .n)) (rw (g .is-good .ensures) at (c .if1 .taken))
+
+returns-2 : tie.Need-returns-2
+returns-2 c =
+    let s : tie.Start = search needs in
+    let g : tie.After-is-good = search needs in
+    let l : tie.Else1 = search needs in
+    let a = s .args in
+    rw (c .error-bits .ensures .0) (status-bad (a .lacking) (frameIn (a .n)) (rw (g .is-good .ensures) at (l .if1 .left)))
+
 pub frame-status-spec : {M : Type 1} → statement M
-unfolding frameStatus
-frame-status-spec =
-    tie.close
-    (tie.spec
-    (λ c κs. search needs)
-    (λ c. search needs)
-    (λ c. rw (← c .before .error-bits .ensures .0, c .if1 .taken))
-    (λ c. search needs)
-    (λ c. rw (← c .before .error-bits .ensures .0, ne-eqb _ _ (c .if1 .left))))
+frame-status-spec = tie.close (tie.spec (λ c κs. search needs) (λ c. search needs) returns (λ c κs. search needs) (λ c. search needs) returns-2)
