@@ -1,14 +1,18 @@
 -- The tests that the code makes of a unit's numbers are the shape and the range of the unit. Assumes nothing.
 use mathlib.Core.Path.{_≡_, refl, sym, ap, _∙_}
 use mathlib.Core.Bool.{Bool, true, false, not, cond, _&&_, _||_}
+use mathlib.Core.Logic.{_⊎_, inl, inr}
 use Prim.Native.Nat.{ℕ, zero, suc, _/_, _%_, _≤_, _<_}
 use native.Mathlib.Omega.{arith}
-use borrow.Author.Tests.{eqb-true, ltb-true, leb-true, lt-ltb, le-leb, le-ltb, ne-eqb, eq-eqb}
+use borrow.Author.Tests.{eqb-true, ltb-true, leb-true, lt-ltb, le-leb, lt-leb, le-ltb, ne-eqb, eq-eqb}
+use lib.Bits.{bitOr}
 use lib.Dec.{eqb, leb, ltb}
+use Rattle.memory.proofs.Laws.{below-or-not}
 use Rattle.device.specs.Numbers.{verdictOf}
 use Rattle.device.specs.State.{goodBy}
 use Rattle.phases.specs.Words.{odd, wordOf, cuOf, cuMost, cuKind, cuShaped, frameOf, ruOf, ruMost, ruFlags, restMost, ruShaped}
 use Rattle.phases.proofs.Units.{both}
+use Rattle.words.proofs.Laws.{or-zero}
 use Rattle.image.specs.Ranges.{cuFits, ruFits, frameFits}
 use Rattle.image.specs.Numbers.{flagsIn, kindIn, sizeIn, sizedIn, goesOnIn, actingIs, sendingIs, endingIs, begunIs, frameIs, heldIs, fillingIs, closingIs, lackingIs, holdingIs, cuIs, ruIs}
 
@@ -159,13 +163,28 @@ ru-plain t n rest most b m p q k fits =
     ru-true t n rest (record { tag = b; most = omega arith; flags = omega arith; kind = omega arith; second = omega arith; fits = fits }))
     (λ e. let f = ru-facts t n rest e in rw (le-leb n most (omega (arith, f .most)), eq-eqb rest 0 (omega (arith, f .second))))
 
-pub ru-low : (t n rest : ℕ) → t < 4 → (leb n (cond (eqb (t % 2) 0) 0 0xFFFF) && eqb rest 0) ≡ ruIs t n rest
+ru-low : (t n rest : ℕ) → t < 4 → (leb n (cond (eqb (t % 2) 0) 0 0xFFFF) && eqb rest 0) ≡ ruIs t n rest
 unfolding ruMost ruFlags restMost ruFits ruOf
 ru-low zero n rest h = ru-plain 0 n rest 0 (omega arith) (omega arith) refl refl refl refl
 ru-low (suc zero) n rest h = ru-plain 1 n rest 0xFFFF (omega arith) (omega arith) refl refl refl refl
 ru-low (suc (suc zero)) n rest h = ru-plain 2 n rest 0 (omega arith) (omega arith) refl refl refl refl
 ru-low (suc (suc (suc zero))) n rest h = ru-plain 3 n rest 0xFFFF (omega arith) (omega arith) refl refl refl refl
 ru-low (suc (suc (suc (suc t)))) n rest h = absurd (omega arith)
+
+-- an offset alone, or nothing: no other bit is set
+low-word : (n : ℕ) → (n < 65536) ⊎ (65536 ≤ n) → eqb (n / 65536) 0 ≡ leb n 0xFFFF
+low-word n (inl h) = eq-eqb (n / 65536) 0 (omega (arith, h)) ∙ sym (le-leb n 0xFFFF (omega (arith, h)))
+low-word n (inr h) = ne-eqb (n / 65536) 0 (λ z. omega (arith, h, z)) ∙ sym (lt-leb n 0xFFFF (omega (arith, h)))
+
+low-none : (n : ℕ) → eqb n 0 ≡ leb n 0
+low-none zero = refl
+low-none (suc n) = ne-eqb (suc n) 0 (λ z. omega (arith, z)) ∙ sym (lt-leb (suc n) 0 (omega arith))
+
+pub ru-offset : (t n rest : ℕ) → t < 4 → t % 2 ≡ 1 → eqb (bitOr (n / 65536) rest) 0 ≡ ruIs t n rest
+ru-offset t n rest h e = or-zero (n / 65536) rest ∙ ap (λ (x : Bool). x && eqb rest 0) (low-word n (below-or-not n 65536)) ∙ rw e at (ru-low t n rest h)
+
+pub ru-none : (t n rest : ℕ) → t < 4 → t % 2 ≡ 0 → eqb (bitOr n rest) 0 ≡ ruIs t n rest
+ru-none t n rest h e = or-zero n rest ∙ ap (λ (x : Bool). x && eqb rest 0) (low-none n) ∙ rw e at (ru-low t n rest h)
 
 -- a flag of a word is a bit of its number
 short-bit : (n : ℕ) → odd (flagsIn n / 2) ≡ odd (n / 131072)

@@ -142,12 +142,15 @@ fn holding_is(tag: u64, n: u64, rest: u64) -> bool
     }
 }
 
-// Whether a tag and two words are those of a receive unit in range.
+// Whether a tag and two words are those of a receive unit in range: with no frame held, an offset alone, or nothing.
 fn ru_is(tag: u64, n: u64, rest: u64) -> bool
     ensures { λ x. ⌜ x ≡ numbers.ruIs tag n rest ⌝ }
 {
     if tag < 4 {
-        return (n <= offset_most(tag % 2 == 0)) & (rest == 0);
+        if tag % 2 == 1 {
+            return n / 65536 | rest == 0;
+        }
+        return n | rest == 0;
     }
     holding_is(tag, n, rest)
 }

@@ -194,7 +194,7 @@ fn call(
     };
     match asked {
         Asked::Attention => attention_on(memory, kept, k),
-        Asked::Arrival => arrival_on(memory, holding, kept, k, frame, line),
+        Asked::Arrival => arrival_on(memory, holding, kept, k, &frame[..], line),
         Asked::Turns => {
             let report = (line % 65536) as u16;
             turns_on(memory, holding, outgoing, kept, k, report, budget, unit)

@@ -125,7 +125,7 @@ none-of a b e = (omega (arith, or-add-and a b, and-le-l a b, and-le-r a b), omeg
 zero-zero : (n : ℕ) → eqb (suc n) 0 ≡ false
 zero-zero n = ne-eqb (suc n) 0 (λ e. omega arith)
 
-or-zero : (a b : ℕ) → eqb (bitOr a b) 0 ≡ (eqb a 0 && eqb b 0)
+pub or-zero : (a b : ℕ) → eqb (bitOr a b) 0 ≡ (eqb a 0 && eqb b 0)
 or-zero zero zero = refl
 or-zero zero (suc b) = rw (zero-zero b)
 or-zero (suc a) b = rw (zero-zero a) (ne-eqb (bitOr (suc a) b) 0 (λ e. omega (arith, none-of (suc a) b e .0)))
