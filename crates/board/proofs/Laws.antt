@@ -21,7 +21,7 @@ use Rattle.chip.specs.Attention.{attentionOf}
 use Rattle.chip.specs.Arrival.{arrivalOf}
 use Rattle.chip.specs.Turn.{turnOf}
 use Rattle.lentoquist.specs.Calls as exported
-use Rattle.lentoquist.proofs.Laws.{no-image, run-counts, run-no-image}
+use Rattle.lentoquist.proofs.Laws.{no-image}
 use Rattle.front.specs.declared.Lent.{Lent}
 use Rattle.front.specs.Front.{areasWith, Fronted}
 use Rattle.board.specs.declared.Board.{Board}
@@ -105,8 +105,10 @@ module _ (n : ℕ) (m h out : List ℕ) where
     unfolding onBoard exported.turnCall
     turn-4 report = ap (leftBy before m) (no-image (lent before m h out) [] (λ w. turnOf w report) size areas refl zeros-foreign) ∙ same
 
+    run-foreign : (report budget : ℕ) → exported.runCall (lent before m h out) report budget ≡ exported.refused refusal.Foreign (lent before m h out)
+    unfolding exported.runCall exported.refusalOf
+    run-foreign report budget = rw (size, areas, zeros-foreign)
+
     pub run-4 : (report budget : ℕ) → onBoard (run report budget) before m h out ≡ answers-4
     unfolding onBoard
-    run-4 report budget =
-        ap (leftBy before m) (sym (run-counts (lent before m h out) report budget) ∙ run-no-image (lent before m h out) report budget 281474976710656 size areas zeros-foreign)
-        ∙ same
+    run-4 report budget = ap (leftBy before m) (run-foreign report budget) ∙ same
