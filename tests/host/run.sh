@@ -12,15 +12,7 @@ fail() {
     exit 1
 }
 
-# ---- the kit
-rt=$(command -v rt) || fail "rt is not in PATH"
-home=${RATTLE_HOME:-$(cd "$(dirname "$(readlink -f "$rt")")/.." && pwd -P)}
-own=$home/on/$(uname -m)
-tools=$own/toolchain
-[ -x "$tools/bin/clang" ] || fail "the kit at $home has no compiler for this machine"
-
-loader=("$tools/lib/ld-linux-x86-64.so.2" --library-path "$tools/lib")
-if [ "$(uname -m)" != x86_64 ]; then loader=("$tools/bin/qemu-x86_64" "${loader[@]}"); fi
+. tests/kit.sh
 
 # ---- the archive
 out=target/host
