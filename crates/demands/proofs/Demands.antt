@@ -30,6 +30,7 @@ use Rattle.closure.specs.Sound.{Sound, Lent, Fit}
 use Rattle.closure.specs.Refusals.{When, Untouched, Holds}
 use Rattle.closure.specs.Carried.{Again}
 use Rattle.closure.specs.Turns.{AsTurns}
+use Rattle.closure.specs.Driven.{Lending, Drive, unrolled}
 use Rattle.closure.proofs.Refusals as refusals
 use Rattle.closure.proofs.Closed as closure
 use Rattle.closure.proofs.Carried as carried
@@ -45,7 +46,7 @@ use Rattle.frames.proofs.Fates as fates
 use Rattle.lists.specs.Uses.{NoClash, Listed, firstOf}
 use Rattle.lists.specs.Unit.{machine}
 use Rattle.lists.specs.Done.{Calm, Starts, Premises, Done, bytesOf}
-use Rattle.lists.specs.Lent.{Lending, left, turnsOf, eventsOf, worldIn, Shows, AllLend, AllCalmly}
+use Rattle.lists.specs.Lent.{left, turnsOf, eventsOf, worldIn, Shows, AllLend, AllCalmly}
 use Rattle.lists.specs.Runs as list-runs
 use Rattle.lists.proofs.Whole as whole
 use Rattle.lists.proofs.Exact as list-exact
@@ -188,16 +189,16 @@ pub a-list-is-done-on-bytes : (bs : List ℕ) (ls : List Lending) (a : Areas) (d
 a-list-is-done-on-bytes = carry.areas-list-done
 
 -- the same where runs of turns are among the calls: a run is as many turns as its answer says, and `unrolled` has those turns in its place
-pub a-list-is-done-by-runs : (bs : List ℕ) (ds : List list-runs.Drive) (a : Areas) (d : Device) → Lent a → Holds (a .kept) d
+pub a-list-is-done-by-runs : (bs : List ℕ) (ds : List Drive) (a : Areas) (d : Device) → Lent a → Holds (a .kept) d
     → isRefused (called attention a) ≡ false → Starts (worldIn d a) → firstOf bs ≡ wordAt (a .memory) (ofScb (d .units) cblAt)
     → Listed (d .units .base) (step (call attention) (worldIn d a) .memory) bs
     → list-runs.AllDrive carry.carries ds (called attention a .areas)
     → NoClash (length (a .memory)) (d .units .base) (step (call attention) (worldIn d a) .memory) bs
-    → Kept (machine Calm) (bytesOf (step (call attention) (worldIn d a)) bs) (eventsOf (list-runs.unrolled ds)) (step (call attention) (worldIn d a))
+    → Kept (machine Calm) (bytesOf (step (call attention) (worldIn d a)) bs) (eventsOf (unrolled ds)) (step (call attention) (worldIn d a))
     → 132 * length bs ≤ list-runs.turnsDriven ds
-    → Done Calm bs (eventsOf (list-runs.unrolled ds)) (step (call attention) (worldIn d a))
+    → Done Calm bs (eventsOf (unrolled ds)) (step (call attention) (worldIn d a))
     × Shows carry.carries (list-runs.leftBehind ds (called attention a .areas))
-    (run (machine Calm) (eventsOf (list-runs.unrolled ds)) (step (call attention) (worldIn d a)))
+    (run (machine Calm) (eventsOf (unrolled ds)) (step (call attention) (worldIn d a)))
 a-list-is-done-by-runs = runs-done.runs-list-done
 
 -- 132 is exact: with 131 for one command, or 263 for two, the statement is false

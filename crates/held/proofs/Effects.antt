@@ -24,8 +24,9 @@ use Rattle.chip.specs.World.{World}
 use Rattle.chip.specs.Turn.{statusBy, raisedIn, concluded, receiveUnits, receiveTurn, turnOf}
 use Rattle.traces.specs.Event.{Event, step}
 use Rattle.progress.specs.Holder.{run}
+use Rattle.closure.specs.Driven.{Lending}
 use Rattle.held.specs.Held.{frameOf, frameIn, isSettled, Settled}
-use Rattle.held.specs.Kept.{frameKept, Lent, worldIn}
+use Rattle.held.specs.Kept.{frameKept, worldIn}
 use Rattle.held.specs.Kept as kept
 use Rattle.held.specs.Effects.{Written}
 use Rattle.held.proofs.Service.{isFate}
@@ -122,7 +123,7 @@ pub settled-writes : (n : ℕ) (f : Frame) (es : List Event) (w : World) → (s 
     → Written f (run step (s .before) w) (turnOf (run step (s .before) w) (s .report))
 settled-writes n f es w s = effects f (run step (s .before) w) (s .report) (held-last f (s .before) w (s .holds)) (s .settled)
 
-pub called-writes : (n : ℕ) (f : Frame) (ls : List Lent) (r : List ℕ) → (s : kept.Settled n f ls r)
+pub called-writes : (n : ℕ) (f : Frame) (ls : List Lending) (r : List ℕ) → (s : kept.Settled n f ls r)
     → Written f (worldIn (s .areas)) (turnOf (worldIn (s .areas)) (s .report))
 called-writes n f ls r s =
     effects f (worldIn (s .areas)) (s .report)

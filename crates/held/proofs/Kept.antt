@@ -37,9 +37,10 @@ use Rattle.progress.specs.Machine.{turns}
 use Rattle.progress.specs.Holder.{Holder, Went, ended, goes, Stays, Mays}
 use Rattle.progress.specs.Holder.{run, Ends}
 use Rattle.progress.specs.Holder as ending
+use Rattle.closure.specs.Driven.{Lending, lending}
 use Rattle.held.specs.Held.{frameOf, frameIn, isToHold}
 use Rattle.held.specs.Held as held
-use Rattle.held.specs.Kept.{unitsBy, unitsOf, frameKept, Lent, lent, isAccepted, worldIn, keptAfter, stepKept, isTaken, fateBy, fateAt}
+use Rattle.held.specs.Kept.{unitsBy, unitsOf, frameKept, isAccepted, worldIn, keptAfter, stepKept, isTaken, fateBy, fateAt}
 use Rattle.held.specs.Kept.{turnsIn, frameBytes, AreBytes, Fair, AllFair, Holds, Settled, Within}
 use Rattle.progress.proofs.Holder.{ends-within}
 use Rattle.held.proofs.Service.{leftOf, left-positive, left-most, isFate}
@@ -94,8 +95,8 @@ pub units-in : (a : Areas) → worldIn a .device .units ≡ unitsOf (a .kept)
 unfolding deviceAt deviceFrom
 units-in a = refl
 
-image : (l : Lent) → AreBytes l → decodeOf (l .areas .kept) ≡ is.Units (unitsOf (l .areas .kept)) → Image (l .areas .kept) (unitsOf (l .areas .kept))
-image l b e = exact (l .areas .kept) (long (l .areas .kept) _ e) (b .kept) (unitsOf (l .areas .kept)) e
+image : (l : Lending) → AreBytes l → decodeOf (l .lent .kept) ≡ is.Units (unitsOf (l .lent .kept)) → Image (l .lent .kept) (unitsOf (l .lent .kept))
+image l b e = exact (l .lent .kept) (long (l .lent .kept) _ e) (b .kept) (unitsOf (l .lent .kept)) e
 
 -- a state in range holds no frame but a good one or one to be saved
 frame-to-hold : (f : Frame) → frameFits f ≡ true → isToHold f ≡ true
@@ -136,20 +137,20 @@ Closed =
     → (inRange (ran c w .outcome .device) ≡ true) × Wide (ran c w .outcome .device)
 
 -- the units that the record says after an accepted call are those that the definition leaves
-units-left : Closed → (l : Lent) → isAccepted l ≡ true → AreBytes l → isCalm (call (l .call)) ≡ true
-    → unitsOf (called (l .call) (l .areas) .areas .kept) ≡ step (call (l .call)) (worldIn (l .areas)) .device .units
+units-left : Closed → (l : Lending) → isAccepted l ≡ true → AreBytes l → isCalm (call (l .made)) ≡ true
+    → unitsOf (called (l .made) (l .lent) .areas .kept) ≡ step (call (l .made)) (worldIn (l .lent)) .device .units
 units-left k l e b y =
-    let a = l .areas in
-    let t = taken (l .call) a (not-refused (isRefused (called (l .call) a)) e) y in
+    let a = l .lent in
+    let t = taken (l .made) a (not-refused (isRefused (called (l .made) a)) e) y in
     let i = image l b (t .decoded) in
-    let c = k (l .call) (worldIn a) (b .frame) (i .range) (i .wide) (b .memory) (b .holding) (b .outgoing) in
-    let d : Device = ran (l .call) (worldIn a) .outcome .device in
+    let c = k (l .made) (worldIn a) (b .frame) (i .range) (i .wide) (b .memory) (b .holding) (b .outgoing) in
+    let d : Device = ran (l .made) (worldIn a) .outcome .device in
     ap (λ (x : Called). unitsOf (x .areas .kept)) (t .leaves) ∙ ap unitsBy (decode-image d (c .1) (c .0))
 
-units-after : Closed → (l : Lent) (r : List ℕ) → Fair l r → isAccepted l ≡ true
-    → unitsOf (stepKept l r) ≡ step (call (l .call)) (worldIn (l .areas)) .device .units
+units-after : Closed → (l : Lending) (r : List ℕ) → Fair l r → isAccepted l ≡ true
+    → unitsOf (stepKept l r) ≡ step (call (l .made)) (worldIn (l .lent)) .device .units
 units-after k l r h e =
-    ap (λ (x : Bool). unitsOf (keptAfter x (called (l .call) (l .areas)) r)) e ∙ units-left k l e (h .bytes e) (h .calm e)
+    ap (λ (x : Bool). unitsOf (keptAfter x (called (l .made) (l .lent)) r)) e ∙ units-left k l e (h .bytes e) (h .calm e)
 
 -- ---- the record as a machine
 
@@ -157,7 +158,7 @@ abbrev pub keeper : Holder
 keeper =
     record {
       S = List ℕ;
-      E = Lent;
+      E = Lending;
       step = stepKept;
       may = Fair;
       isTurn = λ l r. isTaken l;
@@ -173,37 +174,37 @@ keeper =
     }
 
 -- a call on a record beside an event on a world
-record Beside (l : Lent) (r : List ℕ) (w : World) : Type 0 where
+record Beside (l : Lending) (r : List ℕ) (w : World) : Type 0 where
   now : unitsOf r ≡ w .device .units
-  then : unitsOf (stepKept l r) ≡ step (call (l .call)) w .device .units
-  fate : fateAt l ≡ held.fateAt (call (l .call)) w
+  then : unitsOf (stepKept l r) ≡ step (call (l .made)) w .device .units
+  fate : fateAt l ≡ held.fateAt (call (l .made)) w
 
-beside : Closed → (l : Lent) (r : List ℕ) → Fair l r → isAccepted l ≡ true → Beside l r (worldIn (l .areas))
+beside : Closed → (l : Lending) (r : List ℕ) → Fair l r → isAccepted l ≡ true → Beside l r (worldIn (l .lent))
 beside k l r h e =
     record {
-      now = ap unitsOf (sym (h .kept e)) ∙ sym (units-in (l .areas));
+      now = ap unitsOf (sym (h .kept e)) ∙ sym (units-in (l .lent));
       then = units-after k l r h e;
-      fate = ap (λ (x : Bool). fateBy x (l .call) (worldIn (l .areas))) e;
+      fate = ap (λ (x : Bool). fateBy x (l .made) (worldIn (l .lent))) e;
     }
 
-module _ {l : Lent} {r : List ℕ} {w : World} (b : Beside l r w) where
+module _ {l : Lending} {r : List ℕ} {w : World} (b : Beside l r w) where
   -- what is noted, and any fact of the units, now and then
-  noted : notes (fateAt l) (frameKept r) ≡ notes (held.fateAt (call (l .call)) w) (frameIn w)
-  noted = ap (λ (φ : Fate). notes φ (frameKept r)) (b .fate) ∙ ap (λ (u : Units). notes (held.fateAt (call (l .call)) w) (frameOf (u .ru))) (b .now)
+  noted : notes (fateAt l) (frameKept r) ≡ notes (held.fateAt (call (l .made)) w) (frameIn w)
+  noted = ap (λ (φ : Fate). notes φ (frameKept r)) (b .fate) ∙ ap (λ (u : Units). notes (held.fateAt (call (l .made)) w) (frameOf (u .ru))) (b .now)
 
   at-now : {X : Type 0} (f : Units → X) → f (unitsOf r) ≡ f (w .device .units)
   at-now f = ap f (b .now)
 
-  at-then : {X : Type 0} (f : Units → X) → f (unitsOf (stepKept l r)) ≡ f (step (call (l .call)) w .device .units)
+  at-then : {X : Type 0} (f : Units → X) → f (unitsOf (stepKept l r)) ≡ f (step (call (l .made)) w .device .units)
   at-then f = ap f (b .then)
 
-  went : Went holder (call (l .call)) w → Went keeper l r
+  went : Went holder (call (l .made)) w → Went keeper l r
   went (ended o e f) = ended o (noted ∙ e) (f ∙ sym (at-now (λ u. frameOf (u .ru))))
   went (goes z h f d t) =
       goes (noted ∙ z) (at-then (λ u. isHolding (u .ru)) ∙ h) (at-then (λ u. frameOf (u .ru)) ∙ f ∙ sym (at-now (λ u. frameOf (u .ru))))
       (omega (arith, d, at-then (λ u. leftOf (u .ru)), at-now (λ u. leftOf (u .ru)))) (at-then (λ u. u .rulast) ∙ t)
 
-  stays : Stays holder (call (l .call)) w → Stays keeper l r
+  stays : Stays holder (call (l .made)) w → Stays keeper l r
   stays s =
       record {
         none = noted ∙ s .none;
@@ -219,13 +220,13 @@ second-false true b e f = f
 second-false false b e f = absurd (false≢true e)
 
 -- a refused call does nothing
-refused-stays : (l : Lent) (r : List ℕ) → isAccepted l ≡ false → isHolding (unitsOf r .ru) ≡ true
+refused-stays : (l : Lending) (r : List ℕ) → isAccepted l ≡ false → isHolding (unitsOf r .ru) ≡ true
     → Stays keeper l r × (unitsOf (stepKept l r) .rulast ≡ unitsOf r .rulast)
 refused-stays l r e h =
-    let c = called (l .call) (l .areas) in
+    let c = called (l .made) (l .lent) in
     let same : stepKept l r ≡ r = ap (λ (x : Bool). keptAfter x c r) e in (
       record {
-        none = ap (λ (x : Bool). notes (fateBy x (l .call) (worldIn (l .areas))) (frameKept r)) e;
+        none = ap (λ (x : Bool). notes (fateBy x (l .made) (worldIn (l .lent))) (frameKept r)) e;
         holds = ap (λ (q : List ℕ). isHolding (unitsOf q .ru)) same ∙ h;
         same = ap frameKept same;
         count = ap (λ (q : List ℕ). leftOf (unitsOf q .ru)) same;
@@ -234,30 +235,30 @@ refused-stays l r e h =
     )
 
 module _ (k : Closed) where
-  serve : (l : Lent) (r : List ℕ) → Fair l r → isHolding (unitsOf r .ru) ≡ true → isTaken l ≡ true → isReceiving (unitsOf r) ≡ true
+  serve : (l : Lending) (r : List ℕ) → Fair l r → isHolding (unitsOf r .ru) ≡ true → isTaken l ≡ true → isReceiving (unitsOf r) ≡ true
       → Went keeper l r
   serve l r y h t v =
-      let s = both (isAccepted l) (isTurn (call (l .call))) t in
+      let s = both (isAccepted l) (isTurn (call (l .made))) t in
       let b = beside k l r y (s .0) in
-      went b (states.laws .serve (call (l .call)) (worldIn (l .areas)) (y .calm (s .0)) (sym (at-now b (λ u. isHolding (u .ru))) ∙ h) (s .1)
+      went b (states.laws .serve (call (l .made)) (worldIn (l .lent)) (y .calm (s .0)) (sym (at-now b (λ u. isHolding (u .ru))) ∙ h) (s .1)
       (sym (at-now b isReceiving) ∙ v))
 
-  pass : (l : Lent) (r : List ℕ) → Fair l r → isHolding (unitsOf r .ru) ≡ true → isTaken l ≡ true → isReceiving (unitsOf r) ≡ false
+  pass : (l : Lending) (r : List ℕ) → Fair l r → isHolding (unitsOf r .ru) ≡ true → isTaken l ≡ true → isReceiving (unitsOf r) ≡ false
       → Stays keeper l r × (unitsOf r .rulast ≡ true) × (unitsOf (stepKept l r) .rulast ≡ false)
   pass l r y h t v =
-      let s = both (isAccepted l) (isTurn (call (l .call))) t in
+      let s = both (isAccepted l) (isTurn (call (l .made))) t in
       let b = beside k l r y (s .0) in
-      let p = states.laws .pass (call (l .call)) (worldIn (l .areas)) (y .calm (s .0)) (sym (at-now b (λ u. isHolding (u .ru))) ∙ h) (s .1)
+      let p = states.laws .pass (call (l .made)) (worldIn (l .lent)) (y .calm (s .0)) (sym (at-now b (λ u. isHolding (u .ru))) ∙ h) (s .1)
       (sym (at-now b isReceiving) ∙ v) in
       (stays b (p .0), at-now b (λ u. u .rulast) ∙ p .1, at-then b (λ u. u .rulast) ∙ p .2)
 
-  between-by : (x : Bool) (l : Lent) (r : List ℕ) → isAccepted l ≡ x → Fair l r → isHolding (unitsOf r .ru) ≡ true → isTaken l ≡ false
+  between-by : (x : Bool) (l : Lending) (r : List ℕ) → isAccepted l ≡ x → Fair l r → isHolding (unitsOf r .ru) ≡ true → isTaken l ≡ false
       → Stays keeper l r × (unitsOf (stepKept l r) .rulast ≡ unitsOf r .rulast)
   between-by false l r x y h t = refused-stays l r x h
   between-by true l r x y h t =
       let b = beside k l r y x in
-      let p = states.laws .between (call (l .call)) (worldIn (l .areas)) (y .calm x) (sym (at-now b (λ u. isHolding (u .ru))) ∙ h)
-      (second-false (isAccepted l) (isTurn (call (l .call))) x t) in
+      let p = states.laws .between (call (l .made)) (worldIn (l .lent)) (y .calm x) (sym (at-now b (λ u. isHolding (u .ru))) ∙ h)
+      (second-false (isAccepted l) (isTurn (call (l .made))) x t) in
       (stays b (p .0), at-then b (λ u. u .rulast) ∙ p .1 ∙ sym (at-now b (λ u. u .rulast)))
 
   laws : ending.Laws keeper
@@ -271,34 +272,34 @@ module _ (k : Closed) where
 
 -- ---- the statement
 
-turns-in : (ls : List Lent) (r : List ℕ) → turns (λ l r. isTaken l) stepKept ls r ≡ turnsIn ls
+turns-in : (ls : List Lending) (r : List ℕ) → turns (λ l r. isTaken l) stepKept ls r ≡ turnsIn ls
 turns-in [] r = refl
 turns-in (l ∷ ls) r = rw (turns-in ls (stepKept l r))
 
-fair : (ls : List Lent) (r : List ℕ) → AllFair ls r → Mays keeper ls r
+fair : (ls : List Lending) (r : List ℕ) → AllFair ls r → Mays keeper ls r
 fair [] r y = tt
 fair (l ∷ ls) r y = (y .0, fair ls (stepKept l r) (y .1))
 
-fair-at : (before : List Lent) (l : Lent) (after : List Lent) (r : List ℕ) → AllFair (before ++ (l ∷ after)) r → Fair l (run stepKept before r)
+fair-at : (before : List Lending) (l : Lending) (after : List Lending) (r : List ℕ) → AllFair (before ++ (l ∷ after)) r → Fair l (run stepKept before r)
 fair-at [] l after r y = y .0
 fair-at (b ∷ bs) l after r y = fair-at bs l after (stepKept b r) (y .1)
 
-all-along : (f : Frame) (ls : List Lent) (r : List ℕ) → ending.Holds keeper (some f) ls r → Holds f ls r
+all-along : (f : Frame) (ls : List Lending) (r : List ℕ) → ending.Holds keeper (some f) ls r → Holds f ls r
 all-along f [] r h = h .1
 all-along f (l ∷ ls) r h = (h .0 .1, nothing (fateAt l) (no-note (fateAt l) (frameKept r) (h .1)), all-along f ls (stepKept l r) (h .2))
 
-pub kept-last : (f : Frame) (ls : List Lent) (r : List ℕ) → Holds f ls r → frameKept (run stepKept ls r) ≡ some f
+pub kept-last : (f : Frame) (ls : List Lending) (r : List ℕ) → Holds f ls r → frameKept (run stepKept ls r) ≡ some f
 kept-last f [] r h = h
 kept-last f (l ∷ ls) r h = kept-last f ls (stepKept l r) (h .2)
 
-settle : Closed → (n : ℕ) (f : Frame) (ls : List Lent) (r : List ℕ) (before : List Lent) (c : Call) (a : Areas) (after : List Lent)
-    → AllFair ls r → ls ≡ before ++ (lent c a ∷ after) → turnsIn before < n → Holds f before r
-    → isAccepted (lent c a) ≡ true → isTurn (call c) ≡ true → isFate (fateAt (lent c a)) ≡ true → Settled n f ls r
+settle : Closed → (n : ℕ) (f : Frame) (ls : List Lending) (r : List ℕ) (before : List Lending) (c : Call) (a : Areas) (after : List Lending)
+    → AllFair ls r → ls ≡ before ++ (lending c a ∷ after) → turnsIn before < n → Holds f before r
+    → isAccepted (lending c a) ≡ true → isTurn (call c) ≡ true → isFate (fateAt (lending c a)) ≡ true → Settled n f ls r
 settle k n f ls r before reset a after y s l h e i φ = absurd (false≢true i)
 settle k n f ls r before attention a after y s l h e i φ = absurd (false≢true i)
 settle k n f ls r before (arrive g v) a after y s l h e i φ = absurd (false≢true i)
 settle k n f ls r before (turn report) a after y s l h e i φ =
-    let x = lent (turn report) a in
+    let x = lending (turn report) a in
     let y′ : Fair x (run stepKept before r) = fair-at before x after r (rw s at y) in
     let b = y′ .bytes e in
     let t = taken (turn report) a (not-refused (isRefused (turnCall a report)) e) refl in
@@ -322,11 +323,11 @@ settle k n f ls r before (turn report) a after y s l h e i φ =
       free = ap (λ (u : Units). frameOf (u .ru)) (units-left k x e b refl) ∙ z .1;
     }
 
-settled : Closed → (n : ℕ) (f : Frame) (ls : List Lent) (r : List ℕ) → AllFair ls r → Ends keeper n (some f) ls r → Settled n f ls r
+settled : Closed → (n : ℕ) (f : Frame) (ls : List Lending) (r : List ℕ) → AllFair ls r → Ends keeper n (some f) ls r → Settled n f ls r
 settled k n f ls r y s =
     let l = s .event in
-    let b = both (isAccepted l) (isTurn (call (l .call))) (s .turned) in
-    settle k n f ls r (s .before) (l .call) (l .areas) (s .after) y (s .split) (rw (turns-in (s .before) r) at (s .soon))
+    let b = both (isAccepted l) (isTurn (call (l .made))) (s .turned) in
+    settle k n f ls r (s .before) (l .made) (l .lent) (s .after) y (s .split) (rw (turns-in (s .before) r) at (s .soon))
     (all-along f (s .before) r (s .holds)) (b .0) (b .1)
     (a-note (fateAt l) (frameKept (run stepKept (s .before) r)) (s .note) (s .noted))
 

@@ -33,8 +33,9 @@ use Rattle.lentoquist.proofs.Laws.{accepted}
 use Rattle.traces.specs.Event.{call, isTurn}
 use Rattle.traces.specs.Bytes.{called, number, isRefused}
 use Rattle.progress.specs.Machine.{bit}
+use Rattle.closure.specs.Driven.{Lending, lending}
 use Rattle.held.specs.Held.{frameOf, isSettled, fateAt}
-use Rattle.held.specs.Kept.{unitsBy, frameKept, Lent, lent, isAccepted, worldIn, keptAfter, stepKept, turnsIn, Fair, AllFair, Settled, Within}
+use Rattle.held.specs.Kept.{unitsBy, frameKept, isAccepted, worldIn, keptAfter, stepKept, turnsIn, Fair, AllFair, Settled, Within}
 use Rattle.held.proofs.Exact.{words, given, begun, frame, its-frame, and-left, and-right, not-settled}
 use Rattle.held.proofs.Kept.{Closed, held-frame}
 
@@ -54,14 +55,14 @@ on m h d = worldOf d m h h
 abbrev pub lentOn : List ℕ → List ℕ → Device → Areas
 lentOn m h d = areasOf m h h (imageOf d)
 
-abbrev pub turnOn : List ℕ → List ℕ → Device → Lent
-turnOn m h d = lent (turn 0) (lentOn m h d)
+abbrev pub turnOn : List ℕ → List ℕ → Device → Lending
+turnOn m h d = lending (turn 0) (lentOn m h d)
 
 abbrev pub next : List ℕ → List ℕ → Device → Device
 next m h d = turnOf (on m h d) 0 .outcome .device
 
 -- n turns, each on the record that the last one left
-abbrev pub turnsOn : ℕ → Device → List Lent
+abbrev pub turnsOn : ℕ → Device → List Lending
 turnsOn zero d = []
 turnsOn (suc n) d = turnOn memory area d ∷ turnsOn n (next memory area d)
 
@@ -176,9 +177,9 @@ module _ (m h : List ℕ) (r : Right m h) (d : Device) (g : Good d) where
 -- ---- all along
 
 -- no turn of a trace settles a frame
-abbrev quietOn : List Lent → Bool
+abbrev quietOn : List Lending → Bool
 quietOn [] = true
-quietOn (l ∷ ls) = not (isSettled (fateAt (call (l .call)) (worldIn (l .areas)))) && quietOn ls
+quietOn (l ∷ ls) = not (isSettled (fateAt (call (l .made)) (worldIn (l .lent)))) && quietOn ls
 
 abbrev quiet : ℕ → Device → Bool
 quiet zero d = true
@@ -210,14 +211,14 @@ module _ (k : Closed) where
       ap (λ (w : World). not (isSettled (turnOf w 0 .outcome .fate)) && quietOn (turnsOn n (next memory area d))) (back memory area memory-right d g)
       ∙ ap (λ (b : Bool). not (isSettled (turnOf (on memory area d) 0 .outcome .fate)) && b) (as-quiet n (next memory area d) (good-on d g))
 
-quiet-at : (before : List Lent) (report : ℕ) (a : Areas) (after : List Lent) → T (quietOn (before ++ (lent (turn report) a ∷ after)))
+quiet-at : (before : List Lending) (report : ℕ) (a : Areas) (after : List Lending) → T (quietOn (before ++ (lending (turn report) a ∷ after)))
     → isSettled (turnOf (worldIn a) report .outcome .fate) ≡ true → ⊥
 quiet-at [] report a after q =
     not-settled (isSettled (turnOf (worldIn a) report .outcome .fate))
     (and-left (not (isSettled (turnOf (worldIn a) report .outcome .fate))) (quietOn after) q)
 quiet-at (l ∷ ls) report a after q =
     quiet-at ls report a after
-    (and-right (not (isSettled (fateAt (call (l .call)) (worldIn (l .areas))))) (quietOn (ls ++ (lent (turn report) a ∷ after))) q)
+    (and-right (not (isSettled (fateAt (call (l .made)) (worldIn (l .lent))))) (quietOn (ls ++ (lending (turn report) a ∷ after))) q)
 
 -- ---- the run
 
@@ -235,7 +236,7 @@ its-record = ap (λ (x : Found). frameOf (unitsBy x .ru)) (decode-image device d
 unsettled : Closed → (n : ℕ) → Settled n frame (turnsOn 131 device) (imageOf device) → ⊥
 unsettled k n s =
     quiet-at (s .before) (s .report) (s .areas) (s .after)
-    (subst (λ (ls : List Lent). T (quietOn ls)) (s .split) (subst T (sym (as-quiet k 131 device device-good)) quiet-131)) (s .settled)
+    (subst (λ (ls : List Lending). T (quietOn ls)) (s .split) (subst T (sym (as-quiet k 131 device device-good)) quiet-131)) (s .settled)
 
 -- 132 is exact on the calls: with any smaller number the statement is false
 pub exact : Closed → (n : ℕ) → n < 132 → Within n → ⊥
@@ -252,16 +253,16 @@ met k =
 -- ---- and met among refusals, with another memory of another size and other areas at each call
 
 -- refused: an attention on no memory, a reset of a record of no bytes, a turn on a record that is no image
-abbrev pub attended : Lent
-attended = lent attention (areasOf [] [] [] [])
+abbrev pub attended : Lending
+attended = lending attention (areasOf [] [] [] [])
 
-abbrev pub renewed : Lent
-renewed = lent reset (areasOf [] [] [] [])
+abbrev pub renewed : Lending
+renewed = lending reset (areasOf [] [] [] [])
 
-abbrev pub turned : Lent
-turned = lent (turn 0) (areasOf memory area area (replicate recordSize 0))
+abbrev pub turned : Lending
+turned = lending (turn 0) (areasOf memory area area (replicate recordSize 0))
 
-abbrev pub refusals : List Lent → List Lent
+abbrev pub refusals : List Lending → List Lending
 refusals ls = attended ∷ renewed ∷ turned ∷ ls
 
 -- the n-th memory and areas
@@ -271,7 +272,7 @@ memoryAt n = replicate (8192 * 2 ^ (n % 3)) (n % 256)
 abbrev pub areaAt : ℕ → List ℕ
 areaAt n = replicate areaSize (n % 255)
 
-abbrev pub restless : ℕ → Device → List Lent
+abbrev pub restless : ℕ → Device → List Lending
 restless zero d = []
 restless (suc n) d = refusals (turnOn (memoryAt n) (areaAt n) d ∷ restless n (next (memoryAt n) (areaAt n) d))
 
@@ -292,18 +293,18 @@ right-at n =
     }
 
 -- a refused call may stand anywhere
-fair-refused : (l : Lent) (ls : List Lent) (r : List ℕ) → isAccepted l ≡ false → AllFair ls r → AllFair (l ∷ ls) r
+fair-refused : (l : Lending) (ls : List Lending) (r : List ℕ) → isAccepted l ≡ false → AllFair ls r → AllFair (l ∷ ls) r
 fair-refused l ls r e y = (
   record {
     bytes = λ t. absurd (false≢true (sym e ∙ t));
     kept = λ t. absurd (false≢true (sym e ∙ t));
     calm = λ t. absurd (false≢true (sym e ∙ t));
   },
-  subst (λ (q : List ℕ). AllFair ls q) (sym (ap (λ (b : Bool). keptAfter b (called (l .call) (l .areas)) r) e)) y,
+  subst (λ (q : List ℕ). AllFair ls q) (sym (ap (λ (b : Bool). keptAfter b (called (l .made) (l .lent)) r) e)) y,
 )
 
-turns-refused : (l : Lent) (ls : List Lent) → isAccepted l ≡ false → turnsIn (l ∷ ls) ≡ turnsIn ls
-turns-refused l ls e = ap (λ (b : Bool). bit (b && isTurn (call (l .call))) + turnsIn ls) e ∙ omega arith
+turns-refused : (l : Lending) (ls : List Lending) → isAccepted l ≡ false → turnsIn (l ∷ ls) ≡ turnsIn ls
+turns-refused l ls e = ap (λ (b : Bool). bit (b && isTurn (call (l .made))) + turnsIn ls) e ∙ omega arith
 
 no-memory : isAccepted attended ≡ false
 unfolding attentionCall refusalOf sizeAllowed packed
@@ -317,12 +318,12 @@ no-image : isAccepted turned ≡ false
 unfolding memory passes sizeAllowed ones turnCall refusalOf areasRight packed decodeOf decodeFull shaped headShaped places.field places.bytesFrom
 no-image = refl
 
-among-fair : (ls : List Lent) (r : List ℕ) → AllFair ls r → AllFair (refusals ls) r
+among-fair : (ls : List Lending) (r : List ℕ) → AllFair ls r → AllFair (refusals ls) r
 among-fair ls r y =
     fair-refused attended (renewed ∷ turned ∷ ls) r no-memory
     (fair-refused renewed (turned ∷ ls) r no-record (fair-refused turned ls r no-image y))
 
-among-turns : (ls : List Lent) → turnsIn (refusals ls) ≡ turnsIn ls
+among-turns : (ls : List Lending) → turnsIn (refusals ls) ≡ turnsIn ls
 among-turns ls =
     turns-refused attended (renewed ∷ turned ∷ ls) no-memory ∙ turns-refused renewed (turned ∷ ls) no-record ∙ turns-refused turned ls no-image
 

@@ -12,29 +12,30 @@ use Rattle.closure.specs.Turns.{turnsOn}
 use Rattle.closure.proofs.Carried.{lent-kept}
 use Rattle.closure.proofs.Turns.{run-accepted, run-is-turns, taken-accepted, turn-again}
 use Rattle.progress.specs.Machine.{bit}
-use Rattle.held.specs.Kept.{Lent, lent, isTaken, stepKept, turnsIn, AreBytes, Fair, AllFair}
-use Rattle.held.specs.Runs.{Drive, calls, runs, takenIn, keptBy, keptOne, turnsDriven, turnsFrom, unrolled, RunFair, AllDrive, Within}
+use Rattle.closure.specs.Driven.{Lending, lending, Drive, calls, runs, takenIn, turnsFrom, unrolled}
+use Rattle.held.specs.Kept.{isTaken, stepKept, turnsIn, AreBytes, Fair, AllFair}
+use Rattle.held.specs.Runs.{keptBy, keptOne, turnsDriven, RunFair, AllDrive, Within}
 use Rattle.held.proofs.Calls.{held-frame}
 
 -- what is shown of the calls that drives come to: they are fair, and count as many turns
-record Spread (ls : List Lent) (r : List ℕ) (n : ℕ) : Type 0 where
+record Spread (ls : List Lending) (r : List ℕ) (n : ℕ) : Type 0 where
   fair : AllFair ls r
   counts : turnsIn ls ≡ n
 
 -- a turn that is not refused, before others
-turn-before : (report : ℕ) (x : Areas) (r : List ℕ) (ls : List Lent) (n : ℕ) → isRefused (turnCall x report) ≡ false → Fair (lent (turn report) x) r
+turn-before : (report : ℕ) (x : Areas) (r : List ℕ) (ls : List Lending) (n : ℕ) → isRefused (turnCall x report) ≡ false → Fair (lending (turn report) x) r
     → Spread ls (turnCall x report .areas .kept) n
-    → Spread (lent (turn report) x ∷ ls) r (suc n)
+    → Spread (lending (turn report) x ∷ ls) r (suc n)
 turn-before report x r ls n e f s = record { fair = (f, rw e (s .fair)); counts = rw e (omega (arith, s .counts)) }
 
-bytes-of : (report : ℕ) (x : Areas) → closure.Lent x → AreBytes (lent (turn report) x)
+bytes-of : (report : ℕ) (x : Areas) → closure.Lent x → AreBytes (lending (turn report) x)
 bytes-of report x l = record { memory = l .memory; holding = l .holding; outgoing = l .outgoing; kept = l .kept; frame = tt }
 
-lent-of : (report : ℕ) (x : Areas) → AreBytes (lent (turn report) x) → closure.Lent x
+lent-of : (report : ℕ) (x : Areas) → AreBytes (lending (turn report) x) → closure.Lent x
 lent-of report x b = record { memory = b .memory; holding = b .holding; outgoing = b .outgoing; kept = b .kept }
 
 -- turns in a row
-turns-before : (k : ℕ) (report : ℕ) (x : Areas) (ls : List Lent) (n : ℕ) → closure.Lent x → isRefused (turnCall x report) ≡ false
+turns-before : (k : ℕ) (report : ℕ) (x : Areas) (ls : List Lending) (n : ℕ) → closure.Lent x → isRefused (turnCall x report) ≡ false
     → Spread ls (turnsOn k x report .kept) n
     → Spread (turnsFrom k x report ++ ls) (x .kept) (k + n)
 turns-before zero report x ls n l e s = record { fair = s .fair; counts = omega (arith, s .counts) }
@@ -46,7 +47,7 @@ turns-before (suc k) report x ls n l e s =
     (turns-before k report (turnCall x report .areas) ls n (lent-kept (turn report) x tt l) (turn-again x report l e) s))
 
 -- a run, before others
-run-by : (k : ℕ) (a : Areas) (report budget : ℕ) (r : List ℕ) (ls : List Lent) (n : ℕ) → takenIn a report budget ≡ k → RunFair k a report r
+run-by : (k : ℕ) (a : Areas) (report budget : ℕ) (r : List ℕ) (ls : List Lending) (n : ℕ) → takenIn a report budget ≡ k → RunFair k a report r
     → Spread ls (keptBy k r (runCall a report budget .areas .kept)) n
     → Spread (turnsFrom k a report ++ ls) r (k + n)
 run-by zero a report budget r ls n t p s = record { fair = s .fair; counts = omega (arith, s .counts) }

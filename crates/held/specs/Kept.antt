@@ -19,6 +19,7 @@ use Rattle.chip.specs.Turn.{turnOf}
 use Rattle.lentoquist.specs.Calls.{Areas, Called, keptBy, turnCall}
 use Rattle.traces.specs.Event.{call, isTurn, isCalm}
 use Rattle.traces.specs.Bytes.{called, isRefused}
+use Rattle.closure.specs.Driven.{Lending, lending}
 use Rattle.progress.specs.Machine.{bit}
 use Rattle.progress.specs.Holder.{run}
 use Rattle.held.specs.Held.{frameOf, isSettled}
@@ -40,15 +41,8 @@ frameKept r = frameOf (unitsOf r .ru)
 
 -- ---- a call and the areas that it is lent
 
-pub record Lent : Type 0 where
-  pub call : Call
-  pub areas : Areas
-
-abbrev pub lent : Call → Areas → Lent
-lent c a = record { call = c; areas = a }
-
-abbrev pub isAccepted : Lent → Bool
-isAccepted l = not (isRefused (called (l .call) (l .areas)))
+abbrev pub isAccepted : Lending → Bool
+isAccepted l = not (isRefused (called (l .made) (l .lent)))
 
 -- the world that the areas say
 abbrev pub worldIn : Areas → World
@@ -59,24 +53,24 @@ abbrev pub keptAfter : (accepted : Bool) → Called → List ℕ → List ℕ
 keptAfter true c r = c .areas .kept
 keptAfter false c r = r
 
-abbrev pub stepKept : Lent → List ℕ → List ℕ
-stepKept l r = keptAfter (isAccepted l) (called (l .call) (l .areas)) r
+abbrev pub stepKept : Lending → List ℕ → List ℕ
+stepKept l r = keptAfter (isAccepted l) (called (l .made) (l .lent)) r
 
 -- a turn that is not refused
-abbrev pub isTaken : Lent → Bool
-isTaken l = isAccepted l && isTurn (call (l .call))
+abbrev pub isTaken : Lending → Bool
+isTaken l = isAccepted l && isTurn (call (l .made))
 
 -- what a call makes of a held frame
 abbrev pub fateBy : (accepted : Bool) → Call → World → Fate
 fateBy true c w = held.fateAt (call c) w
 fateBy false c w = fate.Nothing
 
-abbrev pub fateAt : Lent → Fate
-fateAt l = fateBy (isAccepted l) (l .call) (worldIn (l .areas))
+abbrev pub fateAt : Lending → Fate
+fateAt l = fateBy (isAccepted l) (l .made) (worldIn (l .lent))
 
 -- ---- a trace
 
-abbrev pub turnsIn : List Lent → ℕ
+abbrev pub turnsIn : List Lending → ℕ
 turnsIn [] = 0
 turnsIn (l ∷ ls) = bit (isTaken l) + turnsIn ls
 
@@ -87,27 +81,27 @@ frameBytes attention = Unit {0}
 frameBytes (arrive f v) = Bytes f
 frameBytes (turn report) = Unit {0}
 
-pub record AreBytes (l : Lent) : Type 0 where
-  pub memory : Bytes (l .areas .memory)
-  pub holding : Bytes (l .areas .holding)
-  pub outgoing : Bytes (l .areas .outgoing)
-  pub kept : Bytes (l .areas .kept)
-  pub frame : frameBytes (l .call)
+pub record AreBytes (l : Lending) : Type 0 where
+  pub memory : Bytes (l .lent .memory)
+  pub holding : Bytes (l .lent .holding)
+  pub outgoing : Bytes (l .lent .outgoing)
+  pub kept : Bytes (l .lent .kept)
+  pub frame : frameBytes (l .made)
 
 -- a call that is not refused is lent the record that was kept, and is no attention and no reset. All else is as the host will, and of a call
 -- that is refused nothing is asked
-pub record Fair (l : Lent) (r : List ℕ) : Type 0 where
+pub record Fair (l : Lending) (r : List ℕ) : Type 0 where
   pub bytes : isAccepted l ≡ true → AreBytes l
-  pub kept : isAccepted l ≡ true → l .areas .kept ≡ r
-  pub calm : isAccepted l ≡ true → isCalm (call (l .call)) ≡ true
+  pub kept : isAccepted l ≡ true → l .lent .kept ≡ r
+  pub calm : isAccepted l ≡ true → isCalm (call (l .made)) ≡ true
 
 -- so at each call, from the record r on
-abbrev pub AllFair : List Lent → List ℕ → Type 0
+abbrev pub AllFair : List Lending → List ℕ → Type 0
 AllFair [] r = Unit {0}
 AllFair (l ∷ ls) r = Fair l r × AllFair ls (stepKept l r)
 
 -- the frame f is held in the record all along, and nothing is made of it
-abbrev pub Holds : Frame → List Lent → List ℕ → Type 0
+abbrev pub Holds : Frame → List Lending → List ℕ → Type 0
 Holds f [] r = frameKept r ≡ some f
 Holds f (l ∷ ls) r = (frameKept r ≡ some f) × (fateAt l ≡ fate.Nothing) × Holds f ls (stepKept l r)
 
@@ -115,15 +109,15 @@ Holds f (l ∷ ls) r = (frameKept r ≡ some f) × (fateAt l ≡ fate.Nothing) �
 
 -- one of the first n turns that are not refused settles the frame f, which is held until then and no longer: this call leaves what the turn
 -- of the definitions leaves, and that turn stores or counts f
-pub record Settled (n : ℕ) (f : Frame) (ls : List Lent) (r : List ℕ) : Type 0 where
-  pub before : List Lent
+pub record Settled (n : ℕ) (f : Frame) (ls : List Lending) (r : List ℕ) : Type 0 where
+  pub before : List Lending
   pub report : ℕ
   pub areas : Areas
-  pub after : List Lent
-  pub split : ls ≡ before ++ (lent (turn report) areas ∷ after)
+  pub after : List Lending
+  pub split : ls ≡ before ++ (lending (turn report) areas ∷ after)
   pub soon : turnsIn before < n
   pub holds : Holds f before r
-  pub accepted : isAccepted (lent (turn report) areas) ≡ true
+  pub accepted : isAccepted (lending (turn report) areas) ≡ true
   pub kept : areas .kept ≡ run stepKept before r
   pub leaves : turnCall areas report ≡ keptBy (turnOf (worldIn areas) report)
   pub settled : isSettled (turnOf (worldIn areas) report .outcome .fate) ≡ true
@@ -131,4 +125,4 @@ pub record Settled (n : ℕ) (f : Frame) (ls : List Lent) (r : List ℕ) : Type 
 
 -- the frame that a record holds is stored or counted within n turns that are not refused, if the record is kept and no attention or reset comes
 abbrev pub Within : ℕ → Type 0
-Within n = (r : List ℕ) (f : Frame) (ls : List Lent) → frameKept r ≡ some f → AllFair ls r → n ≤ turnsIn ls → Settled n f ls r
+Within n = (r : List ℕ) (f : Frame) (ls : List Lending) → frameKept r ≡ some f → AllFair ls r → n ≤ turnsIn ls → Settled n f ls r

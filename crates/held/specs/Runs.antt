@@ -1,23 +1,14 @@
 -- Demand 3, second half, where the host also drives the chip by runs of turns: a run is as many turns as its answer says. Assumes nothing.
 use mathlib.Core.Path.{_≡_}
-use mathlib.Core.List.{List, [], _∷_, _++_}
+use mathlib.Core.List.{List, [], _∷_}
 use mathlib.Core.Option.{some}
 use Prim.Native.Nat.{ℕ, zero, suc, _+_, _≤_}
 use Rattle.device.specs.declared.Frame.{Frame}
 use Rattle.chip.specs.Call.{turn}
-use Rattle.lentoquist.specs.Calls.{Areas, turnCall, runCall}
-use Rattle.closure.specs.Turns.{turnsTaken}
+use Rattle.lentoquist.specs.Calls.{Areas, runCall}
+use Rattle.closure.specs.Driven.{lending, Drive, calls, runs, takenIn, unrolled}
 use Rattle.progress.specs.Machine.{bit}
-use Rattle.held.specs.Kept.{frameKept, Lent, lent, stepKept, isTaken, Fair, Settled}
-
--- a call, or a run of turns, with what it is lent
-pub data Drive : Type 0 where
-  calls : Lent → Drive
-  runs : Areas → (report budget : ℕ) → Drive
-
--- how many turns a run took
-abbrev pub takenIn : Areas → (report budget : ℕ) → ℕ
-takenIn a report budget = turnsTaken (runCall a report budget .answer)
+use Rattle.held.specs.Kept.{frameKept, stepKept, isTaken, Fair, Settled}
 
 -- the record that the host keeps: a run that took no turn leaves it, as a refused call does
 abbrev pub keptBy : (taken : ℕ) → (before after : List ℕ) → List ℕ
@@ -37,23 +28,10 @@ abbrev pub turnsDriven : List Drive → ℕ
 turnsDriven [] = 0
 turnsDriven (d ∷ ds) = turnsOne d + turnsDriven ds
 
--- the same as calls alone: a run as its turns, each on what the one before left
-abbrev pub turnsFrom : ℕ → Areas → (report : ℕ) → List Lent
-turnsFrom zero a report = []
-turnsFrom (suc k) a report = lent (turn report) a ∷ turnsFrom k (turnCall a report .areas) report
-
-abbrev pub unrolledOne : Drive → List Lent
-unrolledOne (calls l) = l ∷ []
-unrolledOne (runs a report budget) = turnsFrom (takenIn a report budget) a report
-
-abbrev pub unrolled : List Drive → List Lent
-unrolled [] = []
-unrolled (d ∷ ds) = unrolledOne d ++ unrolled ds
-
 -- of a run that took turns, what is asked of a turn
 abbrev pub RunFair : (taken : ℕ) → Areas → (report : ℕ) → List ℕ → Type 0
 RunFair zero a report r = Unit {0}
-RunFair (suc k) a report r = Fair (lent (turn report) a) r
+RunFair (suc k) a report r = Fair (lending (turn report) a) r
 
 abbrev pub DriveFair : Drive → List ℕ → Type 0
 DriveFair (calls l) r = Fair l r

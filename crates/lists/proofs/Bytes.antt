@@ -21,10 +21,11 @@ use Rattle.lentoquist.proofs.Laws.{bad-size}
 use Rattle.traces.specs.Bytes.{called, isRefused}
 use Rattle.traces.specs.Event.{Event, call, host, step, isTurn}
 use Rattle.progress.specs.Machine.{Laws, Mays, Kept, run, turns, bit}
+use Rattle.closure.specs.Driven.{Lending}
 use Rattle.lists.specs.Uses.{Listed, firstOf, NoClash}
 use Rattle.lists.specs.Unit.{machine}
 use Rattle.lists.specs.Done.{Calm, Starts, Done, bytesOf}
-use Rattle.lists.specs.Lent.{Lending, refusedAt, leftBy, left, countsBy, turnsOf, eventsBy, eventsOf, worldIn, Carried, Carries}
+use Rattle.lists.specs.Lent.{refusedAt, leftBy, left, countsBy, turnsOf, eventsBy, eventsOf, worldIn, Carried, Carries}
 use Rattle.lists.specs.Lent.{Shows, Lends, LendsBy, AllLend, LentPremises, CalmlyBy, AllCalmly}
 use Rattle.lists.proofs.Laws.{calm-laws}
 use Rattle.lists.proofs.Start.{begins, started}

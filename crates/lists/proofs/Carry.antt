@@ -24,10 +24,11 @@ use Rattle.closure.specs.Refusals.{AreasRight, FrameRight, Holds, When}
 use Rattle.closure.proofs.Refusals.{table}
 use Rattle.closure.proofs.Carried.{carry, holds-length, lent-kept, areas-as-long}
 use Rattle.progress.specs.Machine.{Kept, run}
+use Rattle.closure.specs.Driven.{Lending}
 use Rattle.lists.specs.Uses.{NoClash, Listed, firstOf}
 use Rattle.lists.specs.Unit.{machine}
 use Rattle.lists.specs.Done.{Calm, Starts, Done, bytesOf}
-use Rattle.lists.specs.Lent.{Lending, left, turnsOf, eventsOf, worldIn, Carries, Shows, AllLend, AllCalmly}
+use Rattle.lists.specs.Lent.{left, turnsOf, eventsOf, worldIn, Carries, Shows, AllLend, AllCalmly}
 use Rattle.lists.proofs.Start.{begins}
 use Rattle.lists.proofs.Bytes.{calm-lent-list-done}
 use Rattle.lists.proofs.Lift.{Accepted}

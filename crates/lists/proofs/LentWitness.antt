@@ -3,7 +3,7 @@
 use mathlib.Core.Path.{_≡_, refl}
 use mathlib.Core.Bool.{Bool, true, _&&_}
 use mathlib.Core.List.{List, [], _∷_, _++_}
-use Prim.Native.Nat.{ℕ, zero, suc, _≤_}
+use Prim.Native.Nat.{ℕ, zero, suc}
 use lib.Dec.{T, ltb, lit<, lit≤}
 use lib.ListN.{replicate}
 use lib.Count.{ones}
@@ -20,9 +20,10 @@ use Rattle.traces.specs.Event.{Event, call, host, step}
 use Rattle.progress.specs.Machine.{run}
 use Rattle.closure.specs.Sound.{Sound}
 use Rattle.closure.proofs.Closed.{closed}
+use Rattle.closure.specs.Driven.{Lending}
 use Rattle.lists.specs.Unit.{machine}
 use Rattle.lists.specs.Done.{Calm, Done}
-use Rattle.lists.specs.Lent.{Lending, refusedAt, left, eventsOf, Shows, LentPremises}
+use Rattle.lists.specs.Lent.{refusedAt, left, eventsOf, Shows, LentPremises}
 use Rattle.lists.proofs.Laws.{calm-laws}
 use Rattle.lists.proofs.Tests.{keptb, and-l, and-r}
 use Rattle.lists.proofs.Witness.{cold, before, starts, begun, three, is-started, frame, early, writes, late, middle, busy, trace, premises}

@@ -16,9 +16,10 @@ use Rattle.traces.specs.Event.{Event, call, host, step, isTurn}
 use Rattle.progress.specs.Machine.{Mays, Kept, own, turns, bit}
 use Rattle.progress.specs.Same.{Same}
 use Rattle.progress.proofs.Same.{same-refl, same-trans}
+use Rattle.closure.specs.Driven.{Lending}
 use Rattle.lists.specs.Unit.{machine}
 use Rattle.lists.specs.Done.{Calm, Premises, bytesOf}
-use Rattle.lists.specs.Lent.{Lending, refusedAt, leftBy, left, turnsOf, eventsBy, eventsOf, worldIn, Carried, Carries}
+use Rattle.lists.specs.Lent.{refusedAt, leftBy, left, turnsOf, eventsBy, eventsOf, worldIn, Carried, Carries}
 use Rattle.lists.specs.Lent.{Shows, AllLend, LentPremises}
 
 -- ---- a refused call in between changes nothing of what follows

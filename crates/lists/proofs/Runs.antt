@@ -19,11 +19,12 @@ use Rattle.closure.specs.Turns.{turnsOn}
 use Rattle.closure.proofs.Carried.{lent-kept}
 use Rattle.closure.proofs.Turns.{run-accepted, run-is-turns, taken-accepted, turn-again}
 use Rattle.progress.specs.Machine.{Kept, run}
+use Rattle.closure.specs.Driven.{Lending, Drive, calls, runs, takenIn, lending, turnsFrom, unrolled}
 use Rattle.lists.specs.Uses.{NoClash, Listed, firstOf}
 use Rattle.lists.specs.Unit.{machine}
 use Rattle.lists.specs.Done.{Calm, Starts, Done, bytesOf}
-use Rattle.lists.specs.Lent.{Lending, refusedAt, left, leftBy, countsBy, turnsOf, eventsOf, worldIn, Shows, Lends, AllLend, CalmlyLends, AllCalmly}
-use Rattle.lists.specs.Runs.{Drive, calls, runs, takenIn, ranBy, leftOne, leftBehind, turnsDriven, turning, turnsFrom, unrolled, RunLends, AllDrive}
+use Rattle.lists.specs.Lent.{refusedAt, left, leftBy, countsBy, turnsOf, eventsOf, worldIn, Shows, Lends, AllLend, CalmlyLends, AllCalmly}
+use Rattle.lists.specs.Runs.{ranBy, leftOne, leftBehind, turnsDriven, RunLends, AllDrive}
 use Rattle.lists.proofs.Carry.{carries, areas-list-done}
 
 -- what is shown of the calls that drives come to: they lend as is asked, leave what the drives leave, and count as many turns
@@ -35,9 +36,9 @@ record Spread (ls : List Lending) (a after : Areas) (n : ℕ) : Type 0 where
 
 -- a turn that is not refused, before others
 turn-before : (report : ℕ) (x a : Areas) (ls : List Lending) (after : Areas) (n : ℕ) → isRefused (turnCall x report) ≡ false
-    → Lends carries (turning report x) a → CalmlyLends (turning report x) a
+    → Lends carries (lending (turn report) x) a → CalmlyLends (lending (turn report) x) a
     → Spread ls (turnCall x report .areas) after n
-    → Spread (turning report x ∷ ls) a after (suc n)
+    → Spread (lending (turn report) x ∷ ls) a after (suc n)
 turn-before report x a ls after n e p q s =
     record {
       lends = rw e (p, s .lends);

@@ -13,10 +13,11 @@ use Rattle.closure.specs.Sound.{Lent}
 use Rattle.closure.specs.Turns.{turnsOn}
 use Rattle.closure.proofs.Turns.{run-accepted, run-is-turns, run-of-one}
 use Rattle.progress.specs.Machine.{Mays}
+use Rattle.closure.specs.Driven.{Lending, Drive, calls, runs, takenIn, lending, unrolled}
 use Rattle.lists.specs.Unit.{machine}
 use Rattle.lists.specs.Done.{Calm}
-use Rattle.lists.specs.Lent.{Lending, refusedAt, leftBy, turnsOf, eventsBy, eventsOf, worldIn, Shows, Lends, LendsBy, AllLend, CalmlyLends, CalmlyBy, AllCalmly}
-use Rattle.lists.specs.Runs.{Drive, calls, runs, takenIn, leftOne, turnsDriven, turning, unrolled, DriveLends, AllDrive}
+use Rattle.lists.specs.Lent.{refusedAt, leftBy, turnsOf, eventsBy, eventsOf, worldIn, Shows, Lends, LendsBy, AllLend, CalmlyLends, CalmlyBy, AllCalmly}
+use Rattle.lists.specs.Runs.{leftOne, turnsDriven, DriveLends, AllDrive}
 use Rattle.lists.proofs.Bytes.{next-shows}
 use Rattle.lists.proofs.Carry.{carries}
 use Rattle.lists.proofs.Runs.{turns-unrolled}
@@ -63,9 +64,9 @@ record Like (d : Drive) (l : Lending) (a : Areas) : Type 0 where
 itself : (l : Lending) (a : Areas) → LendsBy carries (refusedAt l) l a → CalmlyBy (refusedAt l) l a → Like (calls l) l a
 itself l a m c = record { lends = (m, c); leaves = refl; calls-it = λ ds. refl }
 
-turn-like : (report : ℕ) (x a : Areas) → isRefused (turnCall x report) ≡ false → Lends carries (turning report x) a
-    → CalmlyLends (turning report x) a
-    → Like (runs x report 1) (turning report x) a
+turn-like : (report : ℕ) (x a : Areas) → isRefused (turnCall x report) ≡ false → Lends carries (lending (turn report) x) a
+    → CalmlyLends (lending (turn report) x) a
+    → Like (runs x report 1) (lending (turn report) x) a
 turn-like report x a e m c =
     let l : Lent x = m .given .1 in
     let t : takenIn x report 1 ≡ 1 = run-of-one x report l e in

@@ -1,7 +1,7 @@
 -- Demand 3, first half: what is asked of the start and of the trace, and what follows. Assumes nothing.
 use mathlib.Core.Path.{_≡_}
-use mathlib.Core.Bool.{Bool, true, false}
-use mathlib.Core.List.{List, [], _∷_, map}
+use mathlib.Core.Bool.{true, false}
+use mathlib.Core.List.{List, map}
 use Prim.Native.Nat.{ℕ, _*_, _≤_}
 use lib.ListN.{length}
 use Rattle.memory.specs.Memory.{wordAt}
@@ -11,9 +11,8 @@ use Rattle.device.specs.declared.Cu.the-variants as cu
 use Rattle.command.specs.Part.{partOf}
 use Rattle.control.specs.Obey.{ofScb}
 use Rattle.chip.specs.World.{World}
-use Rattle.chip.specs.Call.{attention}
 use Rattle.traces.specs.Event.{Event, call, host, step, isTurn, isCalm}
-use Rattle.progress.specs.Machine.{Machine, eachOnce, turns, run, log, log′, reports, part′, mem′, Kept, Mays}
+use Rattle.progress.specs.Machine.{eachOnce, turns, run, log, log′, reports, part′, mem′, Kept, Mays}
 use Rattle.progress.specs.Same.{Same}
 use Rattle.lists.specs.Uses.{block, listBytes, NoClash, Listed, firstOf}
 use Rattle.lists.specs.Unit.{machine, tag}

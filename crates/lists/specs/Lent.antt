@@ -10,16 +10,13 @@ use Rattle.chip.specs.World.{World, worldOf}
 use Rattle.lentoquist.specs.Calls.{Areas, keptBy}
 use Rattle.traces.specs.Bytes.{called, isRefused}
 use Rattle.traces.specs.Event.{Event, call, host, isTurn, isCalm}
+use Rattle.closure.specs.Driven.{Lending}
 use Rattle.progress.specs.Machine.{bit, Kept, Mays}
 use Rattle.lists.specs.Uses.{NoClash}
 use Rattle.lists.specs.Unit.{machine}
 use Rattle.lists.specs.Done.{bytesOf}
 
 -- ---- a trace of calls, each with what it is lent
-
-pub record Lending : Type 0 where
-  pub made : Call
-  pub lent : Areas
 
 abbrev pub refusedAt : Lending → Bool
 refusedAt l = isRefused (called (l .made) (l .lent))

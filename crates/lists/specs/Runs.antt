@@ -1,19 +1,10 @@
 -- Demand 3, first half, where the host also drives the chip by runs of turns: a run is as many turns as its answer says. Assumes nothing.
-use mathlib.Core.List.{List, [], _∷_, _++_}
+use mathlib.Core.List.{List, [], _∷_}
 use Prim.Native.Nat.{ℕ, zero, suc, _+_}
 use Rattle.chip.specs.Call.{turn}
-use Rattle.lentoquist.specs.Calls.{Areas, turnCall, runCall}
-use Rattle.closure.specs.Turns.{turnsTaken}
-use Rattle.lists.specs.Lent.{Lending, refusedAt, leftBy, countsBy, Carries, Lends, LendsBy, CalmlyLends, CalmlyBy}
-
--- a call, or a run of turns, with what it is lent
-pub data Drive : Type 0 where
-  calls : Lending → Drive
-  runs : Areas → (report budget : ℕ) → Drive
-
--- how many turns a run took
-abbrev pub takenIn : Areas → (report budget : ℕ) → ℕ
-takenIn a report budget = turnsTaken (runCall a report budget .answer)
+use Rattle.lentoquist.specs.Calls.{Areas, runCall}
+use Rattle.closure.specs.Driven.{lending, Drive, calls, runs, takenIn}
+use Rattle.lists.specs.Lent.{refusedAt, leftBy, countsBy, Carries, Lends, LendsBy, CalmlyLends, CalmlyBy}
 
 -- ---- what stands afterwards
 
@@ -39,29 +30,12 @@ abbrev pub turnsDriven : List Drive → ℕ
 turnsDriven [] = 0
 turnsDriven (d ∷ ds) = turnsOne d + turnsDriven ds
 
--- ---- the same as calls alone: a run as its turns, each on what the one before left
-
-abbrev pub turning : ℕ → Areas → Lending
-turning report a = record { made = turn report; lent = a }
-
-abbrev pub turnsFrom : ℕ → Areas → (report : ℕ) → List Lending
-turnsFrom zero a report = []
-turnsFrom (suc k) a report = turning report a ∷ turnsFrom k (turnCall a report .areas) report
-
-abbrev pub unrolledOne : Drive → List Lending
-unrolledOne (calls l) = l ∷ []
-unrolledOne (runs lent report budget) = turnsFrom (takenIn lent report budget) lent report
-
-abbrev pub unrolled : List Drive → List Lending
-unrolled [] = []
-unrolled (d ∷ ds) = unrolledOne d ++ unrolled ds
-
 -- ---- what is asked of the host: of a run that took turns, what is asked of a turn
 
 module _ (C : Carries) where
   abbrev pub RunLends : (taken : ℕ) → Areas → (report : ℕ) → Areas → Type 0
   RunLends zero lent report a = Unit {0}
-  RunLends (suc k) lent report a = Lends C (turning report lent) a × CalmlyLends (turning report lent) a
+  RunLends (suc k) lent report a = Lends C (lending (turn report) lent) a × CalmlyLends (lending (turn report) lent) a
 
   abbrev pub DriveLends : Drive → Areas → Type 0
   DriveLends (calls l) a = LendsBy C (refusedAt l) l a × CalmlyBy (refusedAt l) l a

@@ -2,11 +2,11 @@
 use mathlib.Core.Bool.{Bool, true, false, not}
 use mathlib.Core.List.{List, [], _∷_, _++_}
 use Prim.Native.Nat.{ℕ}
-use lib.Dec.{eqb, leb}
+use lib.Dec.{eqb}
 use lib.ListN.{take}
 use Rattle.memory.specs.Address.{place}
 use Rattle.memory.specs.Memory.{wordAt}
-use Rattle.device.specs.Limits.{addressLength, typeLength, longest}
+use Rattle.device.specs.Limits.{addressLength, typeLength}
 use Rattle.device.specs.Numbers.{transmit}
 use Rattle.device.specs.State.{cuState, isActive, isHolding}
 use Rattle.device.specs.declared.Begun.{Begun}
