@@ -20,8 +20,8 @@ use Rattle.image.proofs.Exact.{level}
 use Rattle.chip.specs.Attention.{attentionOf}
 use Rattle.chip.specs.Arrival.{arrivalOf}
 use Rattle.chip.specs.Turn.{turnOf}
-use Rattle.lentoquist.specs.Calls as exported
-use Rattle.lentoquist.proofs.Laws.{no-image}
+use Rattle.calls.specs.Calls as exported
+use Rattle.calls.proofs.Laws.{no-image}
 use Rattle.front.specs.declared.Lent.{Lent}
 use Rattle.front.specs.Front.{areasWith, Fronted}
 use Rattle.board.specs.declared.Board.{Board}

@@ -6,7 +6,7 @@ use Prim.Native.Nat.{ℕ}
 use lib.Dec.{eqb}
 use lib.ListN.{getD, take, drop, replicate}
 use Rattle.device.specs.Limits.{recordSize}
-use Rattle.lentoquist.specs.Calls as exported
+use Rattle.calls.specs.Calls as exported
 use Rattle.front.specs.declared.Record.{Record}
 use Rattle.front.specs.Front.{areasWith}
 use Rattle.board.specs.declared.Board.{Board}

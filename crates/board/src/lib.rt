@@ -4,7 +4,7 @@ use front::Lent;
 use front::Record;
 ghost use mathlib.Core.Path.{_≡_};
 ghost use Prim.Native.Nat.{min};
-ghost use Rattle.lentoquist.specs.Calls as exported;
+ghost use Rattle.calls.specs.Calls as exported;
 ghost use Rattle.board.specs.Board as board;
 
 // The device record; N.

@@ -28,8 +28,8 @@ use Rattle.chip.specs.Attention.{attentionOf}
 use Rattle.chip.specs.Arrival.{arrivalOf}
 use Rattle.chip.specs.Turn.{turnOf}
 use Rattle.chip.specs.Call.{Call, reset, attention, arrive, turn}
-use Rattle.lentoquist.specs.Calls.{Areas, Called, packed, areasRight, refusalOf, refusedAnswer, refused, keptBy, calledOn, calledBy, attentionCall, arrivalCall, turnCall, renewed, resetCall}
-use Rattle.lentoquist.proofs.Laws.{bad-size, bad-area, too-long, no-image, accepted}
+use Rattle.calls.specs.Calls.{Areas, Called, packed, areasRight, refusalOf, refusedAnswer, refused, keptBy, calledOn, calledBy, attentionCall, arrivalCall, turnCall, renewed, resetCall}
+use Rattle.calls.proofs.Laws.{bad-size, bad-area, too-long, no-image, accepted}
 use Rattle.traces.specs.Bytes.{renewedIn, called, number, sentLength, edge, isRefused}
 use Rattle.closure.specs.Refusals.{SizeRight, AreasRight, LengthsRight, FrameRight, Holds, RecordRight, Lowest, When, Untouched}
 use Rattle.closure.proofs.Answers.{number-accepted}

@@ -10,7 +10,7 @@ use Rattle.image.specs.Image.{decodeOf, deviceAt}
 use Rattle.image.specs.Found as is
 use Rattle.chip.specs.World.{World, worldOf, afterwards, resetOf}
 use Rattle.chip.specs.Call.{Call, reset, ran}
-use Rattle.lentoquist.specs.Calls.{Areas, areasOf, Called, packed}
+use Rattle.calls.specs.Calls.{Areas, areasOf, Called, packed}
 use Rattle.traces.specs.Bytes.{called, isRefused}
 use Rattle.traces.specs.Event.{Event, call, host, step}
 use Rattle.closure.specs.Sound.{Sound, Lent, Fit}

@@ -30,8 +30,8 @@ use Rattle.chip.specs.Call.{turn}
 use Rattle.chip.proofs.Moves.{unchanged-stops}
 use Rattle.chip.proofs.Run.{Cause, going-quiet, sent-stops, edge-stops, stops-cause}
 use Rattle.chip.proofs.Run as cause
-use Rattle.lentoquist.specs.Calls.{Areas, areasOf, Called, packed, refusalOf, keptBy, decodedOn, unlessRefused, calledOn, calledBy, keptRun, turnCall, runCall}
-use Rattle.lentoquist.proofs.Laws as laws
+use Rattle.calls.specs.Calls.{Areas, areasOf, Called, packed, refusalOf, keptBy, decodedOn, unlessRefused, calledOn, calledBy, keptRun, turnCall, runCall}
+use Rattle.calls.proofs.Laws as laws
 use Rattle.traces.specs.Bytes.{number, edge, isRefused}
 use Rattle.closure.specs.Sound.{Sound, Lent}
 use Rattle.closure.specs.Refusals.{Holds, AreasRight, Untouched, When}

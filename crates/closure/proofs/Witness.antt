@@ -17,7 +17,7 @@ use Rattle.image.specs.Found as is
 use Rattle.image.proofs.Exact.{fresh-range, fresh-wide, image-bytes}
 use Rattle.image.proofs.Steps.{length-image, decode-full, full-other}
 use Rattle.chip.specs.Call.{Call, attention, arrive}
-use Rattle.lentoquist.specs.Calls.{Areas, areasOf}
+use Rattle.calls.specs.Calls.{Areas, areasOf}
 use Rattle.closure.specs.Sound.{Lent}
 use Rattle.closure.specs.Refusals.{AreasRight, Holds, When, Seen}
 use Rattle.closure.proofs.Command.{replicate-bytes}

@@ -9,7 +9,7 @@ use Rattle.image.specs.Image.{decodeOf, deviceAt}
 use Rattle.image.specs.Found as is
 use Rattle.chip.specs.World.{World, worldOf}
 use Rattle.chip.specs.Call.{Call, ran}
-use Rattle.lentoquist.specs.Calls.{Areas, keptBy}
+use Rattle.calls.specs.Calls.{Areas, keptBy}
 use Rattle.traces.specs.Bytes.{called, number, sentLength, edge}
 use Rattle.closure.specs.Refusals.{TakesAll, Holds}
 

@@ -3,7 +3,7 @@
 use mathlib.Core.List.{List, [], _∷_, _++_}
 use Prim.Native.Nat.{ℕ, zero, suc}
 use Rattle.chip.specs.Call.{Call, turn}
-use Rattle.lentoquist.specs.Calls.{Areas, turnCall, runCall}
+use Rattle.calls.specs.Calls.{Areas, turnCall, runCall}
 use Rattle.closure.specs.Turns.{turnsTaken}
 
 -- a call and the areas that it is lent

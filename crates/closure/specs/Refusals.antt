@@ -13,7 +13,7 @@ use Rattle.device.specs.declared.Refusal.the-variants as refusal
 use Rattle.image.specs.Ranges.{inRange, Wide}
 use Rattle.image.specs.Image.{imageOf}
 use Rattle.chip.specs.Call.{Call, reset, attention, arrive, turn}
-use Rattle.lentoquist.specs.Calls.{Areas, Called}
+use Rattle.calls.specs.Calls.{Areas, Called}
 use Rattle.traces.specs.Bytes.{called, number, sentLength, edge}
 use Rattle.closure.specs.Sound.{Lent}
 

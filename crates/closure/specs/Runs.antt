@@ -6,7 +6,7 @@ use Prim.Native.Nat.{ℕ}
 use Rattle.memory.proofs.Bytes.{Bytes}
 use Rattle.chip.specs.World.{World}
 use Rattle.chip.specs.Call.{ran}
-use Rattle.lentoquist.specs.Calls.{Areas, areasOf, packed}
+use Rattle.calls.specs.Calls.{Areas, areasOf, packed}
 use Rattle.traces.specs.Bytes.{called, isRefused}
 use Rattle.traces.specs.Event.{Event, call, host, step}
 use Rattle.closure.specs.Sound.{Fit}

@@ -7,7 +7,7 @@ use Rattle.memory.proofs.Bytes.{Bytes}
 use Rattle.image.specs.Ranges.{inRange, Wide}
 use Rattle.chip.specs.World.{World, Ran}
 use Rattle.chip.specs.Call.{Call, reset, attention, arrive, turn}
-use Rattle.lentoquist.specs.Calls.{Areas}
+use Rattle.calls.specs.Calls.{Areas}
 
 -- the state is in range, and every element of the three areas is a byte
 pub record Sound (w : World) : Type 0 where

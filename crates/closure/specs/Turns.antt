@@ -2,7 +2,7 @@
 use mathlib.Core.Path.{_≡_}
 use mathlib.Core.Logic.{_⊎_}
 use Prim.Native.Nat.{ℕ, zero, suc, _/_, _%_, _≤_, _<_}
-use Rattle.lentoquist.specs.Calls.{Areas, Called, turnCall}
+use Rattle.calls.specs.Calls.{Areas, Called, turnCall}
 use Rattle.traces.specs.Bytes.{sentLength, edge}
 
 -- ---- turns in a row, each on what the one before left

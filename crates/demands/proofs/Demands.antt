@@ -23,7 +23,7 @@ use Rattle.control.specs.Obey.{ofScb}
 use Rattle.chip.specs.World.{World, afterwards}
 use Rattle.chip.specs.Arrival.{arrivalOf}
 use Rattle.chip.specs.Call.{Call, attention, ran}
-use Rattle.lentoquist.specs.Calls.{Areas, Called, turnCall, runCall}
+use Rattle.calls.specs.Calls.{Areas, Called, turnCall, runCall}
 use Rattle.traces.specs.Event.{Event, call, step}
 use Rattle.traces.specs.Bytes.{called, number, isRefused}
 use Rattle.closure.specs.Sound.{Sound, Lent, Fit}

@@ -19,8 +19,8 @@ use Rattle.image.specs.Found as is
 use Rattle.image.proofs.Steps.{full-taken, full-out, full-other, decode-full, device-full}
 use Rattle.phases.proofs.Units.{both as parts}
 use Rattle.chip.specs.World.{worldOf}
-use Rattle.lentoquist.specs.Calls.{Areas, areasRight, isImage, refusedBy, refusalOf}
-use Rattle.lentoquist.proofs.Laws as calls
+use Rattle.calls.specs.Calls.{Areas, areasRight, isImage, refusedBy, refusalOf}
+use Rattle.calls.proofs.Laws as calls
 use Rattle.frames.specs.Accepted.{Runs}
 
 -- ---- what is decoded is in range

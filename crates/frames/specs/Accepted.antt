@@ -5,7 +5,7 @@ use mathlib.Core.List.{List}
 use Prim.Native.Nat.{ℕ}
 use Rattle.image.specs.Ranges.{inRange}
 use Rattle.chip.specs.World.{World, Ran}
-use Rattle.lentoquist.specs.Calls.{Areas, refusalOf, keptBy, calledBy}
+use Rattle.calls.specs.Calls.{Areas, refusalOf, keptBy, calledBy}
 use Rattle.frames.specs.Arrival.{Lent}
 
 -- the areas are a world's: its record is the image of a state in range, the lengths are right, and the call leaves what it leaves of that world

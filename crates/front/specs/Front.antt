@@ -1,7 +1,7 @@
 -- What a call through the front leaves: the record that was lent, the answer, and the lent areas. Assumes nothing.
 use mathlib.Core.List.{List}
 use Prim.Native.Nat.{ℕ}
-use Rattle.lentoquist.specs.Calls.{Areas, areasOf, Called, Calls}
+use Rattle.calls.specs.Calls.{Areas, areasOf, Called, Calls}
 use Rattle.front.specs.declared.Record.{Record}
 
 -- 01, "Calls, lent areas, refusals": the four areas that C would lend, of which the record is the program's own

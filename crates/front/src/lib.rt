@@ -1,7 +1,7 @@
 // The thin front: attention, arrival, turn and run on one device record that is lent and changed in place. Each makes the call that C makes,
 // on the record by value, and stores the record that it gives. A program holds its record by value, and calls the lenders, which lend it for
 // one call and give it back.
-ghost use Rattle.lentoquist.specs.Calls as calls;
+ghost use Rattle.calls.specs.Calls as calls;
 ghost use Rattle.front.specs.Front as front;
 
 // The device record.

@@ -30,7 +30,7 @@ use Rattle.chip.specs.World.{World, Ran}
 use Rattle.chip.specs.Arrival.{arrivalOf}
 use Rattle.chip.specs.Call.{Call, reset, attention, arrive, turn, ran}
 use Rattle.chip.specs.Turn.{turnOf}
-use Rattle.lentoquist.specs.Calls.{Areas, Called, packed, isImage, refusalOf, keptBy, calledOn, calledBy, arrivalCall, turnCall}
+use Rattle.calls.specs.Calls.{Areas, Called, packed, isImage, refusalOf, keptBy, calledOn, calledBy, arrivalCall, turnCall}
 use Rattle.traces.specs.Event.{call, step, isTurn, isCalm}
 use Rattle.traces.specs.Bytes.{called, isRefused}
 use Rattle.progress.specs.Machine.{turns}

@@ -28,8 +28,8 @@ use Rattle.chip.specs.Call.{reset, attention, turn}
 use Rattle.chip.specs.Cases.{Word, _is_, put, passes}
 use Rattle.chip.specs.Turn.{servedBy, concluded, commandTurn, receiveTurn, turnBy, turnOf}
 use Rattle.chip.specs.World.{World, worldOf}
-use Rattle.lentoquist.specs.Calls.{Areas, areasOf, Called, packed, areasRight, refusalOf, keptBy, attentionCall, turnCall, resetCall}
-use Rattle.lentoquist.proofs.Laws.{accepted}
+use Rattle.calls.specs.Calls.{Areas, areasOf, Called, packed, areasRight, refusalOf, keptBy, attentionCall, turnCall, resetCall}
+use Rattle.calls.proofs.Laws.{accepted}
 use Rattle.traces.specs.Event.{call, isTurn}
 use Rattle.traces.specs.Bytes.{called, number, isRefused}
 use Rattle.progress.specs.Machine.{bit}

@@ -5,7 +5,7 @@ use mathlib.Core.List.{List, [], _∷_, _++_}
 use Prim.Native.Nat.{ℕ, zero, suc, _+_}
 use native.Mathlib.Omega.{arith}
 use Rattle.chip.specs.Call.{turn}
-use Rattle.lentoquist.specs.Calls.{Areas, turnCall, runCall}
+use Rattle.calls.specs.Calls.{Areas, turnCall, runCall}
 use Rattle.traces.specs.Bytes.{isRefused}
 use Rattle.closure.specs.Sound as closure
 use Rattle.closure.specs.Turns.{turnsOn}

@@ -16,7 +16,7 @@ use Rattle.image.specs.Found as is
 use Rattle.chip.specs.World.{World, worldOf}
 use Rattle.chip.specs.Call.{Call, reset, attention, arrive, turn}
 use Rattle.chip.specs.Turn.{turnOf}
-use Rattle.lentoquist.specs.Calls.{Areas, Called, keptBy, turnCall}
+use Rattle.calls.specs.Calls.{Areas, Called, keptBy, turnCall}
 use Rattle.traces.specs.Event.{call, isTurn, isCalm}
 use Rattle.traces.specs.Bytes.{called, isRefused}
 use Rattle.closure.specs.Driven.{Lending, lending}

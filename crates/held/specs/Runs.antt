@@ -5,7 +5,7 @@ use mathlib.Core.Option.{some}
 use Prim.Native.Nat.{ℕ, zero, suc, _+_, _≤_}
 use Rattle.device.specs.declared.Frame.{Frame}
 use Rattle.chip.specs.Call.{turn}
-use Rattle.lentoquist.specs.Calls.{Areas, runCall}
+use Rattle.calls.specs.Calls.{Areas, runCall}
 use Rattle.closure.specs.Driven.{lending, Drive, calls, runs, takenIn, unrolled}
 use Rattle.progress.specs.Machine.{bit}
 use Rattle.held.specs.Kept.{frameKept, stepKept, isTaken, Fair, Settled}

@@ -19,8 +19,8 @@ use Rattle.chip.specs.Attention.{attentionOf}
 use Rattle.chip.specs.Arrival.{arrivalOf}
 use Rattle.chip.specs.Turn.{turnOf}
 use Rattle.chip.specs.Call.{Call, reset, attention, arrive, turn, ran}
-use Rattle.lentoquist.specs.Calls.{Areas, areasRight, refusalOf, keptBy, calledBy, attentionCall, arrivalCall, turnCall, resetCall}
-use Rattle.lentoquist.proofs.Laws.{accepted}
+use Rattle.calls.specs.Calls.{Areas, areasRight, refusalOf, keptBy, calledBy, attentionCall, arrivalCall, turnCall, resetCall}
+use Rattle.calls.proofs.Laws.{accepted}
 use Rattle.traces.specs.Bytes.{called}
 use Rattle.kinds.specs.Demands.{Sound, lentOf}
 

@@ -3,7 +3,7 @@ use mathlib.Core.Path.{_≡_, refl, sym, _∙_}
 use mathlib.Core.List.{List}
 use Prim.Native.Nat.{ℕ}
 use Rattle.chip.specs.Call.{Call, reset, attention, arrive, turn}
-use Rattle.lentoquist.specs.Calls.{Areas, areasOf, Called, Calls, Renewed, Renews, attentionCall, arrivalCall, turnCall}
+use Rattle.calls.specs.Calls.{Areas, areasOf, Called, Calls, Renewed, Renews, attentionCall, arrivalCall, turnCall}
 use Rattle.traces.specs.Bytes.{called}
 use Rattle.kinds.specs.Chips.{Chip, ours, Lent, Renewing, Says, Permits, Meets}
 

@@ -16,7 +16,7 @@ use Rattle.image.proofs.Steps.{length-image}
 use Rattle.control.specs.Obey.{ofScb}
 use Rattle.chip.specs.World.{Ran}
 use Rattle.chip.specs.Call.{attention, turn}
-use Rattle.lentoquist.specs.Calls.{Called}
+use Rattle.calls.specs.Calls.{Called}
 use Rattle.traces.specs.Bytes.{number, sentLength, edge}
 use Rattle.kinds.specs.Chips.{Chip, Meets}
 use Rattle.kinds.specs.Demands.{Demand1, lentOf, AsDefined, Demand2}

@@ -21,7 +21,7 @@ use Rattle.image.specs.Found.{Found}
 use Rattle.image.specs.Found as is
 use Rattle.image.proofs.Exact.{decode-image}
 use Rattle.chip.specs.Call.{Call, reset, attention, arrive, turn}
-use Rattle.lentoquist.specs.Calls.{Areas, areasOf, Called}
+use Rattle.calls.specs.Calls.{Areas, areasOf, Called}
 use Rattle.kinds.specs.Chips.{Chip}
 use Rattle.kinds.specs.Demands.{lentOf}
 use Rattle.kinds.specs.Kinds.{InWork, Completes, settingsIn, MarksOnly}

@@ -16,7 +16,7 @@ use Rattle.device.specs.declared.Refusal.the-variants as refusal
 use Rattle.image.proofs.Exact.{level}
 use Rattle.chip.specs.World.{Ran, worldOf}
 use Rattle.chip.specs.Call.{Call, reset, attention, arrive, turn, ran}
-use Rattle.lentoquist.specs.Calls.{Areas, Called, refused, keptBy, renewed, resetCall}
+use Rattle.calls.specs.Calls.{Areas, Called, refused, keptBy, renewed, resetCall}
 use Rattle.traces.specs.Bytes.{called, number, sentLength, edge}
 use Rattle.kinds.specs.Chips.{Chip, ours, Lent, Meets}
 use Rattle.closure.specs.Refusals.{AreasRight, Holds, When, Untouched}

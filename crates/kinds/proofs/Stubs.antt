@@ -9,7 +9,7 @@ use Rattle.memory.specs.declared.Offset.{Offset}
 use Rattle.device.specs.State.{fresh}
 use Rattle.image.proofs.Exact.{fresh-range, fresh-wide}
 use Rattle.chip.specs.Call.{turn}
-use Rattle.lentoquist.specs.Calls.{Areas, packed}
+use Rattle.calls.specs.Calls.{Areas, packed}
 use Rattle.traces.specs.Bytes.{edge}
 use Rattle.kinds.specs.Chips.{Chip, run}
 use Rattle.kinds.specs.Lists.{All, turnsOf}

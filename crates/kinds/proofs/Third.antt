@@ -17,7 +17,7 @@ use Rattle.control.specs.Obey.{ofScb}
 use Rattle.chip.specs.World.{World, worldOf, afterwards}
 use Rattle.chip.specs.Attention.{attentionOf}
 use Rattle.chip.specs.Call.{Call, attention, turn, ran}
-use Rattle.lentoquist.specs.Calls.{Areas, packed}
+use Rattle.calls.specs.Calls.{Areas, packed}
 use Rattle.traces.specs.Bytes.{edge}
 use Rattle.traces.specs.Event.{Event, call, host}
 use Rattle.kinds.specs.Chips.{Chip, ours, Given, Lent, Meets, run, answersOf, ranThrough}

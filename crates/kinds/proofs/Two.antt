@@ -34,7 +34,7 @@ use Rattle.chip.specs.World.{worldOf}
 use Rattle.chip.specs.Attention.{attentionOf}
 use Rattle.chip.specs.Turn.{concluded, commandTurn, turnOf}
 use Rattle.chip.specs.Call.{Call, attention, turn, ran}
-use Rattle.lentoquist.specs.Calls.{Areas}
+use Rattle.calls.specs.Calls.{Areas}
 use Rattle.traces.specs.Event.{Event, call}
 use Rattle.kinds.specs.Chips.{Chip, Given, Lent, Meets, run}
 use Rattle.kinds.specs.Demands.{FrameOk, Sound, lentOf, Demand2}

@@ -36,7 +36,7 @@ use Rattle.chip.specs.World.{Ran, worldOf}
 use Rattle.chip.specs.Attention.{attentionOf}
 use Rattle.chip.specs.Turn.{concluded, commandTurn, turnOf}
 use Rattle.chip.specs.Call.{Call, attention, turn, ran}
-use Rattle.lentoquist.specs.Calls.{packed}
+use Rattle.calls.specs.Calls.{packed}
 use Rattle.traces.specs.Bytes.{sentLength}
 use Rattle.kinds.specs.Chips.{Given, Lent}
 use Rattle.kinds.specs.Demands.{FrameOk, Sound, lentOf}

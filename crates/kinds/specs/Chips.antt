@@ -5,7 +5,7 @@ use Prim.Native.Nat.{ℕ, _<_}
 use Rattle.memory.proofs.Bytes.{Bytes}
 use Rattle.chip.specs.World.{World}
 use Rattle.chip.specs.Call.{Call, reset, attention, arrive, turn, ran}
-use Rattle.lentoquist.specs.Calls.{Areas, areasOf, Called, Calls, Renews, packed, attentionCall, arrivalCall, turnCall, resetCall}
+use Rattle.calls.specs.Calls.{Areas, areasOf, Called, Calls, Renews, packed, attentionCall, arrivalCall, turnCall, resetCall}
 use Rattle.traces.specs.Bytes.{called}
 use Rattle.traces.specs.Event.{Event, call, host, step}
 

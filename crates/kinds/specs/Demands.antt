@@ -16,7 +16,7 @@ use Rattle.image.specs.Image.{imageOf}
 use Rattle.image.specs.Ranges.{inRange, Wide}
 use Rattle.chip.specs.World.{Ran, worldOf}
 use Rattle.chip.specs.Call.{Call, reset, attention, arrive, turn, ran}
-use Rattle.lentoquist.specs.Calls.{Areas, areasOf, Called, packed}
+use Rattle.calls.specs.Calls.{Areas, areasOf, Called, packed}
 use Rattle.traces.specs.Bytes.{number}
 use Rattle.closure.specs.Refusals.{When, Untouched}
 use Rattle.kinds.specs.Chips.{Chip, Lent}

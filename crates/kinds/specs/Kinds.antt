@@ -23,7 +23,7 @@ use Rattle.control.specs.Obey.{ofScb}
 use Rattle.image.specs.Image.{imageOf}
 use Rattle.chip.specs.World.{World, Ran, worldOf}
 use Rattle.chip.specs.Call.{Call, attention, turn, ran}
-use Rattle.lentoquist.specs.Calls.{Areas, Called, packed}
+use Rattle.calls.specs.Calls.{Areas, Called, packed}
 use Rattle.traces.specs.Bytes.{number, sentLength, edge}
 use Rattle.traces.specs.Event.{Event, call}
 use Rattle.kinds.specs.Chips.{Chip, Lent, answersOf, ranThrough, answersBy}

@@ -24,7 +24,7 @@ use Rattle.command.specs.Begin.{cmd}
 use Rattle.control.specs.Obey.{ofScb}
 use Rattle.chip.specs.World.{World, worldOf}
 use Rattle.chip.specs.Call.{attention, turn}
-use Rattle.lentoquist.specs.Calls.{Areas}
+use Rattle.calls.specs.Calls.{Areas}
 use Rattle.traces.specs.Event.{Event, call, host, isCalm}
 use Rattle.kinds.specs.Chips.{Chip, Given, Lent, run, answersOf, ranThrough, answersBy}
 use Rattle.kinds.specs.Demands.{FrameOk, Sound, lentOf}

@@ -1,4 +1,4 @@
--- What a call comes to, by what is lent: each refusal, and the call that is not refused. Assumes nothing.
+-- What the inner functions come to: a call whatever is asked, and the record that numbers go back to. Assumes nothing.
 use mathlib.Core.Path.{_≡_, refl, sym, ap, subst, _∙_}
 use mathlib.Core.Bool.{Bool, true, false, _&&_}
 use mathlib.Core.List.{List, [], _++_}
@@ -34,40 +34,10 @@ use Rattle.chip.specs.Run.{Run, stopsAt, goesOn, runOf}
 use Rattle.chip.proofs.Run.{run-one}
 use Rattle.kept_chip.proofs.Loop.{holding-kept}
 use Rattle.lentoquist.proofs.Answers.{Plain, run-plain}
-use Rattle.lentoquist.specs.Calls.{Areas, Called, Calls, areasRight, refusedBy, isImage, refusalOf, refused, keptBy, decodedOn, unlessRefused, calledBy, keptRun, attentionCall, arrivalCall, turnCall, runCall, packed}
+use Rattle.calls.specs.Calls.{Areas, Called, Calls, areasRight, refusedBy, isImage, refusalOf, refused, keptBy, decodedOn, unlessRefused, calledBy, keptRun, attentionCall, arrivalCall, turnCall, runCall, packed}
 use Rattle.lentoquist.specs.declared.Asked.{Asked}
 use Rattle.lentoquist.specs.declared.Asked.the-variants as asked
 use Rattle.lentoquist.specs.Inner.{Finds, keptTurns, askedOn, askedCall}
-
-module _ (a : Areas) (f : List ℕ) (run : World → Ran) where
-  -- 1: N is not allowed
-  pub bad-size : sizeAllowed (length (a .memory)) ≡ false → calledBy (refusalOf a f) run a ≡ refused refusal.Memory a
-  unfolding refusalOf
-  bad-size s = rw s
-
-  -- 2: another lent area has the wrong length
-  pub bad-area : sizeAllowed (length (a .memory)) ≡ true → areasRight a ≡ false → calledBy (refusalOf a f) run a ≡ refused refusal.Area a
-  unfolding refusalOf
-  bad-area s r = rw (s, r)
-
-  -- 3: an arriving frame exceeds 2,048 bytes
-  pub too-long : sizeAllowed (length (a .memory)) ≡ true → areasRight a ≡ true → leb (length f) longest ≡ false
-      → calledBy (refusalOf a f) run a ≡ refused refusal.Overlong a
-  unfolding refusalOf
-  too-long s r l = rw (s, r, l)
-
-  -- 4: the record is no image
-  pub no-image : sizeAllowed (length (a .memory)) ≡ true → areasRight a ≡ true → leb (length f) longest ≡ true → decodeOf (a .kept) ≡ is.Foreign
-      → calledBy (refusalOf a f) run a ≡ refused refusal.Foreign a
-  unfolding refusalOf
-  no-image s r l d = rw (s, r, l, d)
-
-  -- not refused
-  pub accepted : (u : Units) → sizeAllowed (length (a .memory)) ≡ true → areasRight a ≡ true → leb (length f) longest ≡ true
-      → decodeOf (a .kept) ≡ is.Units u
-      → calledBy (refusalOf a f) run a ≡ keptBy (run (worldOf (deviceAt (a .kept) u) (a .memory) (a .holding) (a .outgoing)))
-  unfolding refusalOf
-  accepted u s r l d = rw (s, r, l, d, d)
 
 -- ---- a call, whatever is asked
 
@@ -123,11 +93,6 @@ asks-arrival a f v = refl
 pub asks-run : (a : Areas) (report budget : ℕ) → report < 65536 → askedCall asked.Turns a [] report budget 281474976710656 ≡ runCall a report budget
 unfolding askedCall runCall
 asks-run a report budget h = ap (λ (x : ℕ). unlessRefused (refusalOf a []) (λ w. keptRun (runOf budget w x)) a) (omega arith)
-
-pub run-kept : (a : Areas) (report budget : ℕ) (u : Units) → sizeAllowed (length (a .memory)) ≡ true → areasRight a ≡ true → decodeOf (a .kept) ≡ is.Units u
-    → runCall a report budget ≡ keptRun (runOf budget (worldOf (deviceAt (a .kept) u) (a .memory) (a .holding) (a .outgoing)) report)
-unfolding runCall refusalOf
-run-kept a report budget u s r d = rw (s, r, d, d)
 
 one-kept : (w : World) (report : ℕ) → keptTurns 0 (runOf 1 w report) ≡ keptBy (turnOf w report)
 one-kept w report =

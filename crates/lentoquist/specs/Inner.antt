@@ -11,7 +11,7 @@ use Rattle.chip.specs.World.{World, worldOf}
 use Rattle.chip.specs.Attention.{attentionOf}
 use Rattle.chip.specs.Arrival.{arrivalOf}
 use Rattle.chip.specs.Run.{Run, runOf}
-use Rattle.lentoquist.specs.Calls.{Areas, Called, areasOf, packed, refusalOf, unlessRefused, keptBy}
+use Rattle.calls.specs.Calls.{Areas, Called, areasOf, packed, refusalOf, unlessRefused, keptBy}
 use Rattle.lentoquist.specs.declared.Asked.{Asked}
 use Rattle.lentoquist.specs.declared.Asked.the-variants as asked
 

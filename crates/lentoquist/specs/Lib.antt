@@ -1,3 +1,2 @@
--- The five calls on bytes.
-pub mod Calls
+-- What the inner functions of the calls ensure.
 pub mod Inner

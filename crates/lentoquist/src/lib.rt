@@ -14,7 +14,7 @@ ghost use Rattle.scb.specs.Words as words;
 ghost use Rattle.device.specs.Answers as answers;
 ghost use Rattle.device.specs.Limits.{longest};
 ghost use Rattle.device.specs.declared.Units.{Units};
-ghost use Rattle.lentoquist.specs.Calls as calls;
+ghost use Rattle.calls.specs.Calls as calls;
 ghost use Rattle.lentoquist.specs.Inner as inner;
 
 // ---- the answer as one number

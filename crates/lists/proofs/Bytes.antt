@@ -16,8 +16,8 @@ use Rattle.control.specs.Obey.{ofScb}
 use Rattle.chip.specs.Call.{Call, attention}
 use Rattle.chip.specs.Attention.{attentionOf}
 use Rattle.chip.specs.World.{World}
-use Rattle.lentoquist.specs.Calls.{Areas, Called, packed, attentionCall}
-use Rattle.lentoquist.proofs.Laws.{bad-size}
+use Rattle.calls.specs.Calls.{Areas, Called, packed, attentionCall}
+use Rattle.calls.proofs.Laws.{bad-size}
 use Rattle.traces.specs.Bytes.{called, isRefused}
 use Rattle.traces.specs.Event.{Event, call, host, step, isTurn}
 use Rattle.progress.specs.Machine.{Laws, Mays, Kept, run, turns, bit}

@@ -16,7 +16,7 @@ use Rattle.device.specs.declared.Refusal.the-variants as refusal
 use Rattle.command.specs.Part.{Part}
 use Rattle.control.specs.Obey.{ofScb}
 use Rattle.chip.specs.Call.{Call, reset, attention, arrive, turn, ran}
-use Rattle.lentoquist.specs.Calls.{Areas, areasOf}
+use Rattle.calls.specs.Calls.{Areas, areasOf}
 use Rattle.traces.specs.Bytes.{called, number, isRefused}
 use Rattle.traces.specs.Event.{Event, call, host, step}
 use Rattle.closure.specs.Sound.{Fit, Lent}

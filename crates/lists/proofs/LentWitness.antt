@@ -14,7 +14,7 @@ use Rattle.image.specs.Image.{imageOf}
 use Rattle.image.proofs.Exact.{image-bytes, fresh-range, fresh-wide}
 use Rattle.chip.specs.Cases.{_is_, put}
 use Rattle.chip.specs.Call.{attention, turn}
-use Rattle.lentoquist.specs.Calls.{Areas, areasOf, packed, refusalOf, turnCall}
+use Rattle.calls.specs.Calls.{Areas, areasOf, packed, refusalOf, turnCall}
 use Rattle.traces.specs.Bytes.{called}
 use Rattle.traces.specs.Event.{Event, call, host, step}
 use Rattle.progress.specs.Machine.{run}

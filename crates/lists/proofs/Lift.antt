@@ -10,7 +10,7 @@ use Rattle.memory.specs.Memory.{apply}
 use Rattle.device.specs.declared.Device.{Device}
 use Rattle.chip.specs.Call.{Call}
 use Rattle.chip.specs.World.{World, worldOf}
-use Rattle.lentoquist.specs.Calls.{Areas, areasOf, Called}
+use Rattle.calls.specs.Calls.{Areas, areasOf, Called}
 use Rattle.traces.specs.Bytes.{called, isRefused}
 use Rattle.traces.specs.Event.{Event, call, host, step, isTurn}
 use Rattle.progress.specs.Machine.{Mays, Kept, own, turns, bit}

@@ -10,7 +10,7 @@ use Rattle.scb.specs.Words.{cblAt}
 use Rattle.device.specs.declared.Device.{Device}
 use Rattle.control.specs.Obey.{ofScb}
 use Rattle.chip.specs.Call.{attention, turn}
-use Rattle.lentoquist.specs.Calls.{Areas, turnCall, runCall}
+use Rattle.calls.specs.Calls.{Areas, turnCall, runCall}
 use Rattle.traces.specs.Bytes.{called, isRefused}
 use Rattle.traces.specs.Event.{call, step}
 use Rattle.closure.specs.Sound.{Lent}

@@ -6,7 +6,7 @@ use mathlib.Core.List.{List, [], _∷_}
 use Prim.Native.Nat.{ℕ}
 use Rattle.chip.specs.Call.{Call, reset, attention, arrive, turn}
 use Rattle.chip.specs.World.{World}
-use Rattle.lentoquist.specs.Calls.{Areas, turnCall, runCall}
+use Rattle.calls.specs.Calls.{Areas, turnCall, runCall}
 use Rattle.traces.specs.Bytes.{called, isRefused}
 use Rattle.traces.specs.Event.{call, step}
 use Rattle.closure.specs.Sound.{Lent}

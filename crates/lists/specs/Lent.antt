@@ -7,7 +7,7 @@ use lib.ListN.{length}
 use Rattle.device.specs.declared.Device.{Device}
 use Rattle.chip.specs.Call.{Call, ran}
 use Rattle.chip.specs.World.{World, worldOf}
-use Rattle.lentoquist.specs.Calls.{Areas, keptBy}
+use Rattle.calls.specs.Calls.{Areas, keptBy}
 use Rattle.traces.specs.Bytes.{called, isRefused}
 use Rattle.traces.specs.Event.{Event, call, host, isTurn, isCalm}
 use Rattle.closure.specs.Driven.{Lending}

@@ -2,7 +2,7 @@
 use mathlib.Core.List.{List, [], _∷_}
 use Prim.Native.Nat.{ℕ, zero, suc, _+_}
 use Rattle.chip.specs.Call.{turn}
-use Rattle.lentoquist.specs.Calls.{Areas, runCall}
+use Rattle.calls.specs.Calls.{Areas, runCall}
 use Rattle.closure.specs.Driven.{lending, Drive, calls, runs, takenIn}
 use Rattle.lists.specs.Lent.{refusedAt, leftBy, countsBy, Carries, Lends, LendsBy, CalmlyLends, CalmlyBy}
 

@@ -10,7 +10,7 @@ use Rattle.device.specs.declared.Answer.{Answer}
 use Rattle.device.specs.declared.Refusal.{Refusal}
 use Rattle.device.specs.declared.Refusal.the-variants as refusal
 use Rattle.phases.proofs.Units.{one-below}
-use Rattle.lentoquist.specs.Calls.{packed}
+use Rattle.calls.specs.Calls.{packed}
 use Rattle.texts.specs.Codes.{codes}
 use Rattle.texts.specs.Texts.{decimal, numberIn, lengthIn, edgeIn, turnsIn, furtherText, answerText}
 

@@ -3,7 +3,7 @@ use mathlib.Core.Bool.{Bool, not}
 use Prim.Native.Nat.{ℕ, _%_, _/_}
 use lib.Dec.{eqb}
 use Rattle.chip.specs.Call.{Call, reset, attention, arrive, turn}
-use Rattle.lentoquist.specs.Calls.{Areas, areasOf, Called, Renewed, attentionCall, arrivalCall, turnCall, resetCall}
+use Rattle.calls.specs.Calls.{Areas, areasOf, Called, Renewed, attentionCall, arrivalCall, turnCall, resetCall}
 
 -- reset takes the record alone
 abbrev pub renewedIn : Areas → Renewed → Called

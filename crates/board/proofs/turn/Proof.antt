@@ -1,6 +1,6 @@
 -- `board::turn` meets its contract. Assumes nothing.
 use native.Mathlib.Omega.{arith}
-use Rattle.lentoquist.specs.Calls as exported
+use Rattle.calls.specs.Calls as exported
 use Rattle.board.specs.Board.{onBoard}
 use Rattle.board.proofs.Laws.{taken, leaves}
 use borrow.Author.Needs.{needs}

@@ -40,7 +40,7 @@ use denote.Triple.Entry.{onEntry}
 use denote.Triple.Spec.{Meets, tripleOf}
 use denote.Triple.Table.{entered, cited}
 use denote.Triple.Walked.{says, Stays, stay-ref, gave-slice, walkOf, AllGo, goes-ref, goes-gave-slice, Walks, ends-at, walked, walk-meets}
-use Rattle.lentoquist.specs.Calls.{attentionCall}
+use Rattle.calls.specs.Calls.{attentionCall}
 use Rattle.front.specs.Front.{areasWith, Fronted}
 use Rattle.front.proofs.Parts.{dvals, kept-is, answer-is}
 use Rattle.front.specs.declared.Record.{Record}

@@ -42,7 +42,7 @@ use denote.Triple.Spec.{Meets, tripleOf}
 use denote.Triple.Table.{entered, cited}
 use denote.Triple.Walked.{says, Stays, stay-none, stay-none-slice, gave-slice, walkOf, AllGo, goes-none, goes-none-slice, goes-gave-slice, Walks, ends-at, walked, walk-meets}
 use denote.Exit.{yes}
-use Rattle.lentoquist.specs.Calls.{arrivalCall}
+use Rattle.calls.specs.Calls.{arrivalCall}
 use Rattle.front.specs.Front.{areasWith, Fronted}
 use Rattle.front.proofs.Parts.{dval, dvals, lies-in, lies-out, made, made-is}
 use Rattle.front.specs.declared.Record.{Record}

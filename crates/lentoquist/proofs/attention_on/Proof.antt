@@ -7,7 +7,7 @@ use Rattle.image.specs.Image.{deviceAt}
 use Rattle.chip.specs.Attention.{attentionOf}
 use Rattle.device.specs.Answers.{answered}
 use Rattle.device.specs.declared.Answer.{Answer}
-use Rattle.lentoquist.specs.Calls.{packed}
+use Rattle.calls.specs.Calls.{packed}
 use Rattle.lentoquist.proofs.Answers.{attention-plain}
 use Rattle.lentoquist.proofs.Laws.{lent-device, put-back}
 use borrow.Author.Needs.{needs}

@@ -4,7 +4,7 @@ use lib.ListN.{length}
 use Rattle.image.specs.Image.{decodeOf, deviceAt}
 use Rattle.image.proofs.Lent.{found-units, found-foreign}
 use Rattle.chip.specs.World.{worldOf}
-use Rattle.lentoquist.specs.Calls.{areasOf, areasRight}
+use Rattle.calls.specs.Calls.{areasOf, areasRight}
 use Rattle.lentoquist.specs.Inner.{askedOn}
 use Rattle.lentoquist.specs.declared.Asked.{Asked}
 use Rattle.lentoquist.proofs.Laws.{asked-early, asked-right, asked-foreign, asked-accepted, record-length, as-said, attention-holding, attention-outgoing, arrival-outgoing}

@@ -1,6 +1,6 @@
 -- `lentoquist::lq_arrival` meets its promise. Assumes nothing.
 use mathlib.Core.Path.{_≡_, sym}
-use Rattle.lentoquist.specs.Calls.{areasOf}
+use Rattle.calls.specs.Calls.{areasOf}
 use Rattle.lentoquist.proofs.Laws.{asks-arrival, as-said}
 use borrow.Author.Needs.{needs}
 use Rattle.lentoquist.proofs.lq_arrival.Statement.{statement}

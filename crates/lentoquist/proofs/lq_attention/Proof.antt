@@ -1,6 +1,6 @@
 -- `lentoquist::lq_attention` meets its promise. Assumes nothing.
 use mathlib.Core.Path.{_≡_, sym}
-use Rattle.lentoquist.specs.Calls.{areasOf}
+use Rattle.calls.specs.Calls.{areasOf}
 use Rattle.lentoquist.proofs.Laws.{asks-attention, as-said}
 use borrow.Author.Needs.{needs}
 use Rattle.lentoquist.proofs.lq_attention.Statement.{statement}

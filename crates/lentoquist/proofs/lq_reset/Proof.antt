@@ -3,7 +3,7 @@ use mathlib.Core.Path.{refl}
 use borrow.Author.Tests.{eq-eqb, ne-eqb}
 use Rattle.image.specs.Image.{stored}
 use Rattle.chip.specs.World.{resetOf}
-use Rattle.lentoquist.specs.Calls.{resetCall}
+use Rattle.calls.specs.Calls.{resetCall}
 use borrow.Author.Needs.{needs}
 use Rattle.lentoquist.proofs.lq_reset.Statement.{statement}
 use Rattle.lentoquist.proofs.lq_reset.Tie as tie

@@ -1,5 +1,5 @@
 -- `lentoquist::packed` meets its contract. Assumes nothing.
-use Rattle.lentoquist.specs.Calls.{packed}
+use Rattle.calls.specs.Calls.{packed}
 use borrow.Author.Needs.{needs}
 use Rattle.lentoquist.proofs.packed.Statement.{statement}
 use Rattle.lentoquist.proofs.packed.Tie as tie

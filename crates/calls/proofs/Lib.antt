@@ -1,0 +1,2 @@
+-- What the rooms above cite.
+pub mod Laws

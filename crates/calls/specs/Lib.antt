@@ -1,0 +1,2 @@
+-- The calls on bytes.
+pub mod Calls
