@@ -1,8 +1,8 @@
--- `lentoquist::packed` meets its contract. Assumes nothing.
+-- `kept_calls::packed` meets its contract. Assumes nothing.
 use Rattle.calls.specs.Calls.{packed}
 use borrow.Author.Needs.{needs}
-use Rattle.lentoquist.proofs.packed.Statement.{statement}
-use Rattle.lentoquist.proofs.packed.Tie as tie
+use Rattle.kept_calls.proofs.packed.Statement.{statement}
+use Rattle.kept_calls.proofs.packed.Tie as tie
 
 pub packed-spec : {M : Type 1} → statement M
 unfolding packed

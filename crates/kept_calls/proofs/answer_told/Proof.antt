@@ -1,10 +1,10 @@
--- `lentoquist::answer_told` meets its contract: at most 65,535 units of 2 to the 48, and what is told below them. Assumes nothing.
+-- `kept_calls::answer_told` meets its contract: at most 65,535 units of 2 to the 48, and what is told below them. Assumes nothing.
 use Prim.Native.Nat.{_*_, _≤_}
 use native.Mathlib.Nat.{mul-le-mul-right}
 use native.Mathlib.Omega.{arith}
 use borrow.Author.Needs.{needs}
-use Rattle.lentoquist.proofs.answer_told.Statement.{statement}
-use Rattle.lentoquist.proofs.answer_told.Tie as tie
+use Rattle.kept_calls.proofs.answer_told.Statement.{statement}
+use Rattle.kept_calls.proofs.answer_told.Tie as tie
 
 turns : (c : tie.Start) → c .args .taken * c .args .unit ≤ 65535 * c .args .unit
 turns c = mul-le-mul-right (c .args .unit) (omega (arith, c .fits .taken))

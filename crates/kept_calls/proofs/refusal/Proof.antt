@@ -1,9 +1,9 @@
--- `lentoquist::refusal` meets its contract: each refusal in its order. Assumes nothing.
+-- `kept_calls::refusal` meets its contract: each refusal in its order. Assumes nothing.
 use mathlib.Core.Path.{_≡_, sym, _∙_}
 use borrow.Author.Tests.{not-true, not-false, le-leb, lt-leb}
 use borrow.Author.Needs.{needs}
-use Rattle.lentoquist.proofs.refusal.Statement.{statement}
-use Rattle.lentoquist.proofs.refusal.Tie as tie
+use Rattle.kept_calls.proofs.refusal.Statement.{statement}
+use Rattle.kept_calls.proofs.refusal.Tie as tie
 
 returns : tie.Need-returns
 returns c = let n : tie.After-size-allowed = search needs in rw (sym (n .size-allowed .ensures) ∙ not-true _ (c .if1 .taken))

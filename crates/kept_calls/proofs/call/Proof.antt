@@ -1,16 +1,17 @@
--- `lentoquist::call` meets its contract: each refusal in its order, then what is asked. Assumes nothing.
+-- `kept_calls::call` meets its contract: each refusal in its order, then what is asked. Assumes nothing.
 use mathlib.Core.Path.{_≡_, refl, sym, ap, _∙_}
 use lib.ListN.{length}
 use Rattle.image.specs.Image.{decodeOf, deviceAt}
 use Rattle.image.proofs.Lent.{found-units, found-foreign}
 use Rattle.chip.specs.World.{worldOf}
 use Rattle.calls.specs.Calls.{areasOf, areasRight}
-use Rattle.lentoquist.specs.Inner.{askedOn}
-use Rattle.lentoquist.specs.declared.Asked.{Asked}
-use Rattle.lentoquist.proofs.Laws.{asked-early, asked-right, asked-foreign, asked-accepted, record-length, as-said, attention-holding, attention-outgoing, arrival-outgoing}
+use Rattle.kept_calls.specs.Inner.{askedOn}
+use Rattle.kept_calls.specs.declared.Asked.{Asked}
+use Rattle.kept_calls.proofs.Laws.{asked-early, asked-right, asked-foreign, asked-accepted, record-length, attention-holding, attention-outgoing, arrival-outgoing}
+use Rattle.kept_calls.proofs.Asks.{as-said}
 use borrow.Author.Needs.{needs}
-use Rattle.lentoquist.proofs.call.Statement.{statement}
-use Rattle.lentoquist.proofs.call.Tie as tie
+use Rattle.kept_calls.proofs.call.Statement.{statement}
+use Rattle.kept_calls.proofs.call.Tie as tie
 
 returns : tie.Need-returns
 unfolding areasRight

@@ -33,11 +33,11 @@ use Rattle.chip.specs.Turn.{turnOf}
 use Rattle.chip.specs.Run.{Run, stopsAt, goesOn, runOf}
 use Rattle.chip.proofs.Run.{run-one}
 use Rattle.kept_chip.proofs.Loop.{holding-kept}
-use Rattle.lentoquist.proofs.Answers.{Plain, run-plain}
+use Rattle.kept_calls.proofs.Answers.{Plain, run-plain}
 use Rattle.calls.specs.Calls.{Areas, Called, Calls, areasRight, refusedBy, isImage, refusalOf, refused, keptBy, decodedOn, unlessRefused, calledBy, keptRun, attentionCall, arrivalCall, turnCall, runCall, packed}
-use Rattle.lentoquist.specs.declared.Asked.{Asked}
-use Rattle.lentoquist.specs.declared.Asked.the-variants as asked
-use Rattle.lentoquist.specs.Inner.{Finds, keptTurns, askedOn, askedCall}
+use Rattle.kept_calls.specs.declared.Asked.{Asked}
+use Rattle.kept_calls.specs.declared.Asked.the-variants as asked
+use Rattle.kept_calls.specs.Inner.{Finds, keptTurns, askedOn, askedCall}
 
 -- ---- a call, whatever is asked
 
@@ -80,41 +80,7 @@ module _ (x : Asked) (a : Areas) (f : List ℕ) (line budget unit : ℕ) (r : Re
     unfolding askedCall refusalOf
     asked-accepted u d = let h = asked-right in rw (h .size, h .areas, h .frame, d, d)
 
--- ---- which call is asked
-
-pub asks-attention : (a : Areas) → askedCall asked.Attention a [] 0 0 0 ≡ attentionCall a
-unfolding askedCall attentionCall
-asks-attention a = refl
-
-pub asks-arrival : (a : Areas) (f : List ℕ) (v : ℕ) → askedCall asked.Arrival a f v 0 0 ≡ arrivalCall a f v
-unfolding askedCall arrivalCall
-asks-arrival a f v = refl
-
-pub asks-run : (a : Areas) (report budget : ℕ) → report < 65536 → askedCall asked.Turns a [] report budget 281474976710656 ≡ runCall a report budget
-unfolding askedCall runCall
-asks-run a report budget h = ap (λ (x : ℕ). unlessRefused (refusalOf a []) (λ w. keptRun (runOf budget w x)) a) (omega arith)
-
-one-kept : (w : World) (report : ℕ) → keptTurns 0 (runOf 1 w report) ≡ keptBy (turnOf w report)
-one-kept w report =
-    let z : packed (turnOf w report .outcome .answer) + 1 * 0 ≡ packed (turnOf w report .outcome .answer) = omega arith in
-    rw (run-one w report, z)
-
-one-on : (d : Found) (a : Areas) (report : ℕ) → decodedOn (λ w. keptTurns 0 (runOf 1 w report)) a d ≡ decodedOn (λ w. keptBy (turnOf w report)) a d
-one-on (is.Units u) a report = one-kept (worldOf (deviceAt (a .kept) u) (a .memory) (a .holding) (a .outgoing)) report
-one-on is.Foreign a report = refl
-
-one-by : (r : Refusal) (a : Areas) (report : ℕ) → unlessRefused r (λ w. keptTurns 0 (runOf 1 w report)) a ≡ unlessRefused r (λ w. keptBy (turnOf w report)) a
-one-by refusal.Accepted a report = one-on (decodeOf (a .kept)) a report
-one-by refusal.Memory a report = refl
-one-by refusal.Area a report = refl
-one-by refusal.Overlong a report = refl
-one-by refusal.Foreign a report = refl
-
--- a run of one turn, uncounted, is a turn
-pub asks-turn : (a : Areas) (report : ℕ) → report < 65536 → askedCall asked.Turns a [] report 1 0 ≡ turnCall a report
-unfolding askedCall turnCall
-asks-turn a report h =
-    ap (λ (x : ℕ). unlessRefused (refusalOf a []) (λ w. keptTurns 0 (runOf 1 w x)) a) (omega arith) ∙ one-by (refusalOf a []) a report
+-- ---- a record
 
 and-first : (x y z : Bool) → (x && y && z) ≡ true → x ≡ true
 and-first true y z e = refl
@@ -159,10 +125,6 @@ module _ (r : List ℕ) (k : Kept) (u : Units) (l : length r ≡ 256) (b : Bytes
   put-numbers d n e =
       let x : DeviceIs d n (drop 152 r) = rw (setup-lent r l) at e in
       ap (λ (y : List ℕ). storedUnits y n) (sym (take-append-drop 152 r)) ∙ put-there d n (drop 152 r) x
-
--- a promise may be shown of what the call comes to
-pub as-said : {x y : Called} {n : ℕ} {m h out r : List ℕ} → x ≡ y → Calls y n m h out r → Calls x n m h out r
-as-said e k = rw e k
 
 -- an attention leaves both areas alone, an arrival the outgoing one
 pub attention-holding : (w : World) → w .holding ≡ attentionOf w .holding

@@ -1,16 +1,16 @@
--- `lentoquist::lq_reset` meets its promise. Assumes nothing.
+-- `kept_calls::reset` meets its promise. Assumes nothing.
 use mathlib.Core.Path.{refl}
 use borrow.Author.Tests.{eq-eqb, ne-eqb}
 use Rattle.image.specs.Image.{stored}
 use Rattle.chip.specs.World.{resetOf}
 use Rattle.calls.specs.Calls.{resetCall}
 use borrow.Author.Needs.{needs}
-use Rattle.lentoquist.proofs.lq_reset.Statement.{statement}
-use Rattle.lentoquist.proofs.lq_reset.Tie as tie
+use Rattle.kept_calls.proofs.reset.Statement.{statement}
+use Rattle.kept_calls.proofs.reset.Tie as tie
 
-pub lq-reset-spec : {M : Type 1} → statement M
+pub reset-spec : {M : Type 1} → statement M
 unfolding stored resetCall resetOf
-lq-reset-spec =
+reset-spec =
     tie.close
     (tie.spec
     (λ c κs. search needs)

@@ -1,4 +1,4 @@
--- `lentoquist::attention_on` meets its contract. Assumes nothing.
+-- `kept_calls::attention_on` meets its contract. Assumes nothing.
 use mathlib.Core.Path.{_≡_, sym, _∙_, ap}
 use mathlib.Core.Bool.{Bool}
 use native.Mathlib.Omega.{arith}
@@ -8,11 +8,11 @@ use Rattle.chip.specs.Attention.{attentionOf}
 use Rattle.device.specs.Answers.{answered}
 use Rattle.device.specs.declared.Answer.{Answer}
 use Rattle.calls.specs.Calls.{packed}
-use Rattle.lentoquist.proofs.Answers.{attention-plain}
-use Rattle.lentoquist.proofs.Laws.{lent-device, put-back}
+use Rattle.kept_calls.proofs.Answers.{attention-plain}
+use Rattle.kept_calls.proofs.Laws.{lent-device, put-back}
 use borrow.Author.Needs.{needs}
-use Rattle.lentoquist.proofs.attention_on.Statement.{statement}
-use Rattle.lentoquist.proofs.attention_on.Tie as tie
+use Rattle.kept_calls.proofs.attention_on.Statement.{statement}
+use Rattle.kept_calls.proofs.attention_on.Tie as tie
 
 pub attention-on-spec : {M : Type 1} → statement M
 unfolding attentionOf

@@ -1,13 +1,13 @@
--- `lentoquist::arrival_on` meets its contract. Assumes nothing.
+-- `kept_calls::arrival_on` meets its contract. Assumes nothing.
 use mathlib.Core.Path.{_≡_, sym, _∙_, ap}
 use native.Mathlib.Omega.{arith}
 use Rattle.memory.proofs.Bytes.{Bytes}
 use Rattle.image.specs.Image.{deviceAt}
 use Rattle.chip.specs.Arrival.{arrivalOf}
-use Rattle.lentoquist.proofs.Laws.{lent-device, put-numbers}
+use Rattle.kept_calls.proofs.Laws.{lent-device, put-numbers}
 use borrow.Author.Needs.{needs}
-use Rattle.lentoquist.proofs.arrival_on.Statement.{statement}
-use Rattle.lentoquist.proofs.arrival_on.Tie as tie
+use Rattle.kept_calls.proofs.arrival_on.Statement.{statement}
+use Rattle.kept_calls.proofs.arrival_on.Tie as tie
 
 pub arrival-on-spec : {M : Type 1} → statement M
 unfolding arrivalOf

@@ -12,8 +12,8 @@ use Rattle.chip.specs.Attention.{attentionOf}
 use Rattle.chip.specs.Arrival.{arrivalOf}
 use Rattle.chip.specs.Run.{Run, runOf}
 use Rattle.calls.specs.Calls.{Areas, Called, areasOf, packed, refusalOf, unlessRefused, keptBy}
-use Rattle.lentoquist.specs.declared.Asked.{Asked}
-use Rattle.lentoquist.specs.declared.Asked.the-variants as asked
+use Rattle.kept_calls.specs.declared.Asked.{Asked}
+use Rattle.kept_calls.specs.declared.Asked.the-variants as asked
 
 -- a record is the image of a device with these units, whose numbers these are
 pub record Finds (r : List ℕ) (k : Kept) (u : Units) : Type 0 where

@@ -1,13 +1,13 @@
--- `lentoquist::turns_on` meets its contract. Assumes nothing.
+-- `kept_calls::turns_on` meets its contract. Assumes nothing.
 use mathlib.Core.Path.{_≡_, sym, _∙_, ap}
 use native.Mathlib.Omega.{arith}
 use Rattle.memory.proofs.Bytes.{Bytes}
 use Rattle.image.specs.Image.{deviceAt}
 use Rattle.chip.specs.World.{worldOf}
-use Rattle.lentoquist.proofs.Laws.{lent-device, put-back, run-answer, run-holding}
+use Rattle.kept_calls.proofs.Laws.{lent-device, put-back, run-answer, run-holding}
 use borrow.Author.Needs.{needs}
-use Rattle.lentoquist.proofs.turns_on.Statement.{statement}
-use Rattle.lentoquist.proofs.turns_on.Tie as tie
+use Rattle.kept_calls.proofs.turns_on.Statement.{statement}
+use Rattle.kept_calls.proofs.turns_on.Tie as tie
 
 pub turns-on-spec : {M : Type 1} → statement M
 turns-on-spec =

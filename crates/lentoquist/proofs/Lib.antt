@@ -1,3 +1,0 @@
--- What the proofs of this crate and of the crates above it cite.
-pub mod Laws
-pub mod Answers
