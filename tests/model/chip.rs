@@ -576,13 +576,14 @@ impl Chip {
 
     /// One turn of the CU; the length sent comes back.
     fn serve_cu(&mut self, report: u16) -> u16 {
-        let Cu::Active { block, begun } = self.device.cu else {
-            return 0;
-        };
-        let Some(begun) = begun else {
-            let begun = self.begin_command(block);
-            self.device.cu = Cu::Active { block, begun: Some(begun) };
-            return 0;
+        let (block, begun) = match self.device.cu {
+            Cu::Active { block, begun: Some(begun) } => (block, begun),
+            Cu::Active { block, begun: None } => {
+                let begun = self.begin_command(block);
+                self.device.cu = Cu::Active { block, begun: Some(begun) };
+                return 0;
+            }
+            _ => return 0,
         };
         match begun.step {
             Send::Buffer { descriptor, used, length } => {
@@ -742,7 +743,7 @@ impl Chip {
             self.device.minimum = byte10;
         }
         let held = self.device.held();
-        self.note_if(held.is_some_and(|held| held.save_bad != self.device.save_bad), "Configure alters save-bad under a held frame");
+        self.note_if(held.map_or(false, |held| held.save_bad != self.device.save_bad), "Configure alters save-bad under a held frame");
         0xA000
     }
 
@@ -913,8 +914,9 @@ impl Chip {
     // ---- The receive unit ----
 
     fn serve_ru(&mut self) {
-        let Ru::Ready { descriptor, suspend, held: Some(held) } = self.device.ru else {
-            return;
+        let (descriptor, suspend, held) = match self.device.ru {
+            Ru::Ready { descriptor, suspend, held: Some(held) } => (descriptor, suspend, held),
+            _ => return,
         };
         let begun = match held.begun {
             None => self.begin_frame(descriptor, held.length),

@@ -134,7 +134,7 @@ pub fn bad(seed: u64) -> Vec<u8> {
         if list.split(|byte| !byte.is_ascii_alphanumeric()).any(|word| word.iter().take_while(|byte| byte.is_ascii_digit()).count() > 7 && word.contains(&b'x')) {
             continue;
         }
-        let ends_badly = crate::list::run(&list, &mut io::sink()).is_ok_and(|(bad, _)| bad);
+        let ends_badly = crate::list::run(&list, &mut io::sink()).map_or(false, |(bad, _)| bad);
         if ends_badly {
             return list;
         }
@@ -435,7 +435,7 @@ impl Generator<'_> {
         let ready = matches!(device.ru, Ru::Ready { .. });
         let no_resources = matches!(device.ru, Ru::NoResources);
         let waiting = device.cu_name().contains("waits") || device.ru_name().contains("waits");
-        let begun = device.begun().is_some_and(|begun| matches!(begun.step, Send::End { .. }));
+        let begun = device.begun().map_or(false, |begun| matches!(begun.step, Send::End { .. }));
         let failing = fails(device) || out(device);
         let fresh = device.ru_name() == "Ready, held";
         let roll = self.random.below(100);
@@ -594,7 +594,7 @@ impl Generator<'_> {
             if !device.cu_works() && !device.ru_works() {
                 break;
             }
-            let begun = device.begun().is_some() || device.held().is_some_and(|held| held.begun.is_some());
+            let begun = device.begun().is_some() || device.held().map_or(false, |held| held.begun.is_some());
             if begun && self.random.chance(30) {
                 let ack = self.random.word() & 0xF000;
                 let code = self.random.pick(&[0x0400, 0x0410, 0x0410, 0x0410, 0x0040, 0x0140, 0x0140, 0x0140, 0x0440, 0x0330]);
@@ -1264,8 +1264,9 @@ impl Generator<'_> {
     /// How many data bytes the buffers take that the next frame meets, and in how many descriptors.
     fn room(&self) -> (usize, usize) {
         let chip = &self.replay.chip;
-        let Ru::Ready { descriptor, .. } = chip.device.ru else {
-            return (0, 0);
+        let descriptor = match chip.device.ru {
+            Ru::Ready { descriptor, .. } => descriptor,
+            _ => return (0, 0),
         };
         let mut next = chip.word(chip.at(descriptor, 6));
         let (mut room, mut used) = (0, 0);
@@ -1410,7 +1411,7 @@ impl Generator<'_> {
     // ---- Turns ----
 
     fn report(&mut self) -> usize {
-        let sends = self.device().begun().is_some_and(|begun| begun.kind == 4 && matches!(begun.step, Send::End { .. }));
+        let sends = self.device().begun().map_or(false, |begun| begun.kind == 4 && matches!(begun.step, Send::End { .. }));
         match self.random.below(12) + if sends { 4 } else { 0 } {
             0..=5 => 0,
             6..=7 => 1 << self.random.below(16),
@@ -1571,7 +1572,7 @@ impl Generator<'_> {
             let at = self.random.pick(&[0, 1, 6, 12, 13, 14, 20, 59, 200, 2046]);
             return self.line(format!("words holding {at} {value}"));
         }
-        if device.begun().is_some_and(|begun| begun.kind == 4) && self.random.chance(35) {
+        if device.begun().map_or(false, |begun| begun.kind == 4) && self.random.chance(35) {
             self.note("outgoing area altered while a Transmit is begun");
             let at = self.random.pick(&[0, 1, 6, 12, 13, 14, 20, 59, 200, 2046]);
             return self.line(format!("bytes outgoing {at} {value:04x}"));

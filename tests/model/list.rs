@@ -86,8 +86,9 @@ impl<'a> Words<'a> {
 
     fn number(&mut self) -> Result<(u32, usize), Bad> {
         let expected = "a number";
-        let Some((word, column)) = self.next() else {
-            return Err(Bad { column: self.missing(), expected });
+        let (word, column) = match self.next() {
+            Some(found) => found,
+            None => return Err(Bad { column: self.missing(), expected }),
         };
         number(word).map(|value| (value, column)).ok_or(Bad { column, expected })
     }
@@ -99,8 +100,9 @@ impl<'a> Words<'a> {
 
     fn area_and_place(&mut self) -> Result<(Area, usize, usize), Bad> {
         let expected = "an area";
-        let Some((word, column)) = self.next() else {
-            return Err(Bad { column: self.missing(), expected });
+        let (word, column) = match self.next() {
+            Some(found) => found,
+            None => return Err(Bad { column: self.missing(), expected }),
         };
         let area = match word {
             b"memory" => Area::Memory,
@@ -192,8 +194,9 @@ fn pair(two: &[u8]) -> Option<u8> {
 fn read(text: &[u8]) -> Result<Line<'_>, Bad> {
     let text = text.split(|&byte| byte == b'#').next().unwrap_or(&[]);
     let mut words = Words { text, place: 0 };
-    let Some((first, column)) = words.next() else {
-        return Ok(Line::Nothing);
+    let (first, column) = match words.next() {
+        Some(found) => found,
+        None => return Ok(Line::Nothing),
     };
     let word = "a number up to 65535";
     let line = match first {
@@ -368,7 +371,7 @@ fn answer_of_run(last: Answer, taken: u16, out: &mut dyn Write) -> io::Result<()
 /// A list's lines. A last line without a newline is a line; nothing behind the last newline is none.
 fn lines(list: &[u8]) -> Vec<&[u8]> {
     let mut lines: Vec<&[u8]> = list.split(|&byte| byte == b'\n').collect();
-    if lines.last().is_some_and(|last| last.is_empty()) {
+    if lines.last().map_or(false, |last| last.is_empty()) {
         lines.pop();
     }
     lines
@@ -382,7 +385,7 @@ pub fn find(list: &[u8], wanted: u64, out: &mut dyn Write) -> io::Result<()> {
         let mut said = Vec::new();
         let done = replay.line(line, &mut said)?;
         let text = String::from_utf8_lossy(&line[..line.len().min(100)]);
-        if done.is_ok_and(|calls| calls > 0) {
+        if done.as_ref().map_or(false, |&calls| calls > 0) {
             call = Some((i + 1, text.to_string()));
         }
         printed += said.iter().filter(|&&byte| byte == b'\n').count() as u64;

@@ -3,6 +3,7 @@
 #   tests/model/run.sh REPLAY [CALLS [SEED]]
 # REPLAY is the program's path, or a command to which a list's name is added. CALLS (50,000) are made in portions of 2,500, each from a
 # seed of its own, from SEED (1) on. Then lists that end in a bad line are tried, 200 of them. It stops at the first difference.
+# LQ_MODEL=PATH takes a model that is compiled already, and needs no rustc.
 set -eu
 
 fail() {
@@ -11,7 +12,6 @@ fail() {
 }
 
 [ $# -ge 1 ] || fail "which replay program? run.sh REPLAY [CALLS [SEED]]"
-command -v rustc >/dev/null || fail "rustc is missing"
 here=$(cd "$(dirname "$0")" && pwd)
 replay=$1
 calls=${2:-50000}
@@ -20,8 +20,9 @@ portion=2500
 
 work=$(mktemp -d)
 trap 'rm -rf "$work"' EXIT
-rustc --edition 2021 -O -o "$work/model" "$here/model.rs" || fail "the model does not compile"
-"$work/model" test || fail "the model fails its own tests"
+model=${LQ_MODEL:-$work/model}
+[ -n "${LQ_MODEL:-}" ] || "$here/build.sh" "$model" || fail "there is no model"
+"$model" test || fail "the model fails its own tests"
 
 # Says where the outputs differ, and keeps the files.
 differ() { # SEED
@@ -36,7 +37,7 @@ differ() { # SEED
     fi
     {
         echo "seed $1: the replay program differs from the model in line $at of the output"
-        "$work/model" where "$work/list" "$at"
+        "$model" where "$work/list" "$at"
         echo "  model:  $(sed -n "${at}p" "$work/expect")"
         echo "  replay: $(sed -n "${at}p" "$work/said")"
         [ ! -s "$work/errors" ] || echo "  it said: $(head -n 1 "$work/errors")"
@@ -49,7 +50,7 @@ seed=$first
 made=0
 while [ "$made" -lt "$calls" ]; do
     count=$((calls - made < portion ? calls - made : portion))
-    "$work/model" check "$seed" "$count" "$work/list" "$work/expect"
+    "$model" check "$seed" "$count" "$work/list" "$work/expect"
     code=0
     $replay "$work/list" >"$work/said" 2>"$work/errors" || code=$?
     cmp -s "$work/expect" "$work/said" || differ "$seed"
@@ -60,7 +61,7 @@ done
 
 # A bad line's words may stand on either output.
 for seed in $(seq "$first" $((first + 199))); do
-    "$work/model" bad "$seed" "$work/list" "$work/expect"
+    "$model" bad "$seed" "$work/list" "$work/expect"
     $replay "$work/list" >"$work/said" 2>"$work/errors" || true
     cat "$work/errors" >>"$work/said"
     : >"$work/errors"
