@@ -2,16 +2,16 @@
 -- alone is named here, `pointed`, and computed once for all cases: a case that gives the pointer after low words passes where it passes on
 -- `pointed` with its other words. `all-prepared` says it of a list of cases, `prepared` of where a case starts. Assumes nothing.
 use mathlib.Core.Bool.{Bool, true, false, cond, _&&_}
-use mathlib.Core.Path.{_≡_, refl, sym, ap, _∙_}
+use mathlib.Core.Path.{_≡_, refl, ap, _∙_}
 use mathlib.Core.List.{List, [], _∷_}
 use Prim.Native.Nat.{ℕ, suc, _+_, _/_, _%_, _<_, _≤_}
 use native.Mathlib.Nat.{mod-eq-of-lt}
 use native.Mathlib.Omega.{arith}
 use borrow.Author.Tests.{eqb-true, leb-true}
 use lib.Dec.{T, eqb, leb, lit<}
-use lib.ListN.{length, set, replicate, length-set, length-replicate}
+use lib.ListN.{length, replicate, length-set, length-replicate}
 use lib.Seq.{set-comm}
-use Rattle.memory.specs.Memory.{putByte, putBytes, digits, wordTo, apply}
+use Rattle.memory.specs.Memory.{putByte, putBytes, digits, wordTo}
 use Rattle.memory.proofs.Laws.{length-putByte, length-apply}
 use Rattle.chip.specs.World.{World}
 use Rattle.chip.specs.Cases.{Word, _is_, Case, put, startOn, start, walk, passes, allPass}

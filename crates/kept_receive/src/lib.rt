@@ -410,7 +410,7 @@ fn buffer(memory: &mut [u8], holding: &[u8], base: RealAddress, n: u64, rest: u6
     let next = memory::offset_at(memory, memory::place(base, o, NEXT));
     let to = memory::real_at(memory, memory::place(base, o, BUFFER));
     let count = count_into(kept::size_of(n), filled, (word % SIZES) as u64);
-    memory::copy_in(
+    copies::copy_in(
         memory,
         to,
         holding,
@@ -489,7 +489,7 @@ fn describe(
 {
     let fd = kept::at_of(n);
     if stored {
-        memory::copy_in(
+        copies::copy_in(
             memory,
             memory::place(base, fd, HEADER_AT),
             holding,

@@ -1,10 +1,10 @@
--- `memory::copy_out` meets its contract: the bytes are one run where they do not pass the end of memory. Assumes nothing.
+-- `copies::copy_out` meets its contract: the bytes are one run where they do not pass the end of memory. Assumes nothing.
 use native.Mathlib.Nat.{le-of-lt}
 use borrow.Author.Needs.{needs}
 use Rattle.memory.proofs.Laws.{memory}
-use Rattle.memory.proofs.Runs.{out-run}
-use Rattle.memory.proofs.copy_out.Statement.{statement}
-use Rattle.memory.proofs.copy_out.Tie as tie
+use Rattle.copies.proofs.Laws.{out-run}
+use Rattle.copies.proofs.copy_out.Statement.{statement}
+use Rattle.copies.proofs.copy_out.Tie as tie
 
 returns : tie.Need-returns
 returns c =

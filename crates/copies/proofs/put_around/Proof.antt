@@ -1,13 +1,13 @@
--- `memory::put_around` meets its contract. The invariant: the first i bytes are in memory. Assumes nothing.
+-- `copies::put_around` meets its contract. The invariant: the first i bytes are in memory. Assumes nothing.
 use mathlib.Core.Path.{_≡_}
 use Prim.Native.Nat.{_+_, _-_, _≤_, _<_}
 use native.Mathlib.Nat.{le-antisymm}
 use borrow.Author.Needs.{needs}
 use lib.ListN.{length, take, drop}
 use Rattle.memory.specs.Memory.{putBytes}
-use Rattle.memory.proofs.Laws.{put-step, put-all}
-use Rattle.memory.proofs.put_around.Statement.{statement}
-use Rattle.memory.proofs.put_around.Tie as tie
+use Rattle.copies.proofs.Laws.{put-step, put-all}
+use Rattle.copies.proofs.put_around.Statement.{statement}
+use Rattle.copies.proofs.put_around.Tie as tie
 
 abbrev Inv-loop : tie.InvT-loop
 Inv-loop m₀ src at n p k i₀ m i = (i ≤ k) × (length m ≡ length m₀) × (m ≡ putBytes m₀ p (take i (drop at src)))

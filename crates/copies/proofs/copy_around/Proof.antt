@@ -1,14 +1,14 @@
--- `memory::copy_around` meets its contract. The invariant: the first i bytes are in `dst`. Assumes nothing.
+-- `copies::copy_around` meets its contract. The invariant: the first i bytes are in `dst`. Assumes nothing.
 use mathlib.Core.Path.{_≡_}
 use Prim.Native.Nat.{_-_, _≤_}
 use native.Mathlib.Nat.{le-antisymm}
 use borrow.Author.Needs.{needs}
 use lib.ListN.{length}
 use lib.Seq.{sets}
 use Rattle.memory.specs.Memory.{bytesAt}
-use Rattle.memory.proofs.Laws.{out-step, out-all}
-use Rattle.memory.proofs.copy_around.Statement.{statement}
-use Rattle.memory.proofs.copy_around.Tie as tie
+use Rattle.copies.proofs.Laws.{out-step, out-all}
+use Rattle.copies.proofs.copy_around.Statement.{statement}
+use Rattle.copies.proofs.copy_around.Tie as tie
 
 abbrev Inv-loop : tie.InvT-loop
 Inv-loop m n dst₀ at p k i₀ dst i = (i ≤ k) × (length dst ≡ length dst₀) × (dst ≡ sets dst₀ at (bytesAt m p i))
