@@ -1,10 +1,10 @@
--- `kept_receive::is_good` meets its contract. Assumes nothing.
+-- `kept_arrival::is_good` meets its contract. Assumes nothing.
 use Prim.Native.Nat.{_/_, _%_}
 use Rattle.phases.specs.Words.{wordOf}
-use Rattle.kept_receive.proofs.Laws.{second-in, good-is}
+use Rattle.kept_arrival.proofs.Laws.{second-in, good-is}
 use borrow.Author.Needs.{needs}
-use Rattle.kept_receive.proofs.is_good.Statement.{statement}
-use Rattle.kept_receive.proofs.is_good.Tie as tie
+use Rattle.kept_arrival.proofs.is_good.Statement.{statement}
+use Rattle.kept_arrival.proofs.is_good.Tie as tie
 
 pub is-good-spec : {M : Type 1} → statement M
 unfolding wordOf

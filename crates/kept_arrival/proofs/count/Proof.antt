@@ -1,9 +1,9 @@
--- `kept_receive::count` meets its contract. Assumes nothing.
+-- `kept_arrival::count` meets its contract. Assumes nothing.
 use mathlib.Core.Path.{_∙_, sym}
-use Rattle.kept_receive.proofs.Laws.{counts-none, counts-some}
+use Rattle.kept_arrival.proofs.Laws.{counts-none, counts-some}
 use borrow.Author.Needs.{needs}
-use Rattle.kept_receive.proofs.count.Statement.{statement}
-use Rattle.kept_receive.proofs.count.Tie as tie
+use Rattle.kept_arrival.proofs.count.Statement.{statement}
+use Rattle.kept_arrival.proofs.count.Tie as tie
 
 pub count-spec : {M : Type 1} → statement M
 count-spec =

@@ -1,11 +1,11 @@
--- `kept_receive::counter_of` meets its contract. Assumes nothing.
+-- `kept_arrival::counter_of` meets its contract. Assumes nothing.
 use borrow.Author.Tests.{ne-eqb}
 use Rattle.device.specs.Numbers.{verdictOf}
 use Rattle.phases.specs.Words.{wordOf}
-use Rattle.kept_receive.proofs.Laws.{second-in}
+use Rattle.kept_arrival.proofs.Laws.{second-in}
 use borrow.Author.Needs.{needs}
-use Rattle.kept_receive.proofs.counter_of.Statement.{statement}
-use Rattle.kept_receive.proofs.counter_of.Tie as tie
+use Rattle.kept_arrival.proofs.counter_of.Statement.{statement}
+use Rattle.kept_arrival.proofs.counter_of.Tie as tie
 
 pub counter-of-spec : {M : Type 1} → statement M
 unfolding wordOf verdictOf

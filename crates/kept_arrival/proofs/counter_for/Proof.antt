@@ -1,11 +1,11 @@
--- `kept_receive::counter_for` meets its contract. Assumes nothing.
+-- `kept_arrival::counter_for` meets its contract. Assumes nothing.
 use mathlib.Core.Path.{_≡_, _∙_, sym, ap, subst}
 use Prim.Native.Nat.{ℕ, _≤_, _<_}
-use Rattle.kept_receive.specs.Receives.{frameIn}
-use Rattle.kept_receive.proofs.Laws.{place-held, place-lost, place-good, place-bad, place-none}
+use Rattle.kept_arrival.specs.Arrives.{frameIn}
+use Rattle.kept_arrival.proofs.Laws.{place-held, place-lost, place-good, place-bad, place-none}
 use borrow.Author.Needs.{needs}
-use Rattle.kept_receive.proofs.counter_for.Statement.{statement}
-use Rattle.kept_receive.proofs.counter_for.Tie as tie
+use Rattle.kept_arrival.proofs.counter_for.Statement.{statement}
+use Rattle.kept_arrival.proofs.counter_for.Tie as tie
 
 returns : tie.Need-returns
 returns c = let s : tie.Start = search needs in λ u e. place-held (frameIn (s .args .f)) u (rw e at (c .if1 .taken))

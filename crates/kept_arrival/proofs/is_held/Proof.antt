@@ -1,9 +1,9 @@
--- `kept_receive::is_held` meets its contract. Assumes nothing.
+-- `kept_arrival::is_held` meets its contract. Assumes nothing.
 use mathlib.Core.Path.{_∙_, sym}
-use Rattle.kept_receive.proofs.Laws.{held-is, third-in}
+use Rattle.kept_arrival.proofs.Laws.{held-is, third-in}
 use borrow.Author.Needs.{needs}
-use Rattle.kept_receive.proofs.is_held.Statement.{statement}
-use Rattle.kept_receive.proofs.is_held.Tie as tie
+use Rattle.kept_arrival.proofs.is_held.Statement.{statement}
+use Rattle.kept_arrival.proofs.is_held.Tie as tie
 
 pub is-held-spec : {M : Type 1} → statement M
 is-held-spec =

@@ -1,4 +1,4 @@
--- `kept_receive::arrive` meets its contract. Assumes nothing.
+-- `kept_arrival::arrive` meets its contract. Assumes nothing.
 use mathlib.Core.Path.{_≡_, _∙_, sym}
 use mathlib.Core.Bool.{true, false}
 use borrow.Author.Tests.{le-ltb}
@@ -6,11 +6,11 @@ use Rattle.device.specs.Answers.{isHeld}
 use Rattle.receive.specs.Arrival.{judged, fateIn, fateOf, arrival, holding}
 use Rattle.phases.specs.Words.{ruTag}
 use Rattle.kept.proofs.Laws.{ru-is, base-is, scb-is}
-use Rattle.kept_receive.proofs.Laws.{offset-same, real-same}
-use Rattle.kept_receive.proofs.Units.{judged-below, frame-back, held-unit}
+use Rattle.kept_arrival.proofs.Laws.{offset-same, real-same}
+use Rattle.kept_arrival.proofs.Units.{judged-below, frame-back, held-unit}
 use borrow.Author.Needs.{needs}
-use Rattle.kept_receive.proofs.arrive.Statement.{statement}
-use Rattle.kept_receive.proofs.arrive.Tie as tie
+use Rattle.kept_arrival.proofs.arrive.Statement.{statement}
+use Rattle.kept_arrival.proofs.arrive.Tie as tie
 
 pub arrive-spec : {M : Type 1} → statement M
 unfolding arrival fateOf

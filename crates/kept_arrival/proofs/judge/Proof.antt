@@ -1,4 +1,4 @@
--- `kept_receive::judge` meets its contract. Assumes nothing.
+-- `kept_arrival::judge` meets its contract. Assumes nothing.
 use mathlib.Core.Path.{_≡_, _∙_}
 use Prim.Native.Nat.{_+_}
 use native.Mathlib.Omega.{arith}
@@ -6,10 +6,10 @@ use lib.Dec.{ltb}
 use Rattle.scb.specs.Words.{one}
 use Rattle.receive.specs.Arrival.{judged, lengthOf}
 use Rattle.phases.specs.Words.{numberOf}
-use Rattle.kept_receive.proofs.Laws.{savebad-is, minimum-is}
+use Rattle.kept_arrival.proofs.Laws.{savebad-is, minimum-is}
 use borrow.Author.Needs.{needs}
-use Rattle.kept_receive.proofs.judge.Statement.{statement}
-use Rattle.kept_receive.proofs.judge.Tie as tie
+use Rattle.kept_arrival.proofs.judge.Statement.{statement}
+use Rattle.kept_arrival.proofs.judge.Tie as tie
 
 pub judge-spec : {M : Type 1} → statement M
 unfolding judged numberOf

@@ -1,12 +1,12 @@
--- `kept_receive::verdict_number` meets its contract. Assumes nothing.
+-- `kept_arrival::verdict_number` meets its contract. Assumes nothing.
 use mathlib.Core.Path.{_≡_, refl}
 use Prim.Native.Nat.{ℕ, zero, suc, _<_, _≤_}
 use native.Mathlib.Omega.{arith}
 use borrow.Author.Tests.{ne-eqb}
 use borrow.Author.Needs.{needs}
 use Rattle.device.specs.Numbers.{verdictOf, verdictNumber}
-use Rattle.kept_receive.proofs.verdict_number.Statement.{statement}
-use Rattle.kept_receive.proofs.verdict_number.Tie as tie
+use Rattle.kept_arrival.proofs.verdict_number.Statement.{statement}
+use Rattle.kept_arrival.proofs.verdict_number.Tie as tie
 
 small : (v : ℕ) → v < 2 → v ≡ verdictNumber (verdictOf v)
 unfolding verdictOf

@@ -1,8 +1,8 @@
--- `kept_receive::length_of` meets its contract. Assumes nothing.
+-- `kept_arrival::length_of` meets its contract. Assumes nothing.
 use Rattle.receive.specs.Arrival.{lengthOf}
 use borrow.Author.Needs.{needs}
-use Rattle.kept_receive.proofs.length_of.Statement.{statement}
-use Rattle.kept_receive.proofs.length_of.Tie as tie
+use Rattle.kept_arrival.proofs.length_of.Statement.{statement}
+use Rattle.kept_arrival.proofs.length_of.Tie as tie
 
 pub length-of-spec : {M : Type 1} → statement M
 unfolding lengthOf
