@@ -13,10 +13,12 @@ use Rattle.chip.specs.Call.{attention, arrive, turn}
 use Rattle.chip.specs.World.{World}
 use Rattle.traces.specs.Event.{Event, call, host, step}
 use Rattle.progress.specs.Machine.{Kept, Mays, log, run, turns}
 use Rattle.lists.specs.Unit.{machine, began, ended}
-use Rattle.lists.specs.Done.{Calm, Starts, Started, Premises, bytesOf}
+use Rattle.lists.specs.Done.{Calm, Starts, Started, Premises, Done, bytesOf}
+use Rattle.lists.proofs.Laws.{calm-laws}
 use Rattle.lists.proofs.Start.{started}
-use Rattle.lists.proofs.Tests.{keptb, kept-ok, clash-ok, calls-ok, mays-append, kept-append, idle-kept}
+use Rattle.lists.proofs.Order.{listDone}
+use Rattle.worked.proofs.Tests.{keptb, kept-ok, clash-ok, calls-ok, mays-append, kept-append, idle-kept}
 
 -- ---- the board: ISCP at 0, SCB at 8, base 0
 
@@ -144,3 +146,7 @@ words (a ∷ rest) m = wordAt m a ∷ words rest m
 stored : words (0x40 ∷ 0x58 ∷ 0x38 ∷ 0xB0 ∷ []) (run (machine Calm) busy begun .memory) ≡ 0xA000 ∷ 0xA000 ∷ 0x8000 ∷ 0x5555 ∷ []
 unfolding keptb
 stored = refl
+
+-- so the three commands are done
+pub witness-done : Done Calm three trace begun
+witness-done = listDone Calm calm-laws three trace begun is-started premises

@@ -13,11 +13,12 @@ use Rattle.chip.specs.Call.{attention, arrive, turn}
 use Rattle.chip.specs.World.{World}
 use Rattle.traces.specs.Event.{Event, call, host, step, isTurn}
 use Rattle.progress.specs.Machine.{Kept, Mays, log, run, turns}
 use Rattle.lists.specs.Uses.{Listed, firstOf, NoClash}
 use Rattle.lists.specs.Unit.{machine, began, ended}
 use Rattle.lists.specs.Done.{Calm, Starts, Done, bytesOf}
 use Rattle.lists.proofs.Start.{cblOf}
-use Rattle.lists.proofs.Tests.{keptb, kept-ok, kept-sub, sub-ok, clash-ok, calls-ok}
+use Rattle.lists.proofs.Whole.{attention-list-done}
+use Rattle.worked.proofs.Tests.{keptb, kept-ok, kept-sub, sub-ok, clash-ok, calls-ok}
 
 -- ---- the statement, with another number of turns for n commands
 
@@ -168,3 +169,10 @@ unfolding keptb
 two-take-264 least l half =
     true≢false
     (sym not-after-263 ∙ half both (two 132) (before 0x0004) (starts 0x0004) refl (refl, refl, refl) (two-premises least l) .stopped)
+
+-- ---- 132 turns a command are enough, and not one can be spared
+
+pub first-half : FirstHalf (λ n. 132 * n)
+first-half bs es w s first listed p =
+    attention-list-done bs es w s first listed
+    (record { size = p .size; apart = p .apart; events = p .events; kept = p .kept; turns = p .turns })

@@ -21,15 +21,15 @@ use Rattle.progress.specs.Machine.{run}
 use Rattle.closure.specs.Sound.{Sound}
 use Rattle.closure.proofs.Closed.{closed}
 use Rattle.closure.specs.Driven.{Lending}
 use Rattle.lists.specs.Unit.{machine}
 use Rattle.lists.specs.Done.{Calm, Done}
 use Rattle.lists.specs.Lent.{refusedAt, left, eventsOf, Shows, LentPremises}
 use Rattle.lists.proofs.Laws.{calm-laws}
-use Rattle.lists.proofs.Tests.{keptb, and-l, and-r}
-use Rattle.lists.proofs.Witness.{cold, before, starts, begun, three, is-started, frame, early, writes, late, middle, busy, trace, premises}
+use Rattle.worked.proofs.Tests.{keptb, and-l, and-r}
+use Rattle.worked.proofs.Witness.{cold, before, starts, begun, three, is-started, frame, early, writes, late, middle, busy, trace, premises}
 use Rattle.lists.proofs.Bytes.{start-shows, lent-list-done}
 use Rattle.lists.proofs.Lift.{lendings, lifted, refused-anywhere}
 use Rattle.lists.proofs.Carry.{carries, Right, accepts, right-again, Rights, all-accepted}
 
 -- ---- bytes, by a test
 

@@ -14,15 +14,15 @@ use Rattle.closure.specs.Turns.{turnsOn}
 use Rattle.closure.proofs.Turns.{run-accepted, run-is-turns, run-of-one}
 use Rattle.progress.specs.Machine.{Mays}
 use Rattle.closure.specs.Driven.{Lending, Drive, calls, runs, takenIn, lending, unrolled}
 use Rattle.lists.specs.Unit.{machine}
 use Rattle.lists.specs.Done.{Calm}
 use Rattle.lists.specs.Lent.{refusedAt, leftBy, turnsOf, eventsBy, eventsOf, worldIn, Shows, Lends, LendsBy, AllLend, CalmlyLends, CalmlyBy, AllCalmly}
 use Rattle.lists.specs.Runs.{leftOne, turnsDriven, DriveLends, AllDrive}
 use Rattle.lists.proofs.Bytes.{next-shows}
 use Rattle.lists.proofs.Carry.{carries}
 use Rattle.lists.proofs.Runs.{turns-unrolled}
-use Rattle.lists.proofs.Witness.{begun}
-use Rattle.lists.proofs.LentWitness.{first, worked, shows-begun, lent-premises}
+use Rattle.worked.proofs.Witness.{begun}
+use Rattle.worked.proofs.LentWitness.{first, worked, shows-begun, lent-premises}
 
 -- ---- events that may occur are calls that lend as is asked
 
