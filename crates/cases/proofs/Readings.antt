@@ -6,6 +6,7 @@ use lib.Dec.{T}
 use lib.ListN.{replicate}
 use Rattle.chip.specs.Cases.{Word, _is_, unsaid, high, low, Step, Case, passes, allPass}
 use Rattle.chip.specs.Call.{reset, attention, arrive, turn}
+use Rattle.cases.proofs.Prepared.{all-prepared}
 use Rattle.chip.proofs.Board.{board, descriptors, bufferAt, good, crc, misaligned, counting, broadcast, quiet, edge, step, ends, turned, came, initialised, receiving, commanding, attended, raising, settling, configured, saving, working, counters}
 
 -- ---- the first attention
@@ -486,4 +487,4 @@ readings =
 
 pub taken : T (allPass readings)
 unfolding passes readings
-taken = tt
+taken = all-prepared readings tt

@@ -1,5 +1,6 @@
 -- Runs of turns: what ends them and what they count, each with a case, by one statement over the list: `counted`. Assumes nothing.
 use mathlib.Core.Bool.{Bool, true, false, _&&_}
+use mathlib.Core.Path.{_≡_, refl}
 use mathlib.Core.List.{List, [], _∷_, _++_}
 use Prim.Native.Nat.{ℕ}
 use lib.Dec.{T, eqb}
@@ -7,6 +8,7 @@ use Rattle.chip.specs.World.{World, afterwards}
 use Rattle.chip.specs.Cases.{Word, _is_, Said, Step, altered, start, answers, holds, passes}
 use Rattle.chip.specs.Call.{ran}
 use Rattle.chip.specs.Run.{Run, stops, runOf}
+use Rattle.cases.proofs.Prepared.{pointer, leads, startBy, prepared}
 use Rattle.chip.proofs.Board.{board, descriptors, bufferAt, good, broadcast, quiet, edge, came, initialised, receiving, commanding}
 
 -- calls, then a run with a budget and a report: the turns that it must take, its answer, and the words that must stand in memory
@@ -103,6 +105,19 @@ cases =
     ∷ storing 65535 5 edge (0x60 is 0xA000 ∷ 0x30 is 0x4040 ∷ [])
     ∷ []
 
+-- the same on the memory that has the pointer
+abbrev pub allRun : List RunCase → Bool
+allRun [] = true
+allRun (c ∷ cs) =
+    comes c (runOf (c .budget) (after (c .steps) (startBy (leads pointer (c .given)) (c .given))) (c .report)) && allRun cs
+
+all-run : (cs : List RunCase) → allRunPass cs ≡ allRun cs
+all-run [] = refl
+all-run (c ∷ cs) = rw (prepared (c .given), all-run cs)
+
+pub runs-prepared : (cs : List RunCase) → T (allRun cs) → T (allRunPass cs)
+runs-prepared cs t = rw all-run t
+
 pub counted : T (allRunPass cases)
 unfolding passes stops runOf cases
-counted = tt
+counted = runs-prepared cases tt

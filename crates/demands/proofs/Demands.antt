@@ -49,10 +49,10 @@ use Rattle.lists.specs.Done.{Calm, Starts, Premises, Done, bytesOf}
 use Rattle.lists.specs.Lent.{left, turnsOf, eventsOf, worldIn, Shows, AllLend, AllCalmly}
 use Rattle.lists.specs.Runs as list-runs
 use Rattle.lists.proofs.Whole as whole
-use Rattle.lists.proofs.Exact as list-exact
 use Rattle.lists.proofs.Carry as carry
 use Rattle.lists.proofs.Runs as runs-done
 use Rattle.progress.specs.Machine.{Kept, run}
+use Rattle.worked.proofs.Exact as list-exact
 use Rattle.held.specs.Held as held
 use Rattle.held.specs.Kept as kept
 use Rattle.held.specs.Runs as held-runs

@@ -7,6 +7,7 @@ use lib.Dec.{T}
 use lib.ListN.{replicate}
 use Rattle.chip.specs.Cases.{Word, _is_, unsaid, high, low, Step, Case, passes, allPass}
 use Rattle.chip.specs.Call.{reset, attention, arrive, turn}
+use Rattle.cases.proofs.Prepared.{all-prepared}
 use Rattle.chip.proofs.Board.{board, descriptors, bufferAt, good, crc, misaligned, counting, broadcast, quiet, edge, step, ends, turned, came, initialised, receiving, commanding, attended, raising, settling, configured, saving, working, counters}
 
 -- ---- reset
@@ -766,8 +767,8 @@ works =
 -- two statements, since one over all of them would take much memory to check
 pub kept-calls : T (allPass calls)
 unfolding passes calls
-kept-calls = tt
+kept-calls = all-prepared calls tt
 
 pub kept-works : T (allPass works)
 unfolding passes works
-kept-works = tt
+kept-works = all-prepared works tt

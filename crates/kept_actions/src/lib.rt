@@ -52,7 +52,7 @@ pub fn plainly(status: u16, length: u16) -> Done
 fn ia_setup(memory: &[u8], base: RealAddress, setup: &mut [u8], block: Offset) -> Done
     ensures { λ r. ⌜ ((s : Setup) → SetIs s (now (setup .entry)) → acts.Sets (actions.iaSetup base s block (now (memory .entry))) r (now (setup .exit))) ⌝ }
 {
-    memory::copy_out(memory, memory::place(base, block, ARGUMENT), 6, setup, OWN);
+    copies::copy_out(memory, memory::place(base, block, ARGUMENT), 6, setup, OWN);
     plainly(DONE, 0)
 }
 
@@ -141,7 +141,7 @@ fn mc_setup(memory: &[u8], base: RealAddress, setup: &mut [u8], block: Offset) -
     let n = groups(memory, base, block);
     if n <= 16 {
         words::clear(setup, LISTED, LISTED_SIZE);
-        memory::copy_out(
+        copies::copy_out(
             memory,
             memory::place(base, block, ADDRESSES),
             n as usize * 6,

@@ -43,6 +43,7 @@ use Rattle.kept.specs.SetUp.{SetIs}
 use Rattle.kept.specs.declared.Kept.{Kept}
 use Rattle.kept_command.specs.Serves as command-serves
 use Rattle.kept_command.specs.declared.Commanded.{Commanded}
+use Rattle.kept_arrival.specs.Arrives as arrives
 use Rattle.kept_receive.specs.Receives as receives
 use Rattle.kept_receive.specs.declared.Received.{Received}
 use Rattle.kept_chip.specs.Does.{DeviceIs, toldBy, commands, Concludes, Does, Tells, Arrives}
@@ -269,6 +270,6 @@ module _ (d : Device) (f : List ℕ) (v : ℕ) (m h out : List ℕ) (k : Kept) (
 
   -- for us
   pub arrives-matched : (m1 h1 : List ℕ) → matched ≡ true → SetIs (setupOf d) set
-      → receives.Arrives (receive-arrival.arrival (d .units) true f v m h) (d .units) m k m1 h1 → Arrives (arrivalOf world f v) k set m1 h1
+      → arrives.Arrives (receive-arrival.arrival (d .units) true f v m h) (d .units) m k m1 h1 → Arrives (arrivalOf world f v) k set m1 h1
   unfolding arrivalOf arrival
   arrives-matched m1 h1 b s a = rw b (record { device = record { units = a .units; setup = s }; memory = a .memory; holding = a .holding })

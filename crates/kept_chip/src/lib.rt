@@ -200,7 +200,7 @@ pub fn arrival(
         return k;
     }
     if kept_filter::matches(setup, frame) {
-        return kept_receive::arrive(memory, holding, setup, k, frame, verdict);
+        return kept_arrival::arrive(memory, holding, setup, k, frame, verdict);
     }
     k
 }

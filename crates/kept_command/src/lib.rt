@@ -144,7 +144,7 @@ fn put_header(memory: &[u8], outgoing: &mut [u8], setup: &[u8], base: RealAddres
     requires { ⌜ length (now setup) ≡ 104 ⌝ }
     ensures { λ _. ⌜ ((s : Setup) → SetIs s (now (setup .entry)) → now (outgoing .exit) ≡ sets (now (outgoing .entry)) 0 (begins.headerOf base (s .own) block (now (memory .entry)))) ⌝ }
 {
-    memory::copy_out(
+    copies::copy_out(
         memory,
         memory::place(base, block, DESTINATION),
         6,
@@ -152,7 +152,7 @@ fn put_header(memory: &[u8], outgoing: &mut [u8], setup: &[u8], base: RealAddres
         0,
     );
     memory::put_run(outgoing, 6, &setup[OWN..OWN_END]);
-    memory::copy_out(memory, memory::place(base, block, TYPE), 2, outgoing, 12);
+    copies::copy_out(memory, memory::place(base, block, TYPE), 2, outgoing, 12);
 }
 
 // A Transmit is begun: its +6 is read, and its header placed.
@@ -246,7 +246,7 @@ fn buffer(memory: &[u8], outgoing: &mut [u8], base: RealAddress, n: u64) -> Comm
     }
     let next = memory::offset_at(memory, memory::place(base, o, 2));
     let buffer = memory::real_at(memory, memory::place(base, o, 4));
-    memory::copy_out(memory, buffer, count as usize, outgoing, filled as usize);
+    copies::copy_out(memory, buffer, count as usize, outgoing, filled as usize);
     after_buffer(EOF <= word, next, b, kept::kind_of(n), filled + count)
 }
 

@@ -1,11 +1,9 @@
-// The receive unit over numbers: what becomes of an arriving frame, and one service, which begins a held frame, fills a buffer, or ends the
-// frame. An arrival assumes 104 bytes of setup and a frame of at least 14 bytes that matched; a service assumes nothing. receive's
-// specs/ say what is done, and specs/Receives.antt that the numbers afterwards are those.
-use kept::Kept;
+// The receive unit over numbers: one service, which begins a held frame, fills a buffer, or ends the frame. It assumes nothing. receive's specs/
+// say what is done, and specs/Receives.antt that the numbers afterwards are those. The room kept_arrival has what comes before.
 use memory::Offset;
 use memory::RealAddress;
 ghost use mathlib.Core.Path.{_≡_};
-ghost use mathlib.Core.Bool.{true, cond, _||_};
+ghost use mathlib.Core.Bool.{cond, _||_};
 ghost use mathlib.Core.List.{[]};
 ghost use Prim.Native.Nat.{ℕ, _+_, _*_, _-_, _/_, _%_, _<_, _≤_, min};
 ghost use lib.Dec.{leb};
@@ -13,26 +11,20 @@ ghost use lib.ListN.{length};
 ghost use Rattle.memory.specs.Address.{isNone, place};
 ghost use Rattle.memory.specs.Memory.{apply};
 ghost use Rattle.memory.specs.declared.Offset.{Offset};
-ghost use Rattle.scb.specs.Words.{one};
-ghost use Rattle.device.specs.Answers.{counterOf, counts, isHeld, isStored};
+ghost use Rattle.device.specs.Answers.{counterOf, isStored};
 ghost use Rattle.device.specs.Limits.{mostBuffers};
-ghost use Rattle.device.specs.Numbers.{counterPlace, verdictNumber, verdictOf};
-ghost use Rattle.device.specs.State.{isGood};
-ghost use Rattle.device.specs.declared.Counter.{Counter};
+ghost use Rattle.device.specs.Numbers.{counterPlace, verdictOf};
 ghost use Rattle.device.specs.declared.Fate.{Fate};
 ghost use Rattle.device.specs.declared.Ru.{Ru};
-ghost use Rattle.device.specs.declared.Units.{Units};
-ghost use Rattle.actions.specs.Setup.{Setup};
-ghost use Rattle.receive.specs.Arrival as arrivals;
 ghost use Rattle.receive.specs.Part.{firstAt};
 ghost use Rattle.receive.specs.Begin as begins;
 ghost use Rattle.receive.specs.Buffer as buffers;
 ghost use Rattle.receive.specs.End as ends;
 ghost use Rattle.receive.specs.Service.{service};
-ghost use Rattle.phases.specs.Words.{ruTag, ruOf, wordOf, fillingOf};
-ghost use Rattle.kept.specs.Kept.{RuIs, KeptIs};
-ghost use Rattle.kept.specs.SetUp.{SetIs};
-ghost use Rattle.kept_receive.specs.Receives.{frameNumber, frameIn, storingIn, partBy, partAt, Serves, Arrives};
+ghost use Rattle.phases.specs.Words.{ruOf, wordOf, fillingOf};
+ghost use Rattle.kept.specs.Kept.{RuIs};
+ghost use Rattle.kept_arrival.specs.Arrives.{frameIn};
+ghost use Rattle.kept_receive.specs.Receives.{storingIn, partBy, partAt, Serves};
 
 // What a service comes to, besides the lent bytes: the unit as its tag and words, and the events that came up.
 pub struct Received {
@@ -57,12 +49,9 @@ const CLOSING: u64 = 6;
 
 const LACKING: u64 = 7;
 
-// A unit's word has an offset in its low 16 bits.
-const OFFSETS: u64 = 65536;
-
 // What stands in the unit's word above the offset of the frame descriptor, by the value of its lowest bit: a waiting SUSPEND, whether the
-// frame is short, save-bad at arrival, S and EL of the descriptor, EL of the last buffer used, the verdict, the length, and the next buffer
-// descriptor.
+// frame is short, save-bad at arrival, S and EL of the descriptor, EL of the last buffer used, and the next buffer descriptor. Verdict and
+// length are the rooms kept_arrival's and kept's to say.
 const PAUSING: u64 = 65536;
 
 const SHORT: u64 = 131072;
@@ -75,10 +64,6 @@ const EL: u64 = 1048576;
 
 const FULL: u64 = 2097152;
 
-const VERDICT: u64 = 16777216;
-
-const LENGTH: u64 = 4294967296;
-
 const NEXT_FREE: u64 = 281474976710656;
 
 // The second word: how many bytes are stored, and above them in how many buffers.
@@ -89,26 +74,16 @@ const FR: u64 = 4;
 
 const RNR: u64 = 1;
 
-// A frame has a header of 14 bytes and at most 2,048 bytes; the FCS, four bytes more, no call hands over.
+// A frame has a header of 14 bytes.
 const HEADER: usize = 14;
-
-const LONGEST: usize = 2048;
-
-const FCS: u64 = 4;
 
 // Where in the holding area a held frame begins.
 const HELD_FROM: usize = 0;
 
-// Where the counters stand in the SCB; no counter has no place.
+// Where the counter stands in the SCB; no counter has no place.
 const UNCOUNTED: u16 = 0;
 
-const CRCERRS: u16 = 8;
-
-const ALNERRS: u16 = 10;
-
 const RSCERRS: u16 = 12;
-
-const OVRNERRS: u16 = 14;
 
 // The frame descriptor: +0 status, +2 EL and S, +4 link, +6 first buffer descriptor, +8 the header.
 const STATUS: u16 = 0;
@@ -163,122 +138,6 @@ const NONE: u16 = 0xFFFF;
 
 // At most so many buffers are filled with one frame.
 const MOST_BUFFERS: u64 = 64;
-
-// ---- an arriving frame
-
-// A flag as a number.
-fn bit(b: bool) -> u64
-    ensures { λ r. ⌜ (r ≡ one b) × (r < 2) ⌝ }
-{
-    if b { 1 } else { 0 }
-}
-
-// The length of a frame. One that exceeds 2,048 bytes is refused before anything here is asked.
-fn length_of(frame: &[u8]) -> u64
-    ensures { λ r. ⌜ (r ≡ arrivals.lengthOf (now (frame .entry))) × (r ≤ 2048) ⌝ }
-{
-    if frame.len() > LONGEST {
-        return LONGEST as u64;
-    }
-    frame.len() as u64
-}
-
-// The line side's verdict: 0 good, 1 CRC, any other value misaligned.
-fn verdict_number(v: u32) -> u64
-    ensures { λ r. ⌜ (r ≡ verdictNumber (verdictOf v)) × (r < 3) ⌝ }
-{
-    if v < 2 { v as u64 } else { 2 }
-}
-
-// Short, bad and good are judged once, by the settings at arrival. Short: bytes plus 4 below the minimum.
-fn judge(setup: &[u8], frame: &[u8], verdict: u32) -> u64
-    requires { ⌜ length (now setup) ≡ 104 ⌝ }
-    ensures { λ r. ⌜ (r < 281474976710656) × ((s : Setup) → SetIs s (now (setup .entry)) → r ≡ frameNumber (arrivals.judged (s .settings) (now (frame .entry)) verdict)) ⌝ }
-{
-    let length = length_of(frame);
-    SHORT * bit(length + FCS < setup[1] as u64)
-        + SAVE_BAD * (setup[0] % 2) as u64
-        + VERDICT * verdict_number(verdict)
-        + LENGTH * length
-}
-
-// Neither short nor with a bad verdict.
-fn is_good(f: u64) -> bool
-    ensures { λ r. ⌜ r ≡ isGood (frameIn f) ⌝ }
-{
-    !kept::flag(f, SHORT) & (kept::kind_of(f) == 0)
-}
-
-// Short: no counter whatever the verdict. Misaligned verdict: ALNERRS. CRC verdict: CRCERRS.
-fn counter_of(f: u64) -> u16
-    ensures { λ r. ⌜ r ≡ counterPlace (arrivals.counterFor (frameIn f)) ⌝ }
-{
-    if kept::flag(f, SHORT) {
-        return UNCOUNTED;
-    }
-    match kept::kind_of(f) {
-        0 => UNCOUNTED,
-        1 => CRCERRS,
-        _ => ALNERRS,
-    }
-}
-
-// A frame already held: OVRNERRS. A good frame in No Resources: RSCERRS. A bad one in Ready or No Resources: as it was judged.
-fn counter_for(tag: u64, f: u64) -> u16
-    ensures { λ r. ⌜ ((u : Ru) → tag ≡ ruTag u → r ≡ counterPlace (counterOf (arrivals.fateIn u (frameIn f)))) ⌝ }
-{
-    if READY < tag {
-        return OVRNERRS;
-    }
-    if is_good(f) {
-        if tag == NO_RESOURCES {
-            return RSCERRS;
-        }
-        return UNCOUNTED;
-    }
-    if SUSPENDED < tag {
-        return counter_of(f);
-    }
-    UNCOUNTED
-}
-
-// In Ready a good frame is held, a bad one with save-bad set.
-fn is_held(tag: u64, f: u64) -> bool
-    ensures { λ r. ⌜ ((u : Ru) → tag ≡ ruTag u → r ≡ isHeld (arrivals.fateIn u (frameIn f))) ⌝ }
-{
-    (tag == READY) & (is_good(f) | kept::flag(f, SAVE_BAD))
-}
-
-// The counter is read from the SCB, increased modulo 65,536, written back. No counter: nothing is written.
-fn count(memory: &mut [u8], base: RealAddress, scb: Offset, counter: u16)
-    ensures { λ _. ⌜ ((c : Counter) → counter ≡ counterPlace c → now (memory .exit) ≡ apply (counts c base scb (now (memory .entry))) (now (memory .entry))) ⌝ }
-{
-    if counter != UNCOUNTED {
-        memory::count_up(memory, memory::place(base, scb, counter));
-    }
-}
-
-// A frame that matched arrives. Only a held frame enters the holding area, and the unit holds it before the descriptor that was next.
-pub fn arrive(
-    memory: &mut [u8],
-    holding: &mut [u8],
-    setup: &[u8],
-    k: Kept,
-    frame: &[u8],
-    verdict: u32,
-) -> Kept
-    requires { ⌜ (length (now setup) ≡ 104) × (14 ≤ length (now frame)) ⌝ }
-    ensures { λ r. ⌜ ((u : Units) (s : Setup) → KeptIs u k → SetIs s (now (setup .entry)) → s .settings ≡ u .settings → Arrives (arrivals.arrival u true (now (frame .entry)) verdict (now (memory .entry)) (now (holding .entry))) u (now (memory .entry)) r (now (memory .exit)) (now (holding .exit))) ⌝ }
-{
-    let f = judge(setup, frame, verdict);
-    let tag = kept::ru_tag(k);
-    count(memory, kept::base(k), kept::scb(k), counter_for(tag, f));
-    if is_held(tag, f) {
-        memory::put_run(holding, HELD_FROM, frame);
-        return kept::with_ru(k, HELD, f + k.ru % OFFSETS, 0);
-    }
-    k
-}
 
 // ---- begin
 
@@ -379,7 +238,7 @@ fn after_buffer(n: u64, next: Offset, el: bool, used: u64, filled: u64) -> Recei
     if kept::size_of(n) <= filled {
         return Received {
             tag: CLOSING,
-            word: with_next(flagged(n, FULL * bit(el)), next),
+            word: with_next(flagged(n, FULL * kept_arrival::bit(el)), next),
             rest: 0,
             raised: 0,
         };
@@ -410,7 +269,7 @@ fn buffer(memory: &mut [u8], holding: &[u8], base: RealAddress, n: u64, rest: u6
     let next = memory::offset_at(memory, memory::place(base, o, NEXT));
     let to = memory::real_at(memory, memory::place(base, o, BUFFER));
     let count = count_into(kept::size_of(n), filled, (word % SIZES) as u64);
-    memory::copy_in(
+    copies::copy_in(
         memory,
         to,
         holding,
@@ -461,7 +320,7 @@ fn error_bits(lacking: bool, n: u64) -> u16
 fn frame_status(lacking: bool, n: u64) -> u16
     ensures { λ r. ⌜ r ≡ ends.frameStatus lacking (frameIn n) ⌝ }
 {
-    if !lacking & is_good(n) {
+    if !lacking & kept_arrival::is_good(n) {
         return COMPLETE + OK;
     }
     COMPLETE + error_bits(lacking, n)
@@ -489,7 +348,7 @@ fn describe(
 {
     let fd = kept::at_of(n);
     if stored {
-        memory::copy_in(
+        copies::copy_in(
             memory,
             memory::place(base, fd, HEADER_AT),
             holding,
@@ -511,7 +370,7 @@ fn describe(
 fn lost(lacking: bool, n: u64) -> u16
     ensures { λ r. ⌜ r ≡ counterPlace (counterOf (ends.fateOf lacking (frameIn n))) ⌝ }
 {
-    if lacking & is_good(n) {
+    if lacking & kept_arrival::is_good(n) {
         return RSCERRS;
     }
     UNCOUNTED
@@ -531,7 +390,7 @@ fn settle(
 {
     let stored = !lacking | kept::flag(n, SAVE_BAD);
     describe(memory, holding, base, stored, lacking, n);
-    count(memory, base, scb, lost(lacking, n));
+    kept_arrival::count(memory, base, scb, lost(lacking, n));
     stored
 }
 
@@ -540,7 +399,7 @@ fn settle(
 fn goes_on(memory: &mut [u8], base: RealAddress, n: u64, exhausted: bool, stored: bool) -> Received
     ensures { λ r. ⌜ ((f : Fate) → stored ≡ isStored f → Serves (ends.goesOn exhausted (partAt base []) (storingIn n) (record { 0 = n / 281474976710656 }) f [] (now (memory .entry))) (now (memory .entry)) r (now (memory .exit))) ⌝ }
 {
-    let fr = FR * bit(stored);
+    let fr = FR * kept_arrival::bit(stored);
     if exhausted {
         return Received {
             tag: NO_RESOURCES,

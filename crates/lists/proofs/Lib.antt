@@ -1,4 +1,4 @@
--- A command list is done: the laws of taking turns, the starting attention, list order service by service, and a list that meets the premises.
+-- A command list is done: the laws of taking turns, the starting attention, and list order service by service.
 pub mod Laws
 pub mod Start
 pub mod Blocks
@@ -8,13 +8,8 @@ pub mod Chain
 pub mod Ends
 pub mod Acts
 pub mod Order
-pub mod Tests
-pub mod Witness
-pub mod Exact
 pub mod Whole
 pub mod Bytes
 pub mod Lift
 pub mod Carry
-pub mod LentWitness
 pub mod Runs
-pub mod RunsWitness

@@ -1,4 +1,4 @@
--- Lengths, one byte, runs of bytes end to end, and the turns of the loops that copy. No contract cites this file. Assumes nothing.
+-- Lengths, one byte, runs of bytes end to end, and the turn of the loop that copies a run. No contract cites this file. Assumes nothing.
 use mathlib.Core.Path.{_≡_, refl, sym, ap, _∙_}
 use mathlib.Core.List.{List, [], _∷_, _++_}
 use mathlib.Core.Logic.{_⊎_, inl, inr, ⊎-elim}
@@ -9,7 +9,7 @@ use native.Mathlib.Numerals.{add-one}
 use native.Mathlib.Omega.{arith}
 use borrow.Author.Needs.{needs}
 use lib.ListN.{length, getD, set, take, drop, length-set, length-drop}
-use lib.Seq.{getD-set-same, getD-set-other, getD-drop, length-take-le, take-suc, take-all, set-out, sets}
+use lib.Seq.{getD-set-same, getD-set-other, getD-drop, length-take-le, take-suc, set-out, sets}
 use Rattle.memory.specs.Memory.{byteAt, putByte, bytesAt, putBytes, Write, apply}
 
 -- ---- lengths
@@ -94,46 +94,11 @@ pub apply-append : (xs ys : List Write) (m : List ℕ) → apply (xs ++ ys) m �
 apply-append [] ys m = refl
 apply-append (x ∷ xs) ys m = apply-append xs ys (putBytes m (x .to) (x .bytes))
 
--- ---- copies: a turn of each loop, and that what lies past the end does not matter
+-- ---- runs: a turn of the loop, and that what lies past the end does not matter
 
-pub put-step : (m : List ℕ) (a : ℕ) (src : List ℕ) (at i : ℕ) → at + i < length src
-    → putByte (putBytes m a (take i (drop at src))) (a + i) (getD src (at + i) 0) ≡ putBytes m a (take (i + 1) (drop at src))
-unfolding putBytes
-put-step m a src at i h =
-    let k : i < length (drop at src) = simp length-drop (omega arith) in
-    let e : length (take i (drop at src)) ≡ i = length-take-le i (drop at src) (omega arith) in
-    sym (rw (add-one, take-suc (drop at src) i 0 k, put-append, e, getD-drop))
-
-pub put-all : (src : List ℕ) (at n : ℕ) → take (min n (length src - at)) (drop at src) ≡ take n (drop at src)
-put-all src at n =
-    let e : length (drop at src) ≡ length src - at = length-drop at src in
-    ⊎-elim
-    (λ (h : n < length src - at). let k : min n (length src - at) ≡ n = omega arith in rw k)
-    (λ (h : length src - at ≤ n).
-    let k : min n (length src - at) ≡ length src - at = omega arith in
-    rw k (take-all (length src - at) (drop at src) (omega arith) ∙ sym (take-all n (drop at src) (omega arith))))
-    (below-or-not n (length src - at))
-
-pub out-step : (m d : List ℕ) (a at i : ℕ) → sets d at (bytesAt m a (i + 1)) ≡ set (sets d at (bytesAt m a i)) (at + i) (byteAt m (a + i))
-unfolding bytesAt
-out-step m d a at i = rw (bytes-append, sets-append, length-bytesAt)
-
-sets-past : (d : List ℕ) (at : ℕ) (bs : List ℕ) → length d ≤ at → sets d at bs ≡ d
+pub sets-past : (d : List ℕ) (at : ℕ) (bs : List ℕ) → length d ≤ at → sets d at bs ≡ d
 sets-past d at [] h = refl
 sets-past d at (b ∷ bs) h = rw (set-out d at b h) (sets-past d (suc at) bs (omega arith))
-
-pub out-all : (m d : List ℕ) (a at n : ℕ) → sets d at (bytesAt m a (min n (length d - at))) ≡ sets d at (bytesAt m a n)
-unfolding bytesAt
-out-all m d a at zero = let k : min 0 (length d - at) ≡ 0 = omega arith in rw k
-out-all m d a at (suc n) =
-    ⊎-elim
-    (λ (h : at < length d).
-    let k : min (suc n) (length d - at) ≡ suc (min n (length d - suc at)) = omega arith in
-    let l : length (set d at (byteAt m a)) ≡ length d = length-set d at (byteAt m a) in
-    rw (k, ← l) (out-all m (set d at (byteAt m a)) (suc a) (suc at) n))
-    (λ (h : length d ≤ at).
-    sets-past d at (bytesAt m a (min (suc n) (length d - at))) h ∙ sym (sets-past d at (bytesAt m a (suc n)) h))
-    (below-or-not at (length d))
 
 pub run-step : (d : List ℕ) (to : ℕ) (src : List ℕ) (from i : ℕ) → from + i < length src
     → set (sets d to (take i (drop from src))) (to + i) (getD src (from + i) 0) ≡ sets d to (take (i + 1) (drop from src))

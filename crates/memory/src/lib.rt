@@ -5,7 +5,7 @@ ghost use mathlib.Core.List.{[], _∷_};
 ghost use Prim.Native.Nat.{_+_, _-_, _*_, _%_, _≤_, _<_, min};
 ghost use lib.ListN.{length, take, drop};
 ghost use lib.Seq.{sets};
-ghost use Rattle.memory.specs.Memory.{byteAt, putByte, wordAt, bytesAt, putBytes, digits};
+ghost use Rattle.memory.specs.Memory.{byteAt, putByte, wordAt, putBytes, digits};
 ghost use Rattle.memory.specs.Address.{place, beyond, offsetAt, isNone, addressAt, realOf, scp};
 ghost use Rattle.memory.specs.Size.{sizeAllowed};
 
@@ -59,7 +59,7 @@ pub fn size_allowed(n: usize) -> bool
 }
 
 // Where address a lands in n bytes: a mask does it where n is a power of two.
-fn slot(a: usize, n: usize) -> usize
+pub fn slot(a: usize, n: usize) -> usize
     requires { ⌜ 0 < n ⌝ }
     ensures { λ r. ⌜ r ≡ a % n ⌝ }
 {
@@ -71,7 +71,7 @@ fn slot(a: usize, n: usize) -> usize
 }
 
 // The byte at index a, modulo the length; 0 where memory is empty.
-fn read(m: &[u8], a: usize) -> u8
+pub fn read(m: &[u8], a: usize) -> u8
     ensures { λ r. ⌜ r ≡ byteAt (now (m .entry)) a ⌝ }
 {
     if m.len() == 0 {
@@ -81,7 +81,7 @@ fn read(m: &[u8], a: usize) -> u8
 }
 
 // The byte v goes to index a, modulo the length; nowhere where memory is empty.
-fn write(m: &mut [u8], a: usize, v: u8)
+pub fn write(m: &mut [u8], a: usize, v: u8)
     ensures { λ _. ⌜ now (m .exit) ≡ putByte (now (m .entry)) a v ⌝ }
 {
     if m.len() == 0 {
@@ -180,7 +180,7 @@ pub fn count_up(m: &mut [u8], a: RealAddress)
 }
 
 // How many of n elements from index at on lie within len; none where at is the end or past it. No sum is formed, so none can overflow.
-fn room(len: usize, at: usize, n: usize) -> usize
+pub fn room(len: usize, at: usize, n: usize) -> usize
     ensures { λ r. ⌜ r ≡ min n (len - at) ⌝ }
 {
     if len <= at {
@@ -193,7 +193,7 @@ fn room(len: usize, at: usize, n: usize) -> usize
 }
 
 // The k bytes of src from index from on go to dst from index to on. No index wraps, so that the machine may copy many bytes at once.
-fn copy_run(dst: &mut [u8], to: usize, src: &[u8], from: usize, k: usize)
+pub fn copy_run(dst: &mut [u8], to: usize, src: &[u8], from: usize, k: usize)
     requires { ⌜ (k ≤ length (now dst) - to) × (k ≤ length (now src) - from) ⌝ }
     ensures { λ _. ⌜ now (dst .exit) ≡ sets (now (dst .entry)) to (take k (drop from (now (src .entry)))) ⌝ }
 {
@@ -210,61 +210,4 @@ pub fn put_run(dst: &mut [u8], at: usize, src: &[u8])
 {
     let k = room(dst.len(), at, src.len());
     copy_run(dst, at, src, 0, k);
-}
-
-// What `copy_out` does, byte by byte, as each address wraps by itself.
-fn copy_around(m: &[u8], a: RealAddress, n: usize, dst: &mut [u8], at: usize)
-    ensures { λ _. ⌜ now (dst .exit) ≡ sets (now (dst .entry)) at (bytesAt (now (m .entry)) (a .0) n) ⌝ }
-{
-    let p = a.0 as usize;
-    let k = room(dst.len(), at, n);
-    let mut i = 0;
-    while i < k {
-        dst[at + i] = read(m, p + i);
-        i += 1;
-    }
-}
-
-// The n bytes of memory from a on go to dst from index at on; what would pass the end of dst goes nowhere. Bytes that do not pass the end of
-// memory are one run.
-pub fn copy_out(m: &[u8], a: RealAddress, n: usize, dst: &mut [u8], at: usize)
-    ensures { λ _. ⌜ now (dst .exit) ≡ sets (now (dst .entry)) at (bytesAt (now (m .entry)) (a .0) n) ⌝ }
-{
-    if m.len() != 0 {
-        let i = slot(a.0 as usize, m.len());
-        let k = room(dst.len(), at, n);
-        if k <= m.len() - i {
-            copy_run(dst, at, m, i, k);
-            return;
-        }
-    }
-    copy_around(m, a, n, dst, at);
-}
-
-// What `copy_in` does, byte by byte, as each address wraps by itself.
-fn put_around(m: &mut [u8], a: RealAddress, src: &[u8], at: usize, n: usize)
-    ensures { λ _. ⌜ now (m .exit) ≡ putBytes (now (m .entry)) (a .0) (take n (drop at (now (src .entry)))) ⌝ }
-{
-    let p = a.0 as usize;
-    let k = room(src.len(), at, n);
-    let mut i = 0;
-    while i < k {
-        write(m, p + i, src[at + i]);
-        i += 1;
-    }
-}
-
-// The n bytes of src from index at on, or as many as there are, go to memory from a on; they are one run where they do not pass its end.
-pub fn copy_in(m: &mut [u8], a: RealAddress, src: &[u8], at: usize, n: usize)
-    ensures { λ _. ⌜ now (m .exit) ≡ putBytes (now (m .entry)) (a .0) (take n (drop at (now (src .entry)))) ⌝ }
-{
-    if m.len() != 0 {
-        let i = slot(a.0 as usize, m.len());
-        let k = room(src.len(), at, n);
-        if k <= m.len() - i {
-            copy_run(m, i, src, at, k);
-            return;
-        }
-    }
-    put_around(m, a, src, at, n);
 }

@@ -4,8 +4,10 @@ use mathlib.Core.Bool.{_||_}
 use Prim.Native.Nat.{_/_}
 use Rattle.receive.specs.End.{fateOf, settles}
 use Rattle.phases.specs.Words.{wordOf}
-use Rattle.kept_receive.specs.Receives.{frameIn, storingIn, partBy}
-use Rattle.kept_receive.proofs.Laws.{fifth-in, sixth-in, after-writes}
+use Rattle.kept_arrival.specs.Arrives.{frameIn}
+use Rattle.kept_receive.specs.Receives.{storingIn, partBy}
+use Rattle.kept_arrival.proofs.Laws.{fifth-in, sixth-in}
+use Rattle.kept_receive.proofs.Laws.{after-writes}
 use borrow.Author.Needs.{needs}
 use Rattle.kept_receive.proofs.end.Statement.{statement}
 use Rattle.kept_receive.proofs.end.Tie as tie

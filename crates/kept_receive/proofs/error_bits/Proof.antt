@@ -1,7 +1,7 @@
 -- `kept_receive::error_bits` meets its contract. Assumes nothing.
 use native.Mathlib.Omega.{arith}
 use Rattle.phases.specs.Words.{wordOf}
-use Rattle.kept_receive.proofs.Laws.{second-in}
+use Rattle.kept_arrival.proofs.Laws.{second-in}
 use borrow.Author.Needs.{needs}
 use Rattle.kept_receive.proofs.error_bits.Statement.{statement}
 use Rattle.kept_receive.proofs.error_bits.Tie as tie

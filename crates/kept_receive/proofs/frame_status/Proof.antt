@@ -1,7 +1,7 @@
 -- `kept_receive::frame_status` meets its contract. Assumes nothing.
 use mathlib.Core.Path.{_≡_, _∙_, sym, ap}
 use mathlib.Core.Bool.{Bool, not, _&&_}
-use Rattle.kept_receive.specs.Receives.{frameIn}
+use Rattle.kept_arrival.specs.Arrives.{frameIn}
 use Rattle.kept_receive.proofs.Laws.{status-good, status-bad}
 use borrow.Author.Needs.{needs}
 use Rattle.kept_receive.proofs.frame_status.Statement.{statement}

@@ -3,7 +3,8 @@ use mathlib.Core.Path.{_≡_, refl}
 use mathlib.Core.Bool.{true, false, _||_}
 use native.Mathlib.Omega.{arith}
 use Rattle.phases.specs.Words.{wordOf}
-use Rattle.kept_receive.proofs.Laws.{offset-is, first-in, fourth-in, raised-suspended, raised-ready, raised-none}
+use Rattle.kept_arrival.proofs.Laws.{first-in, fourth-in}
+use Rattle.kept_receive.proofs.Laws.{offset-is, raised-suspended, raised-ready, raised-none}
 use Rattle.kept_receive.proofs.Units.{suspended, ready, no-resources}
 use borrow.Author.Needs.{needs}
 use Rattle.kept_receive.proofs.goes_on.Statement.{statement}

@@ -1,7 +1,7 @@
 -- `kept_receive::lost` meets its contract. Assumes nothing.
 use mathlib.Core.Path.{_∙_, sym}
 use Rattle.device.specs.State.{isGood}
-use Rattle.kept_receive.specs.Receives.{frameIn}
+use Rattle.kept_arrival.specs.Arrives.{frameIn}
 use Rattle.kept_receive.proofs.Laws.{lost-is}
 use borrow.Author.Needs.{needs}
 use Rattle.kept_receive.proofs.lost.Statement.{statement}

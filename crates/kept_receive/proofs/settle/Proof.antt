@@ -5,8 +5,9 @@ use Rattle.device.specs.Answers.{isStored}
 use Rattle.memory.proofs.Laws.{apply-append}
 use Rattle.receive.specs.End.{fateOf, settles}
 use Rattle.device.specs.State.{isGood}
-use Rattle.kept_receive.specs.Receives.{frameIn}
-use Rattle.kept_receive.proofs.Laws.{third-in, stored-is}
+use Rattle.kept_arrival.specs.Arrives.{frameIn}
+use Rattle.kept_arrival.proofs.Laws.{third-in}
+use Rattle.kept_receive.proofs.Laws.{stored-is}
 use borrow.Author.Needs.{needs}
 use Rattle.kept_receive.proofs.settle.Statement.{statement}
 use Rattle.kept_receive.proofs.settle.Tie as tie

@@ -1,0 +1,2 @@
+-- What the copies rest on.
+pub mod Laws

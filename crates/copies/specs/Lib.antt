@@ -1,0 +1,1 @@
+-- No definitions: what is copied is said in the words of the room memory.

@@ -1,0 +1,145 @@
+-- The premises over lent areas can be met: the worked list of `Witness`, run by calls on areas of bytes, with a refused call among them.
+-- Assumes nothing.
+use mathlib.Core.Path.{_≡_, refl}
+use mathlib.Core.Bool.{Bool, true, _&&_}
+use mathlib.Core.List.{List, [], _∷_, _++_}
+use Prim.Native.Nat.{ℕ, zero, suc}
+use lib.Dec.{T, ltb, lit<, lit≤}
+use lib.ListN.{replicate}
+use lib.Count.{ones}
+use Rattle.memory.specs.Size.{sizeAllowed, Allowed}
+use Rattle.memory.proofs.Bytes.{Bytes, bytes-nil, bytes-cons}
+use Rattle.memory.proofs.Power.{allowed}
+use Rattle.image.specs.Image.{imageOf}
+use Rattle.image.proofs.Exact.{image-bytes, fresh-range, fresh-wide}
+use Rattle.chip.specs.Cases.{_is_, put}
+use Rattle.chip.specs.Call.{attention, turn}
+use Rattle.calls.specs.Calls.{Areas, areasOf, packed, refusalOf, turnCall}
+use Rattle.traces.specs.Bytes.{called}
+use Rattle.traces.specs.Event.{Event, call, host, step}
+use Rattle.progress.specs.Machine.{run}
+use Rattle.closure.specs.Sound.{Sound}
+use Rattle.closure.proofs.Closed.{closed}
+use Rattle.closure.specs.Driven.{Lending}
+use Rattle.lists.specs.Unit.{machine}
+use Rattle.lists.specs.Done.{Calm, Done}
+use Rattle.lists.specs.Lent.{refusedAt, left, eventsOf, Shows, LentPremises}
+use Rattle.lists.proofs.Laws.{calm-laws}
+use Rattle.worked.proofs.Tests.{keptb, and-l, and-r}
+use Rattle.worked.proofs.Witness.{cold, before, starts, begun, three, is-started, frame, early, writes, late, middle, busy, trace, premises}
+use Rattle.lists.proofs.Bytes.{start-shows, lent-list-done}
+use Rattle.lists.proofs.Lift.{lendings, lifted, refused-anywhere}
+use Rattle.lists.proofs.Carry.{carries, Right, accepts, right-again, Rights, all-accepted}
+
+-- ---- bytes, by a test
+
+abbrev bytesb : List ℕ → Bool
+bytesb [] = true
+bytesb (b ∷ bs) = ltb b 256 && bytesb bs
+
+bytes-ok : (bs : List ℕ) → T (bytesb bs) → Bytes bs
+bytes-ok [] t = bytes-nil
+bytes-ok (b ∷ bs) t = bytes-cons b bs (lit< (and-l (ltb b 256) (bytesb bs) t)) (bytes-ok bs (and-r (ltb b 256) (bytesb bs) t))
+
+-- N
+smallest : Allowed 8192
+unfolding sizeAllowed ones
+smallest = allowed 8192 refl
+
+-- ---- the areas before the starting attention
+
+sound-cold : Sound cold
+unfolding keptb
+sound-cold =
+    record {
+      range = fresh-range;
+      wide = fresh-wide;
+      memory = bytes-ok (cold .memory) tt;
+      holding = bytes-ok (cold .holding) tt;
+      outgoing = bytes-ok (cold .outgoing) tt;
+    }
+
+abbrev pub first : Areas
+first = areasOf (before .memory) (before .holding) (before .outgoing) (imageOf (before .device))
+
+right-first : Right first (before .device)
+unfolding keptb
+right-first =
+    let s : Sound (step (call attention) cold) = closed attention cold tt sound-cold in
+    record {
+      bytes =
+          record {
+            memory = bytes-ok (before .memory) tt;
+            holding = bytes-ok (before .holding) tt;
+            outgoing = bytes-ok (before .outgoing) tt;
+            kept = image-bytes (before .device) (s .wide);
+          };
+      holds = record { wide = s .wide; range = s .range; image = refl };
+      size = smallest;
+      lengths = record { holding = refl; outgoing = refl };
+    }
+
+-- ---- the trace
+
+rights-append : (es fs : List Event) → Rights es → Rights fs → Rights (es ++ fs)
+rights-append [] fs x y = y
+rights-append (call c ∷ es) fs x y = (x .0, rights-append es fs (x .1) y)
+rights-append (host m h out ∷ es) fs x y = (x .0, rights-append es fs (x .1) y)
+
+rights-turns : (n r : ℕ) → Rights (replicate n (call (turn r)))
+rights-turns zero r = tt
+rights-turns (suc n) r = ((tt, lit≤ tt), rights-turns n r)
+
+right-writes : Rights (writes middle ∷ [])
+unfolding keptb
+right-writes = (
+  record {
+    bytes = bytes-ok (put (0xB0 is 0x5555 ∷ []) (middle .memory)) tt;
+    held = bytes-ok (replicate 2048 9) tt;
+    sent = bytes-ok (middle .outgoing) tt;
+    size = smallest;
+    lengths = (refl, refl);
+  },
+  tt,
+)
+
+rights : Rights trace
+rights =
+    rights-append busy (replicate 383 (call (turn 0)))
+    (rights-append early (writes middle ∷ late) ((bytes-ok (frame 1) tt, lit≤ tt), rights-turns 6 3)
+    (right-writes .0, ((bytes-ok (frame 2) tt, lit≤ tt), rights-turns 7 0)))
+    (rights-turns 383 0)
+
+-- ---- a call that is lent nothing at all is refused
+
+abbrev pub stray : Lending
+stray = record { made = turn 0; lent = areasOf [] [] [] [] }
+
+stray-refused : refusedAt stray ≡ true
+unfolding turnCall refusalOf packed sizeAllowed
+stray-refused = refl
+
+abbrev pub worked : List Lending
+worked = stray ∷ lendings carries trace (called attention first .areas)
+
+started-right : Right (called attention first .areas) (begun .device)
+started-right = right-again attention first (before .device) right-first tt (lit≤ tt)
+
+pub shows-begun : Shows carries (called attention first .areas) begun
+shows-begun =
+    start-shows carries first (before .device) (tt, right-first .bytes) (right-first .holds)
+    (accepts attention first (before .device) right-first (lit≤ tt))
+
+pub lent-premises : LentPremises carries Calm three worked (called attention first .areas) begun
+lent-premises =
+    refused-anywhere carries Calm three [] (lendings carries trace (called attention first .areas)) stray (called attention first .areas) begun
+    stray-refused
+    (lifted carries three trace (called attention first .areas) begun shows-begun
+    (all-accepted trace (called attention first .areas) (begun .device) started-right rights) premises)
+
+pub lent-done : Done Calm three (eventsOf worked) begun
+    × Shows carries (left worked (called attention first .areas)) (run (machine Calm) (eventsOf worked) begun)
+unfolding keptb
+lent-done =
+    lent-list-done carries Calm calm-laws three worked first (before .device) (tt, right-first .bytes) (right-first .holds)
+    (accepts attention first (before .device) right-first (lit≤ tt)) starts refl (is-started .listed) lent-premises
