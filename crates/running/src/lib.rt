@@ -1,22 +1,22 @@
 // A run of the replay program: characters are read, and at each line's end what was read is obeyed. docs/replay.md has the forms. A session
 // goes in and comes out, so a run in stretches is a run of the whole. It takes every session and slices of every length.
+use lines::Reader;
 use session::Session;
 ghost use Rattle.session.specs.Run.{Runs};
 ghost use Rattle.session.specs.Run as run;
 
-// A line's end: what has been read is obeyed, or its fault is printed.
-fn end_line(
+// A line that has been read to its end: it is obeyed, or its fault is printed.
+fn judge(
     s: Session,
+    reader: Reader,
     memory: &mut [u8],
     holding: &mut [u8],
     outgoing: &mut [u8],
-    bytes: &mut [u8],
+    bytes: &[u8],
     out: &mut [u8],
 ) -> Session
-    ensures { λ r. ⌜ Runs (run.lineEnded (run.stateOf s (now (memory .entry)) (now (holding .entry)) (now (outgoing .entry)) (now (bytes .entry)) (now (out .entry)))) r (now (memory .exit)) (now (holding .exit)) (now (outgoing .exit)) (now (bytes .exit)) (now (out .exit)) ⌝ }
+    ensures { λ r. ⌜ Runs (run.judged s reader (now (memory .entry)) (now (holding .entry)) (now (outgoing .entry)) (now (bytes .entry)) (now (out .entry))) r (now (memory .exit)) (now (holding .exit)) (now (outgoing .exit)) (now (bytes .entry)) (now (out .exit)) ⌝ }
 {
-    let r = s.reader;
-    let reader = lines::end(bytes, r);
     if lines::is_right(reader) {
         let line = reader.line;
         let verb = line.verb;
@@ -35,6 +35,22 @@ fn end_line(
         return session::next_line(s, p);
     }
     session::stop(s, reader, out)
+}
+
+// A line's end.
+fn end_line(
+    s: Session,
+    memory: &mut [u8],
+    holding: &mut [u8],
+    outgoing: &mut [u8],
+    bytes: &mut [u8],
+    out: &mut [u8],
+) -> Session
+    ensures { λ r. ⌜ Runs (run.lineEnded (run.stateOf s (now (memory .entry)) (now (holding .entry)) (now (outgoing .entry)) (now (bytes .entry)) (now (out .entry)))) r (now (memory .exit)) (now (holding .exit)) (now (outgoing .exit)) (now (bytes .exit)) (now (out .exit)) ⌝ }
+{
+    let r = s.reader;
+    let reader = lines::end(bytes, r);
+    judge(s, reader, memory, holding, outgoing, bytes, out)
 }
 
 // A character.

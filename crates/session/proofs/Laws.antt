@@ -64,22 +64,24 @@ choose b x y e = ap (λ (k : Bool). cond k x y) e
 refuse : {A : Type 0} (b : Bool) (x y : A) → b ≡ false → cond b x y ≡ y
 refuse b x y e = ap (λ (k : Bool). cond k x y) e
 
--- a line that was read to its end and judged: it was right and has been obeyed, or it was wrong and the session has stopped
-module _ (s : Session) (m h og out : List ℕ) (e : lines.Read) (r : Reader) (by : List ℕ) (t : Session) (m′ h′ og′ o′ : List ℕ) (right : Bool) (x : lines.Reads e r by) (is : right ≡ lines.isRight r) where
-  ended : Runs (judged s r m h og by out) t m′ h′ og′ by o′ → Runs (judged s (e .reader) m h og (e .bytes) out) t m′ h′ og′ by o′
-  ended z = subst (λ (k : lines.Read). Runs (judged s (k .reader) m h og (k .bytes) out) t m′ h′ og′ by o′) (read-is e r by x) z
-
-  pub ended-right : right ≡ true → Runs (lineObeyed s (r .line) m h og by out) t m′ h′ og′ by o′ → Runs (judged s (e .reader) m h og (e .bytes) out) t m′ h′ og′ by o′
+-- a line that was judged: it was right and has been obeyed, or it was wrong and the session has stopped
+module _ (s : Session) (r : Reader) (m h og by out : List ℕ) (t : Session) (m′ h′ og′ o′ : List ℕ) (right : Bool) (is : right ≡ lines.isRight r) where
+  pub judged-right : right ≡ true → Runs (lineObeyed s (r .line) m h og by out) t m′ h′ og′ by o′ → Runs (judged s r m h og by out) t m′ h′ og′ by o′
   unfolding judged
-  ended-right y z =
-      ended
-      (subst (λ (k : State). Runs k t m′ h′ og′ by o′) (sym (choose (lines.isRight r) (lineObeyed s (r .line) m h og by out) (stoppedBy s r m h og by out) (sym is ∙ y))) z)
+  judged-right y z =
+      subst (λ (k : State). Runs k t m′ h′ og′ by o′) (sym (choose (lines.isRight r) (lineObeyed s (r .line) m h og by out) (stoppedBy s r m h og by out) (sym is ∙ y))) z
 
-  pub ended-wrong : right ≡ false → Runs (stoppedBy s r m h og by out) t m′ h′ og′ by o′ → Runs (judged s (e .reader) m h og (e .bytes) out) t m′ h′ og′ by o′
+  pub judged-wrong : right ≡ false → Runs (stoppedBy s r m h og by out) t m′ h′ og′ by o′ → Runs (judged s r m h og by out) t m′ h′ og′ by o′
   unfolding judged
-  ended-wrong y z =
-      ended
-      (subst (λ (k : State). Runs k t m′ h′ og′ by o′) (sym (refuse (lines.isRight r) (lineObeyed s (r .line) m h og by out) (stoppedBy s r m h og by out) (sym is ∙ y))) z)
+  judged-wrong y z =
+      subst (λ (k : State). Runs k t m′ h′ og′ by o′) (sym (refuse (lines.isRight r) (lineObeyed s (r .line) m h og by out) (stoppedBy s r m h og by out) (sym is ∙ y))) z
+
+-- a line that was read to its end and judged
+pub ended : (s : Session) (m h og out : List ℕ) (e : lines.Read) (r : Reader) (by : List ℕ) (t : Session) (m′ h′ og′ o′ : List ℕ) → lines.Reads e r by
+    → Runs (judged s r m h og by out) t m′ h′ og′ by o′
+    → Runs (judged s (e .reader) m h og (e .bytes) out) t m′ h′ og′ by o′
+ended s m h og out e r by t m′ h′ og′ o′ x z =
+    subst (λ (k : lines.Read). Runs (judged s (k .reader) m h og (k .bytes) out) t m′ h′ og′ by o′) (read-is e r by x) z
 
 module _ (s : Session) (m h og by out : List ℕ) where
   abbrev before : State
