@@ -22,11 +22,11 @@ use Rattle.chip.specs.Arrival.{arrivalOf}
 use Rattle.chip.specs.Turn.{turnOf}
 use Rattle.calls.specs.Calls as exported
 use Rattle.calls.proofs.Laws.{no-image}
-use Rattle.front.specs.declared.Lent.{Lent}
-use Rattle.front.specs.Front.{areasWith, Fronted}
+use Rattle.board.specs.declared.Lent.{Lent}
+use Rattle.board.specs.Front.{areasWith, Fronted}
 use Rattle.board.specs.declared.Board.{Board}
 use Rattle.board.specs.declared.Said.{Said}
-use Rattle.board.specs.Board.{start, resized, isHigh, attention, arrive, turn, run, saidOf, lent, Left, leftAs, leftBy, onBoard, Leaves}
+use Rattle.board.specs.Board.{start, resized, isHigh, attention, arrive, turn, run, saidOf, lent, Left, leftAs, leftBy, onBoard, Leaves, Call, reset, exportedOf}
 
 -- ---- what is lent
 
@@ -50,7 +50,7 @@ drop-least (suc n) (x ∷ xs) =
     ap (λ (k : ℕ). drop k (x ∷ xs)) e ∙ drop-least n xs
 
 -- a call that was lent the first n bytes, n being N or the length of a shorter memory, has done what it does of the first N
-pub leaves : (x : exported.Areas → exported.Called) (b : Board) (n : ℕ) (m h out : List ℕ) (l : Lent) (s : Said) (m′ h′ out′ : List ℕ)
+leaves : (x : exported.Areas → exported.Called) (b : Board) (n : ℕ) (m h out : List ℕ) (l : Lent) (s : Said) (m′ h′ out′ : List ℕ)
     → n ≡ min (b .size) (length m)
     → Fronted (x (areasWith (b .kept) (take n m) h out)) (l .kept) (l .answer) m′ h′ out′
     → s ≡ saidOf b (l .kept) (l .answer)
@@ -66,6 +66,22 @@ leaves x b n m h out l s m′ h′ out′ e f g =
       holding = k .holding;
       outgoing = k .outgoing;
     }
+
+-- each call on a board is the exported one on what is lent of it
+each-call : (c : Call) (b : Board) (m h out : List ℕ) → leftBy b m (exportedOf c (lent b m h out)) ≡ onBoard c b m h out
+unfolding onBoard exportedOf
+each-call reset b m h out = ap (λ (ys : List ℕ). leftAs (saidOf b (record { bytes = exported.resetCall (b .kept .bytes) .kept }) (exported.resetCall (b .kept .bytes) .answer)) ys h out) (take-append-drop (b .size) m)
+each-call attention b m h out = refl
+each-call (arrive f v) b m h out = refl
+each-call (turn report) b m h out = refl
+each-call (run report budget) b m h out = refl
+
+pub leaves-call : (c : Call) (b : Board) (n : ℕ) (m h out : List ℕ) (l : Lent) (s : Said) (m′ h′ out′ : List ℕ) → n ≡ min (b .size) (length m)
+    → Fronted (exportedOf c (areasWith (b .kept) (take n m) h out)) (l .kept) (l .answer) m′ h′ out′
+    → s ≡ saidOf b (l .kept) (l .answer)
+    → Leaves (onBoard c b m h out) s (m′ ++ drop n m) h′ out′
+leaves-call c b n m h out l s m′ h′ out′ e f g =
+    subst (λ (x : Left). Leaves x s (m′ ++ drop n m) h′ out′) (each-call c b m h out) (leaves (exportedOf c) b n m h out l s m′ h′ out′ e f g)
 
 -- ---- what is shown
 

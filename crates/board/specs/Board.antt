@@ -7,10 +7,13 @@ use lib.Dec.{eqb}
 use lib.ListN.{getD, take, drop, replicate}
 use Rattle.device.specs.Limits.{recordSize}
 use Rattle.calls.specs.Calls as exported
-use Rattle.front.specs.declared.Record.{Record}
-use Rattle.front.specs.Front.{areasWith}
+use Rattle.board.specs.declared.Record.{Record}
+use Rattle.board.specs.Front.{areasWith}
 use Rattle.board.specs.declared.Board.{Board}
 use Rattle.board.specs.declared.Said.{Said}
+use Rattle.board.specs.declared.Which.{Which}
+use Rattle.board.specs.declared.Which.the-variants as which
+use Rattle.board.specs.declared.Asked.{Asked}
 
 -- ---- the board
 
@@ -35,6 +38,17 @@ pub data Call : Type 0 where
   arrive : List ℕ → ℕ → Call
   turn : ℕ → Call
   run : (report budget : ℕ) → Call
+
+-- the call that is asked for, with what belongs to it; f: the frame
+abbrev pub callBy : Which → List ℕ → ℕ → ℕ → ℕ → Call
+callBy which.Reset f verdict report budget = reset
+callBy which.Attention f verdict report budget = attention
+callBy which.Arrival f verdict report budget = arrive f verdict
+callBy which.Turn f verdict report budget = turn report
+callBy which.Run f verdict report budget = run report budget
+
+unfoldable pub callOf : Asked → List ℕ → Call
+callOf a f = callBy (a .which) f (a .verdict) (a .report) (a .budget)
 
 -- ---- what a call leaves
 
@@ -71,6 +85,14 @@ onBoard attention b m h out = leftBy b m (exported.attentionCall (lent b m h out
 onBoard (arrive f v) b m h out = leftBy b m (exported.arrivalCall (lent b m h out) f v)
 onBoard (turn report) b m h out = leftBy b m (exported.turnCall (lent b m h out) report)
 onBoard (run report budget) b m h out = leftBy b m (exported.runCall (lent b m h out) report budget)
+
+-- a call as a function of what is lent: reset leaves the areas alone
+unfoldable pub exportedOf : Call → exported.Areas → exported.Called
+exportedOf reset a = record { answer = exported.resetCall (a .kept) .answer; areas = exported.areasOf (a .memory) (a .holding) (a .outgoing) (exported.resetCall (a .kept) .kept) }
+exportedOf attention a = exported.attentionCall a
+exportedOf (arrive f v) a = exported.arrivalCall a f v
+exportedOf (turn report) a = exported.turnCall a report
+exportedOf (run report budget) a = exported.runCall a report budget
 
 -- what the code does
 pub record Leaves (left : Left) (s : Said) (m h out : List ℕ) : Type 0 where

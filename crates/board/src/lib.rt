@@ -1,11 +1,19 @@
-// The calls as the replay program makes them: one device record that is held for the whole run, lent to the front for each call. Memory,
-// holding and outgoing area are lent whole; the first N bytes of memory go on. Every call takes every board and slices of every length.
-use front::Lent;
-use front::Record;
+// The board of the replay program: one device record that is held for the whole run, and N. What a call on it leaves is said here, by the
+// exported calls' definitions, and needs none of their code; the room `calling` makes the calls. Every function takes every board.
 ghost use mathlib.Core.Path.{_≡_};
 ghost use Prim.Native.Nat.{min};
-ghost use Rattle.calls.specs.Calls as exported;
 ghost use Rattle.board.specs.Board as board;
+
+// The device record.
+pub struct Record {
+    pub bytes: [u8; 256],
+}
+
+// What a call through the front leaves: the record, and its answer as one number.
+pub struct Lent {
+    pub kept: Record,
+    pub answer: u64,
+}
 
 // The device record; N.
 pub struct Board {
@@ -17,6 +25,25 @@ pub struct Board {
 pub struct Said {
     pub board: Board,
     pub answer: u64,
+}
+
+// The calls.
+pub enum Which {
+    Reset,
+    Attention,
+    Arrival,
+    Turn,
+    Run,
+}
+
+// The call that a line makes, how often it makes it, and the numbers that go with it: an arrival's verdict, the report of a turn or a run,
+// a run's budget.
+pub struct Asked {
+    pub which: Which,
+    pub times: u16,
+    pub verdict: u32,
+    pub report: u16,
+    pub budget: u16,
 }
 
 // ---- the board
@@ -47,10 +74,10 @@ pub fn interrupt(b: Board) -> bool
     bytes[5] != 0
 }
 
-// ---- the calls
+// ---- a call
 
 // How many bytes of memory are lent: N, or all of a shorter one.
-fn lent_length(size: usize, most: usize) -> usize
+pub fn lent_length(size: usize, most: usize) -> usize
     ensures { λ r. ⌜ r ≡ min size most ⌝ }
 {
     if size < most {
@@ -60,7 +87,7 @@ fn lent_length(size: usize, most: usize) -> usize
 }
 
 // What a call leaves of the board, and its answer.
-fn answering(b: Board, l: Lent) -> Said
+pub fn answering(b: Board, l: Lent) -> Said
     ensures { λ r. ⌜ r ≡ board.saidOf b (l .kept) (l .answer) ⌝ }
 {
     let kept = l.kept;
@@ -68,73 +95,4 @@ fn answering(b: Board, l: Lent) -> Said
         board: Board { kept, ..b },
         answer: l.answer,
     }
-}
-
-// Reset takes the record alone.
-pub fn reset(b: Board) -> Said
-    ensures { λ r. ⌜ r ≡ board.renewedOn b (exported.resetCall (b .kept .bytes)) ⌝ }
-{
-    let kept = b.kept;
-    let l = front::reset(kept);
-    answering(b, l)
-}
-
-// A channel attention.
-pub fn attend(b: Board, memory: &mut [u8], holding: &mut [u8], outgoing: &mut [u8]) -> Said
-    ensures { λ r. ⌜ board.Leaves (board.onBoard board.attention b (now (memory .entry)) (now (holding .entry)) (now (outgoing .entry))) r (now (memory .exit)) (now (holding .exit)) (now (outgoing .exit)) ⌝ }
-{
-    let n = lent_length(b.size, memory.len());
-    let kept = b.kept;
-    let l = front::attend_through(kept, &mut memory[..n], holding, outgoing);
-    answering(b, l)
-}
-
-// A frame arrives, with the line side's verdict.
-pub fn receive(
-    b: Board,
-    memory: &mut [u8],
-    holding: &mut [u8],
-    outgoing: &mut [u8],
-    frame: &[u8],
-    verdict: u32,
-) -> Said
-    ensures { λ r. ⌜ board.Leaves (board.onBoard (board.arrive (now (frame .entry)) verdict) b (now (memory .entry)) (now (holding .entry)) (now (outgoing .entry))) r (now (memory .exit)) (now (holding .exit)) (now (outgoing .exit)) ⌝ }
-{
-    let n = lent_length(b.size, memory.len());
-    let kept = b.kept;
-    let l = front::receive_through(kept, &mut memory[..n], holding, outgoing, frame, verdict);
-    answering(b, l)
-}
-
-// A turn, with the line report.
-pub fn turn(
-    b: Board,
-    memory: &mut [u8],
-    holding: &mut [u8],
-    outgoing: &mut [u8],
-    report: u16,
-) -> Said
-    ensures { λ r. ⌜ board.Leaves (board.onBoard (board.turn report) b (now (memory .entry)) (now (holding .entry)) (now (outgoing .entry))) r (now (memory .exit)) (now (holding .exit)) (now (outgoing .exit)) ⌝ }
-{
-    let n = lent_length(b.size, memory.len());
-    let kept = b.kept;
-    let l = front::turn_through(kept, &mut memory[..n], holding, outgoing, report);
-    answering(b, l)
-}
-
-// A run of turns, each with the same line report.
-pub fn run(
-    b: Board,
-    memory: &mut [u8],
-    holding: &mut [u8],
-    outgoing: &mut [u8],
-    report: u16,
-    budget: u16,
-) -> Said
-    ensures { λ r. ⌜ board.Leaves (board.onBoard (board.run report budget) b (now (memory .entry)) (now (holding .entry)) (now (outgoing .entry))) r (now (memory .exit)) (now (holding .exit)) (now (outgoing .exit)) ⌝ }
-{
-    let n = lent_length(b.size, memory.len());
-    let kept = b.kept;
-    let l = front::run_through(kept, &mut memory[..n], holding, outgoing, report, budget);
-    answering(b, l)
 }

@@ -1,19 +1,10 @@
 // The thin front: attention, arrival, turn and run on one device record that is lent and changed in place. Each makes the call that C makes,
 // on the record by value, and stores the record that it gives. A program holds its record by value, and calls the lenders, which lend it for
 // one call and give it back.
+use board::Lent;
+use board::Record;
 ghost use Rattle.calls.specs.Calls as calls;
-ghost use Rattle.front.specs.Front as front;
-
-// The device record.
-pub struct Record {
-    pub bytes: [u8; 256],
-}
-
-// What a call leaves: the record, and its answer as one number.
-pub struct Lent {
-    pub kept: Record,
-    pub answer: u64,
-}
+ghost use Rattle.board.specs.Front as front;
 
 // ---- the calls of C, on a record by value
 

@@ -8,7 +8,10 @@ use lib.ListN.{length}
 use lib.Seq.{sets}
 use Rattle.device.specs.Limits.{recordSize}
 use Rattle.board.specs.declared.Board.{Board}
-use Rattle.board.specs.Board.{Call, reset, attention, arrive, turn, run, Left, onBoard, resized, isHigh}
+use Rattle.board.specs.declared.Which.{Which}
+use Rattle.board.specs.declared.Which.the-variants as which
+use Rattle.board.specs.declared.Asked.{Asked}
+use Rattle.board.specs.Board.{Call, reset, attention, arrive, turn, run, callOf, Left, onBoard, resized, isHigh}
 use Rattle.wording.specs.declared.Area.{Area}
 use Rattle.wording.specs.declared.Area.the-variants as area
 use Rattle.wording.specs.declared.Line.{Line}
@@ -16,6 +19,10 @@ use Rattle.wording.specs.declared.Verb.{Verb}
 use Rattle.wording.specs.declared.Verb.the-variants as verb
 use Rattle.texts.specs.Texts.{answerText, interruptText, showText, lookText}
 use Rattle.scene.specs.declared.Play.{Play}
+use Rattle.scene.specs.declared.Part.{Part}
+use Rattle.scene.specs.declared.Part.the-variants as part
+use Rattle.scene.specs.declared.Deed.{Deed}
+use Rattle.scene.specs.declared.Deed.the-variants as deed
 
 -- ---- the scene
 
@@ -142,71 +149,40 @@ obeyed verb.Interrupt l own s = printed (interruptText (isHigh (s .play .board))
 obeyed verb.Record l own s = printed (recordText (s .play .board)) s
 obeyed verb.Say l own s = printed (sayText own) s
 
--- ---- how the code parts the verbs: calls, host writes, sizes, and what is only printed
+-- ---- how the code parts the verbs: calls, and what is the host's alone: sizes, host writes, and what is only printed
 
-abbrev pub isCall : Verb → Bool
-isCall verb.Nothing = false
-isCall verb.Size = false
-isCall verb.Reset = true
-isCall verb.Attention = true
-isCall verb.Arrival = true
-isCall verb.Turn = true
-isCall verb.Run = true
-isCall verb.Bytes = false
-isCall verb.Words = false
-isCall verb.Show = false
-isCall verb.Look = false
-isCall verb.Interrupt = false
-isCall verb.Record = false
-isCall verb.Say = false
+-- how often a line makes its call
+abbrev pub timesBy : Which → Line → ℕ
+timesBy which.Reset l = 1
+timesBy which.Attention l = 1
+timesBy which.Arrival l = 1
+timesBy which.Turn l = turnCount l
+timesBy which.Run l = 1
 
-abbrev pub isWrite : Verb → Bool
-isWrite verb.Nothing = false
-isWrite verb.Size = false
-isWrite verb.Reset = false
-isWrite verb.Attention = false
-isWrite verb.Arrival = false
-isWrite verb.Turn = false
-isWrite verb.Run = false
-isWrite verb.Bytes = true
-isWrite verb.Words = true
-isWrite verb.Show = false
-isWrite verb.Look = false
-isWrite verb.Interrupt = false
-isWrite verb.Record = false
-isWrite verb.Say = false
+abbrev pub askedOf : Which → Line → Asked
+askedOf w l =
+    record { which = w; times = timesBy w l; verdict = l .first % many; report = l .second % 65536; budget = turnCount l }
 
-abbrev pub isSize : Verb → Bool
-isSize verb.Nothing = false
-isSize verb.Size = true
-isSize verb.Reset = false
-isSize verb.Attention = false
-isSize verb.Arrival = false
-isSize verb.Turn = false
-isSize verb.Run = false
-isSize verb.Bytes = false
-isSize verb.Words = false
-isSize verb.Show = false
-isSize verb.Look = false
-isSize verb.Interrupt = false
-isSize verb.Record = false
-isSize verb.Say = false
+abbrev pub deedOf : Verb → Deed
+deedOf verb.Nothing = deed.Host part.Print
+deedOf verb.Size = deed.Host part.Size
+deedOf verb.Reset = deed.Call which.Reset
+deedOf verb.Attention = deed.Call which.Attention
+deedOf verb.Arrival = deed.Call which.Arrival
+deedOf verb.Turn = deed.Call which.Turn
+deedOf verb.Run = deed.Call which.Run
+deedOf verb.Bytes = deed.Host part.Write
+deedOf verb.Words = deed.Host part.Write
+deedOf verb.Show = deed.Host part.Print
+deedOf verb.Look = deed.Host part.Print
+deedOf verb.Interrupt = deed.Host part.Print
+deedOf verb.Record = deed.Host part.Print
+deedOf verb.Say = deed.Host part.Print
 
-unfoldable pub callBy : Verb → List ℕ → ℕ → ℕ → ℕ → Scene → Scene
-callBy verb.Nothing own verdict count report s = s
-callBy verb.Size own verdict count report s = s
-callBy verb.Reset own verdict count report s = called reset s
-callBy verb.Attention own verdict count report s = called attention s
-callBy verb.Arrival own verdict count report s = called (arrive own verdict) s
-callBy verb.Turn own verdict count report s = turnsOf count report s
-callBy verb.Run own verdict count report s = called (run report count) s
-callBy verb.Bytes own verdict count report s = s
-callBy verb.Words own verdict count report s = s
-callBy verb.Show own verdict count report s = s
-callBy verb.Look own verdict count report s = s
-callBy verb.Interrupt own verdict count report s = s
-callBy verb.Record own verdict count report s = s
-callBy verb.Say own verdict count report s = s
+-- a call so often, an answer each
+unfoldable pub callsOf : ℕ → Call → Scene → Scene
+callsOf zero c s = s
+callsOf (suc n) c s = called c (callsOf n c s)
 
 unfoldable pub textBy : Verb → Area → Board → List ℕ → List ℕ → List ℕ → List ℕ → ℕ → ℕ → List ℕ
 textBy verb.Nothing a b m h og own place count = []
@@ -223,3 +199,12 @@ textBy verb.Look a b m h og own place count = looked a m h og place count
 textBy verb.Interrupt a b m h og own place count = interruptText (isHigh b)
 textBy verb.Record a b m h og own place count = recordText b
 textBy verb.Say a b m h og own place count = sayText own
+
+unfoldable pub hostBy : Part → Verb → Line → List ℕ → Scene → Scene
+hostBy part.Size v l own s = sceneOf (playOf (resized (s .play .board) (l .first)) (s .play .at)) (s .memory) (s .holding) (s .outgoing) (s .out)
+hostBy part.Write v l own s = wrote l own s
+hostBy part.Print v l own s = printed (textBy v (l .area) (s .play .board) (s .memory) (s .holding) (s .outgoing) own (l .first % many) (l .second % many)) s
+
+abbrev pub doneBy : Deed → Verb → Line → List ℕ → Scene → Scene
+doneBy (deed.Call w) v l own s = callsOf (timesBy w l) (callOf (askedOf w l) own) s
+doneBy (deed.Host p) v l own s = hostBy p v l own s

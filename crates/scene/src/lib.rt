@@ -1,7 +1,10 @@
-// What one line does: calls, host writes, what is shown and said; and the texts that it prints are put into a slice. docs/replay.md has the
-// forms. It takes every line, every board and slices of every length.
+// What one line does: which call it makes and how often, what the host writes, what is shown and said; and the texts that it prints are put
+// into a slice. docs/replay.md has the forms. The calls themselves are made in the room `calling`. It takes every line, every board and slices
+// of every length.
+use board::Asked;
 use board::Board;
 use board::Said;
+use board::Which;
 use wording::Area;
 use wording::Line;
 use wording::Verb;
@@ -19,6 +22,19 @@ pub struct Play {
     pub at: usize,
 }
 
+// What a line is for that makes no call: another size of memory, a host write, or what it prints, which may be nothing.
+pub enum Part {
+    Size,
+    Write,
+    Print,
+}
+
+// A line makes a call, or it is the host's alone.
+pub enum Deed {
+    Call(Which),
+    Host(Part),
+}
+
 pub fn play_of(board: Board, at: usize) -> Play
     ensures { λ r. ⌜ r ≡ scene.playOf board at ⌝ }
 {
@@ -26,103 +42,13 @@ pub fn play_of(board: Board, at: usize) -> Play
 }
 
 // A call's answer is printed.
-fn tell(s: Said, out: &mut [u8], at: usize) -> Play
+pub fn tell(s: Said, out: &mut [u8], at: usize) -> Play
     ensures { λ r. ⌜ ((m h og : List ℕ) → Plays (scene.tellBy at (now (out .entry)) (board.leftAs s m h og)) r m h og (now (out .exit))) ⌝ }
 {
     let board = s.board;
     let answer = s.answer;
     let next = texts::put_answer(out, at, answer);
     play_of(board, next)
-}
-
-fn reset(p: Play, out: &mut [u8]) -> Play
-    ensures { λ r. ⌜ ((m h og : List ℕ) → Plays (scene.called board.reset (scene.sceneOf p m h og (now (out .entry)))) r m h og (now (out .exit))) ⌝ }
-{
-    let b = p.board;
-    tell(board::reset(b), out, p.at)
-}
-
-fn attend(
-    p: Play,
-    memory: &mut [u8],
-    holding: &mut [u8],
-    outgoing: &mut [u8],
-    out: &mut [u8],
-) -> Play
-    ensures { λ r. ⌜ Plays (scene.called board.attention (scene.sceneOf p (now (memory .entry)) (now (holding .entry)) (now (outgoing .entry)) (now (out .entry)))) r (now (memory .exit)) (now (holding .exit)) (now (outgoing .exit)) (now (out .exit)) ⌝ }
-{
-    let b = p.board;
-    let s = board::attend(b, memory, holding, outgoing);
-    tell(s, out, p.at)
-}
-
-fn receive(
-    p: Play,
-    memory: &mut [u8],
-    holding: &mut [u8],
-    outgoing: &mut [u8],
-    frame: &[u8],
-    verdict: u32,
-    out: &mut [u8],
-) -> Play
-    ensures { λ r. ⌜ Plays (scene.called (board.arrive (now (frame .entry)) verdict) (scene.sceneOf p (now (memory .entry)) (now (holding .entry)) (now (outgoing .entry)) (now (out .entry)))) r (now (memory .exit)) (now (holding .exit)) (now (outgoing .exit)) (now (out .exit)) ⌝ }
-{
-    let b = p.board;
-    let s = board::receive(b, memory, holding, outgoing, frame, verdict);
-    tell(s, out, p.at)
-}
-
-fn turn(
-    p: Play,
-    memory: &mut [u8],
-    holding: &mut [u8],
-    outgoing: &mut [u8],
-    report: u16,
-    out: &mut [u8],
-) -> Play
-    ensures { λ r. ⌜ Plays (scene.called (board.turn report) (scene.sceneOf p (now (memory .entry)) (now (holding .entry)) (now (outgoing .entry)) (now (out .entry)))) r (now (memory .exit)) (now (holding .exit)) (now (outgoing .exit)) (now (out .exit)) ⌝ }
-{
-    let b = p.board;
-    let s = board::turn(b, memory, holding, outgoing, report);
-    tell(s, out, p.at)
-}
-
-// So many turns, each with the same report.
-fn turns(
-    p: Play,
-    memory: &mut [u8],
-    holding: &mut [u8],
-    outgoing: &mut [u8],
-    count: u16,
-    report: u16,
-    out: &mut [u8],
-) -> Play
-    ensures { λ r. ⌜ Plays (scene.turnsOf count report (scene.sceneOf p (now (memory .entry)) (now (holding .entry)) (now (outgoing .entry)) (now (out .entry)))) r (now (memory .exit)) (now (holding .exit)) (now (outgoing .exit)) (now (out .exit)) ⌝ }
-{
-    let mut q = p;
-    let mut i: u16 = 0;
-    while i < count {
-        q = turn(q, memory, holding, outgoing, report, out);
-        i += 1;
-    }
-    q
-}
-
-// A run of turns, each with the same report.
-fn run(
-    p: Play,
-    memory: &mut [u8],
-    holding: &mut [u8],
-    outgoing: &mut [u8],
-    budget: u16,
-    report: u16,
-    out: &mut [u8],
-) -> Play
-    ensures { λ r. ⌜ Plays (scene.called (board.run report budget) (scene.sceneOf p (now (memory .entry)) (now (holding .entry)) (now (outgoing .entry)) (now (out .entry)))) r (now (memory .exit)) (now (holding .exit)) (now (outgoing .exit)) (now (out .exit)) ⌝ }
-{
-    let b = p.board;
-    let s = board::run(b, memory, holding, outgoing, report, budget);
-    tell(s, out, p.at)
 }
 
 // How many turns a line asks for, each for itself or as a run: one, if it does not say.
@@ -206,102 +132,53 @@ fn say(own: &[u8], out: &mut [u8], at: usize) -> usize
     texts::put_byte(out, next, 10)
 }
 
-// Whether a line makes a call.
-fn is_call(verb: Verb) -> bool
-    ensures { λ r. ⌜ r ≡ scene.isCall verb ⌝ }
+// How often a line makes its call: once, or so many turns.
+fn times(which: Which, line: Line) -> u16
+    ensures { λ r. ⌜ r ≡ scene.timesBy which line ⌝ }
 {
-    match verb {
-        Verb::Nothing => false,
-        Verb::Size => false,
-        Verb::Reset => true,
-        Verb::Attention => true,
-        Verb::Arrival => true,
-        Verb::Turn => true,
-        Verb::Run => true,
-        Verb::Bytes => false,
-        Verb::Words => false,
-        Verb::Show => false,
-        Verb::Look => false,
-        Verb::Interrupt => false,
-        Verb::Record => false,
-        Verb::Say => false,
+    match which {
+        Which::Reset => 1,
+        Which::Attention => 1,
+        Which::Arrival => 1,
+        Which::Turn => turn_count(line),
+        Which::Run => 1,
     }
 }
 
-// Whether the host writes.
-fn is_write(verb: Verb) -> bool
-    ensures { λ r. ⌜ r ≡ scene.isWrite verb ⌝ }
+// The call that a line makes, with the numbers that the line has for it.
+pub fn asked(which: Which, line: Line) -> Asked
+    ensures { λ r. ⌜ r ≡ scene.askedOf which line ⌝ }
 {
-    match verb {
-        Verb::Nothing => false,
-        Verb::Size => false,
-        Verb::Reset => false,
-        Verb::Attention => false,
-        Verb::Arrival => false,
-        Verb::Turn => false,
-        Verb::Run => false,
-        Verb::Bytes => true,
-        Verb::Words => true,
-        Verb::Show => false,
-        Verb::Look => false,
-        Verb::Interrupt => false,
-        Verb::Record => false,
-        Verb::Say => false,
+    let often = times(which, line);
+    let budget = turn_count(line);
+    Asked {
+        which,
+        times: often,
+        verdict: (line.first % 4294967296) as u32,
+        report: (line.second % 65536) as u16,
+        budget,
     }
 }
 
-// Whether memory gets another size.
-fn is_size(verb: Verb) -> bool
-    ensures { λ r. ⌜ r ≡ scene.isSize verb ⌝ }
+// What a line is for.
+pub fn deed_of(verb: Verb) -> Deed
+    ensures { λ r. ⌜ r ≡ scene.deedOf verb ⌝ }
 {
     match verb {
-        Verb::Nothing => false,
-        Verb::Size => true,
-        Verb::Reset => false,
-        Verb::Attention => false,
-        Verb::Arrival => false,
-        Verb::Turn => false,
-        Verb::Run => false,
-        Verb::Bytes => false,
-        Verb::Words => false,
-        Verb::Show => false,
-        Verb::Look => false,
-        Verb::Interrupt => false,
-        Verb::Record => false,
-        Verb::Say => false,
-    }
-}
-
-// A line that makes a call: reset, attention, arrival, turns or a run of them.
-fn call(
-    verb: Verb,
-    p: Play,
-    memory: &mut [u8],
-    holding: &mut [u8],
-    outgoing: &mut [u8],
-    own: &[u8],
-    verdict: u32,
-    count: u16,
-    report: u16,
-    out: &mut [u8],
-) -> Play
-    ensures { λ r. ⌜ Plays (scene.callBy verb (now (own .entry)) verdict count report (scene.sceneOf p (now (memory .entry)) (now (holding .entry)) (now (outgoing .entry)) (now (out .entry)))) r (now (memory .exit)) (now (holding .exit)) (now (outgoing .exit)) (now (out .exit)) ⌝ }
-{
-    match verb {
-        Verb::Nothing => p,
-        Verb::Size => p,
-        Verb::Reset => reset(p, out),
-        Verb::Attention => attend(p, memory, holding, outgoing, out),
-        Verb::Arrival => receive(p, memory, holding, outgoing, own, verdict, out),
-        Verb::Turn => turns(p, memory, holding, outgoing, count, report, out),
-        Verb::Run => run(p, memory, holding, outgoing, count, report, out),
-        Verb::Bytes => p,
-        Verb::Words => p,
-        Verb::Show => p,
-        Verb::Look => p,
-        Verb::Interrupt => p,
-        Verb::Record => p,
-        Verb::Say => p,
+        Verb::Nothing => Deed::Host(Part::Print),
+        Verb::Size => Deed::Host(Part::Size),
+        Verb::Reset => Deed::Call(Which::Reset),
+        Verb::Attention => Deed::Call(Which::Attention),
+        Verb::Arrival => Deed::Call(Which::Arrival),
+        Verb::Turn => Deed::Call(Which::Turn),
+        Verb::Run => Deed::Call(Which::Run),
+        Verb::Bytes => Deed::Host(Part::Write),
+        Verb::Words => Deed::Host(Part::Write),
+        Verb::Show => Deed::Host(Part::Print),
+        Verb::Look => Deed::Host(Part::Print),
+        Verb::Interrupt => Deed::Host(Part::Print),
+        Verb::Record => Deed::Host(Part::Print),
+        Verb::Say => Deed::Host(Part::Print),
     }
 }
 
@@ -339,8 +216,9 @@ fn print(
     }
 }
 
-// A line that is right is obeyed; own: the bytes or the text that it brought.
-pub fn obey(
+// A line that makes no call; own: the bytes or the text that it brought.
+pub fn host(
+    part: Part,
     verb: Verb,
     line: Line,
     p: Play,
@@ -350,43 +228,31 @@ pub fn obey(
     own: &[u8],
     out: &mut [u8],
 ) -> Play
-    ensures { λ r. ⌜ Plays (scene.obeyed verb line (now (own .entry)) (scene.sceneOf p (now (memory .entry)) (now (holding .entry)) (now (outgoing .entry)) (now (out .entry)))) r (now (memory .exit)) (now (holding .exit)) (now (outgoing .exit)) (now (out .exit)) ⌝ }
+    ensures { λ r. ⌜ Plays (scene.hostBy part verb line (now (own .entry)) (scene.sceneOf p (now (memory .entry)) (now (holding .entry)) (now (outgoing .entry)) (now (out .entry)))) r (now (memory .exit)) (now (holding .exit)) (now (outgoing .exit)) (now (out .exit)) ⌝ }
 {
-    if is_call(verb) {
-        return call(
-            verb,
-            p,
-            memory,
-            holding,
-            outgoing,
-            own,
-            (line.first % 4294967296) as u32,
-            turn_count(line),
-            (line.second % 65536) as u16,
-            out,
-        );
-    }
     let area = line.area;
-    if is_write(verb) {
-        write(area, memory, holding, outgoing, line.first as usize, own);
-        return p;
-    }
     let b = p.board;
-    if is_size(verb) {
-        return play_of(board::resized(b, line.first as usize), p.at);
+    match part {
+        Part::Size => play_of(board::resized(b, line.first as usize), p.at),
+        Part::Write => {
+            write(area, memory, holding, outgoing, line.first as usize, own);
+            p
+        }
+        Part::Print => {
+            let next = print(
+                verb,
+                area,
+                b,
+                memory,
+                holding,
+                outgoing,
+                own,
+                (line.first % 4294967296) as u32,
+                (line.second % 4294967296) as u32,
+                out,
+                p.at,
+            );
+            play_of(b, next)
+        }
     }
-    let next = print(
-        verb,
-        area,
-        b,
-        memory,
-        holding,
-        outgoing,
-        own,
-        (line.first % 4294967296) as u32,
-        (line.second % 4294967296) as u32,
-        out,
-        p.at,
-    );
-    play_of(b, next)
 }

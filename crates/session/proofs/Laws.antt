@@ -2,18 +2,19 @@
 use mathlib.Core.Path.{_≡_, refl, sym, ap, subst, _∙_}
 use mathlib.Core.Bool.{Bool, true, false, cond}
 use mathlib.Core.List.{List, [], _∷_, _++_}
-use Prim.Native.Nat.{ℕ, zero, suc, _+_, _<_}
+use Prim.Native.Nat.{ℕ, zero, suc, _+_, _<_, min}
 use native.Mathlib.Omega.{arith}
 use borrow.Author.Tests.{eq-eqb, ne-eqb}
 use lib.Dec.{eqb}
 use lib.ListN.{length, take, getD}
+use Rattle.board.proofs.Laws.{take-least}
 use Rattle.wording.specs.declared.Line.{Line}
 use Rattle.lines.specs.declared.Reader.{Reader}
 use Rattle.lines.specs.Reader as lines
 use Rattle.scene.specs.declared.Play.{Play}
 use Rattle.scene.specs.Scene.{Scene, playOf, sceneOf, Plays, obeyed}
 use Rattle.session.specs.declared.Session.{Session}
-use Rattle.session.specs.Run.{State, stateOf, Runs, withReader, nextLine, lineObeyed, judged, lineEnded, readBy, fed, ran}
+use Rattle.session.specs.Run.{State, stateOf, Runs, withReader, nextLine, stoppedBy, lineObeyed, judged, lineEnded, readBy, fed, ran}
 
 -- ---- what was left is what is said
 
@@ -30,26 +31,26 @@ state-is t s m h og by o e =
 
 -- ---- a right line
 
--- a line that was obeyed
-pub line-done : (s : Session) (l : Line) (m h og by out own : List ℕ) (p : Play) (q : Play) (m′ h′ og′ o′ : List ℕ) (r : Session)
-    → own ≡ take (l .filled) by
+-- a line that was obeyed, with as many bytes as it has brought of those that are there
+pub line-done : (s : Session) (l : Line) (m h og by out : List ℕ) (n : ℕ) (p q : Play) (m′ h′ og′ o′ : List ℕ) (r : Session)
+    → n ≡ min (l .filled) (length by)
     → p ≡ playOf (s .board) (s .at)
-    → Plays (obeyed (l .verb) l own (sceneOf p m h og out)) q m′ h′ og′ o′
+    → Plays (obeyed (l .verb) l (take n by) (sceneOf p m h og out)) q m′ h′ og′ o′
     → r ≡ nextLine s q
     → Runs (lineObeyed s l m h og by out) r m′ h′ og′ by o′
 unfolding lineObeyed
-line-done s l m h og by out own p q m′ h′ og′ o′ r a b e n =
-    let k : obeyed (l .verb) l own (sceneOf p m h og out) ≡ obeyed (l .verb) l (take (l .filled) by) (sceneOf (playOf (s .board) (s .at)) m h og out) =
-    ap (λ (ys : List ℕ). obeyed (l .verb) l ys (sceneOf p m h og out)) a
+line-done s l m h og by out n p q m′ h′ og′ o′ r a b e f =
+    let k : obeyed (l .verb) l (take n by) (sceneOf p m h og out) ≡ obeyed (l .verb) l (take (l .filled) by) (sceneOf (playOf (s .board) (s .at)) m h og out) =
+    ap (λ (ys : List ℕ). obeyed (l .verb) l ys (sceneOf p m h og out)) (ap (λ (j : ℕ). take j by) a ∙ take-least (l .filled) by)
     ∙ ap (λ (x : Play). obeyed (l .verb) l (take (l .filled) by) (sceneOf x m h og out)) b in
-    let f = subst (λ (x : Scene). Plays x q m′ h′ og′ o′) k e in
+    let g = subst (λ (x : Scene). Plays x q m′ h′ og′ o′) k e in
     record {
-      session = n ∙ ap (nextLine s) (f .play);
-      memory = f .memory;
-      holding = f .holding;
-      outgoing = f .outgoing;
+      session = f ∙ ap (nextLine s) (g .play);
+      memory = g .memory;
+      holding = g .holding;
+      outgoing = g .outgoing;
       bytes = refl;
-      out = f .out;
+      out = g .out;
     }
 
 -- ---- a character
@@ -62,6 +63,18 @@ choose b x y e = ap (λ (k : Bool). cond k x y) e
 
 refuse : {A : Type 0} (b : Bool) (x y : A) → b ≡ false → cond b x y ≡ y
 refuse b x y e = ap (λ (k : Bool). cond k x y) e
+
+-- a line that was judged: it was right and has been obeyed, or it was wrong and the session has stopped
+module _ (s : Session) (r : Reader) (m h og by out : List ℕ) (t : Session) (m′ h′ og′ o′ : List ℕ) (right : Bool) (is : right ≡ lines.isRight r) where
+  pub judged-right : right ≡ true → Runs (lineObeyed s (r .line) m h og by out) t m′ h′ og′ by o′ → Runs (judged s r m h og by out) t m′ h′ og′ by o′
+  unfolding judged
+  judged-right y z =
+      subst (λ (k : State). Runs k t m′ h′ og′ by o′) (sym (choose (lines.isRight r) (lineObeyed s (r .line) m h og by out) (stoppedBy s r m h og by out) (sym is ∙ y))) z
+
+  pub judged-wrong : right ≡ false → Runs (stoppedBy s r m h og by out) t m′ h′ og′ by o′ → Runs (judged s r m h og by out) t m′ h′ og′ by o′
+  unfolding judged
+  judged-wrong y z =
+      subst (λ (k : State). Runs k t m′ h′ og′ by o′) (sym (refuse (lines.isRight r) (lineObeyed s (r .line) m h og by out) (stoppedBy s r m h og by out) (sym is ∙ y))) z
 
 -- a line that was read to its end and judged
 pub ended : (s : Session) (m h og out : List ℕ) (e : lines.Read) (r : Reader) (by : List ℕ) (t : Session) (m′ h′ og′ o′ : List ℕ) → lines.Reads e r by

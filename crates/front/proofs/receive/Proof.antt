@@ -42,14 +42,14 @@ use denote.Triple.Table.{entered, cited}
 use denote.Triple.Walked.{says, Stays, stay-none, stay-none-slice, stay-ref, gave-slice, walkOf, AllGo, goes-none, goes-none-slice, goes-ref, goes-gave-slice, Walks, ends-at, walked, walk-meets}
 use denote.Exit.{yes}
 use Rattle.calls.specs.Calls.{arrivalCall}
-use Rattle.front.specs.Front.{areasWith, Fronted}
+use Rattle.board.specs.Front.{areasWith, Fronted}
 use Rattle.front.proofs.Parts.{dvals, kept-is, answer-is}
-use Rattle.front.specs.declared.Record.{Record}
-use Rattle.front.specs.declared.Lent.{Lent}
-use Rattle.front.proofs.Record as D
-use Rattle.front.proofs.Record.Laws as D′
-use Rattle.front.proofs.Lent as O
-use Rattle.front.proofs.Lent.Laws as O′
+use Rattle.board.specs.declared.Record.{Record}
+use Rattle.board.specs.declared.Lent.{Lent}
+use Rattle.board.proofs.Record as D
+use Rattle.board.proofs.Record.Laws as D′
+use Rattle.board.proofs.Lent as O
+use Rattle.board.proofs.Lent.Laws as O′
 use Rattle.front.proofs.arrival_on as callee
 use Rattle.front.proofs.arrival_on.Symbol as callee-def
 use Rattle.front.proofs.arrival_on.Symbol.{name as #front·arrival-on}

@@ -43,13 +43,13 @@ use denote.Triple.Table.{entered, cited}
 use denote.Triple.Walked.{says, Stays, stay-none, stay-none-slice, gave-slice, walkOf, AllGo, goes-none, goes-none-slice, goes-gave-slice, Walks, ends-at, walked, walk-meets}
 use denote.Exit.{yes}
 use Rattle.calls.specs.Calls.{arrivalCall}
-use Rattle.front.specs.Front.{areasWith, Fronted}
+use Rattle.board.specs.Front.{areasWith, Fronted}
 use Rattle.front.proofs.Parts.{dval, dvals, lies-in, lies-out, made, made-is}
-use Rattle.front.specs.declared.Record.{Record}
-use Rattle.front.proofs.Record as D
-use Rattle.front.proofs.Record.Laws as D′
-use Rattle.front.proofs.Lent as O
-use Rattle.front.proofs.Lent.Laws as O′
+use Rattle.board.specs.declared.Record.{Record}
+use Rattle.board.proofs.Record as D
+use Rattle.board.proofs.Record.Laws as D′
+use Rattle.board.proofs.Lent as O
+use Rattle.board.proofs.Lent.Laws as O′
 use Rattle.front.proofs.receive as callee
 use Rattle.front.proofs.receive.Symbol as callee-def
 use Rattle.front.proofs.receive.Symbol.{name as #front·receive}

@@ -1,2 +1,0 @@
--- One shape for what the front promises.
-pub mod Front

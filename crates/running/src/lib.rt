@@ -1,0 +1,97 @@
+// A run of the replay program: characters are read, and at each line's end what was read is obeyed. docs/replay.md has the forms. A session
+// goes in and comes out, so a run in stretches is a run of the whole. It takes every session and slices of every length.
+use lines::Reader;
+use session::Session;
+ghost use Rattle.session.specs.Run.{Runs};
+ghost use Rattle.session.specs.Run as run;
+
+// A line that has been read to its end: it is obeyed, or its fault is printed.
+fn judge(
+    s: Session,
+    reader: Reader,
+    memory: &mut [u8],
+    holding: &mut [u8],
+    outgoing: &mut [u8],
+    bytes: &[u8],
+    out: &mut [u8],
+) -> Session
+    ensures { λ r. ⌜ Runs (run.judged s reader (now (memory .entry)) (now (holding .entry)) (now (outgoing .entry)) (now (bytes .entry)) (now (out .entry))) r (now (memory .exit)) (now (holding .exit)) (now (outgoing .exit)) (now (bytes .entry)) (now (out .exit)) ⌝ }
+{
+    if lines::is_right(reader) {
+        let line = reader.line;
+        let verb = line.verb;
+        let b = s.board;
+        let n = session::own_length(line.filled, bytes.len());
+        let p = calling::obey(
+            verb,
+            line,
+            scene::play_of(b, s.at),
+            memory,
+            holding,
+            outgoing,
+            &bytes[..n],
+            out,
+        );
+        return session::next_line(s, p);
+    }
+    session::stop(s, reader, out)
+}
+
+// A line's end.
+fn end_line(
+    s: Session,
+    memory: &mut [u8],
+    holding: &mut [u8],
+    outgoing: &mut [u8],
+    bytes: &mut [u8],
+    out: &mut [u8],
+) -> Session
+    ensures { λ r. ⌜ Runs (run.lineEnded (run.stateOf s (now (memory .entry)) (now (holding .entry)) (now (outgoing .entry)) (now (bytes .entry)) (now (out .entry)))) r (now (memory .exit)) (now (holding .exit)) (now (outgoing .exit)) (now (bytes .exit)) (now (out .exit)) ⌝ }
+{
+    let r = s.reader;
+    let reader = lines::end(bytes, r);
+    judge(s, reader, memory, holding, outgoing, bytes, out)
+}
+
+// A character.
+fn feed(
+    s: Session,
+    memory: &mut [u8],
+    holding: &mut [u8],
+    outgoing: &mut [u8],
+    bytes: &mut [u8],
+    c: u8,
+    out: &mut [u8],
+) -> Session
+    ensures { λ r. ⌜ Runs (run.fed (run.stateOf s (now (memory .entry)) (now (holding .entry)) (now (outgoing .entry)) (now (bytes .entry)) (now (out .entry))) c) r (now (memory .exit)) (now (holding .exit)) (now (outgoing .exit)) (now (bytes .exit)) (now (out .exit)) ⌝ }
+{
+    if s.stopped {
+        return s;
+    }
+    if c == 10 {
+        return end_line(s, memory, holding, outgoing, bytes, out);
+    }
+    let r = s.reader;
+    session::with_reader(s, lines::read(bytes, r, c))
+}
+
+// A stretch of input.
+pub fn run(
+    s: Session,
+    memory: &mut [u8],
+    holding: &mut [u8],
+    outgoing: &mut [u8],
+    bytes: &mut [u8],
+    input: &[u8],
+    out: &mut [u8],
+) -> Session
+    ensures { λ r. ⌜ Runs (run.ran (run.stateOf s (now (memory .entry)) (now (holding .entry)) (now (outgoing .entry)) (now (bytes .entry)) (now (out .entry))) (now (input .entry))) r (now (memory .exit)) (now (holding .exit)) (now (outgoing .exit)) (now (bytes .exit)) (now (out .exit)) ⌝ }
+{
+    let mut t = s;
+    let mut i: usize = 0;
+    while i < input.len() {
+        t = feed(t, memory, holding, outgoing, bytes, input[i], out);
+        i += 1;
+    }
+    t
+}

@@ -1,0 +1,14 @@
+-- `scene::asked` meets its contract. Assumes nothing.
+use borrow.Author.Needs.{needs}
+use Rattle.scene.proofs.asked.Statement.{statement}
+use Rattle.scene.proofs.asked.Tie as tie
+
+pub asked-spec : {M : Type 1} → statement M
+asked-spec =
+    tie.close
+    (tie.spec
+    (λ c κs. search needs)
+    (λ c κs. search needs)
+    (λ c. search needs)
+    (λ c. search needs)
+    (λ c. rw (c .before .before .before .times .ensures, c .before .before .turn-count .ensures)))
