@@ -70,18 +70,18 @@ notAccepted = tt
 
 -- ---- 3 MC-Setup
 
--- the listed byte at an index after an MC-Setup of so many bytes, all of them 77h
-abbrev listedAt : (count index : ℕ) → ℕ
-listedAt count index =
-    getD (acted action.McSetup (wordTo 0x56 count ∷ record { to = 0x58; bytes = replicate 108 0x77 } ∷ []) .setup .listed) index 0
+-- the listed byte at an index after an MC-Setup with that word, where so many bytes are 77h
+abbrev listedAt : (word bytes index : ℕ) → ℕ
+listedAt word bytes index =
+    getD (acted action.McSetup (wordTo 0x56 word ∷ record { to = 0x58; bytes = replicate bytes 0x77 } ∷ []) .setup .listed) index 0
 
 -- low 14 bits count bytes, addresses from +8, a remainder ignored; the old list is gone
-pub twoListed : T (eqb (listedAt 0xC011 0) 0x77 && eqb (listedAt 0xC011 11) 0x77 && eqb (listedAt 0xC011 12) 0)
+pub twoListed : T (eqb (listedAt 0xC011 18 0) 0x77 && eqb (listedAt 0xC011 18 11) 0x77 && eqb (listedAt 0xC011 18 12) 0)
 unfolding byteAt putByte bytesAt putBytes value digits fieldAt place field listing act
 twoListed = tt
 
 -- above 16 addresses: 8000h, old list kept
-pub sixteenListed : T (eqb (listedAt 101 95) 0x77 && eqb (listedAt 102 95) 9 && eqb (acted action.McSetup (wordTo 0x56 102 ∷ []) .status) 0x8000)
+pub sixteenListed : T (eqb (listedAt 101 96 95) 0x77 && eqb (listedAt 102 102 95) 9 && eqb (acted action.McSetup (wordTo 0x56 102 ∷ []) .status) 0x8000)
 unfolding byteAt putByte bytesAt putBytes value digits fieldAt place field listing act
 sixteenListed = tt
 
