@@ -3,7 +3,7 @@ use mathlib.Core.Bool.{Bool, true, false, _&&_, not}
 use mathlib.Core.List.{List, [], _∷_}
 use Prim.Native.Nat.{ℕ}
 use lib.Dec.{T, eqb}
-use lib.ListN.{replicate}
+use lib.ListN.{replicate, getD}
 use Rattle.memory.specs.Address.{place}
 use Rattle.memory.specs.Memory.{byteAt, putByte, bytesAt, putBytes, value, digits, fieldAt, wordAt, Write, wordTo, apply}
 use Rattle.scb.specs.Words.{field}
@@ -27,7 +27,7 @@ part unit =
       base = record { 0 = 0x10 };
       unit = unit;
       setup = record { settings = freshSettings; own = replicate 6 0x66; listed = replicate 96 0 };
-      outgoing = replicate 32 0;
+      outgoing = replicate 2048 0;
     }
 
 abbrev given : List Write → List ℕ
@@ -77,7 +77,7 @@ header =
     served (cu.Waiting (record { 0 = 0x40 }))
     (wordTo 0x52 4 ∷ wordTo 0x56 0xFFFF ∷ wordTo 0x58 0x2211 ∷ wordTo 0x5C 0x4433 ∷ wordTo 0x5E 0x0008 ∷ []) .part .outgoing
 
-pub headerInOrder : T (eqb (wordAt header 0) 0x2211 && eqb (wordAt header 4) 0x4433 && eqb (wordAt header 6) 0x6666 && eqb (wordAt header 12) 0x0008)
+pub headerInOrder : T (eqb (getD header 0 0) 0x11 && eqb (getD header 5 0) 0x44 && eqb (getD header 6 0) 0x66 && eqb (getD header 12 0) 0x08)
 unfolding byteAt putByte bytesAt putBytes value digits fieldAt place field actionOf begunBy headerOf begin service
 headerInOrder = tt
 
@@ -105,10 +105,15 @@ pub longestFrame : T (eqb (phase (sending 0 2046 0x8002 0 .part .unit)) 5 && eqb
 unfolding byteAt putByte bytesAt putBytes value digits fieldAt place field begunBy descriptorAt buffer service
 longestFrame = tt
 
--- a buffer that would pass 2,048 bytes: none of it copied. 13-0 count: bit 14 is none of it
-pub noneOfItCopied : T (eqb (wordAt (sending 0 14 0x87F3 0 .part .outgoing) 14) 0 && eqb (wordAt (sending 0 14 0xC002 0 .part .outgoing) 14) 0x2211)
+-- a buffer that would pass 2,048 bytes: none of it copied
+pub noneOfItCopied : T (eqb (getD (sending 0 2046 0x8003 0 .part .outgoing) 2046 0) 0)
 unfolding byteAt putByte bytesAt putBytes value digits fieldAt place field begunBy descriptorAt buffer service
 noneOfItCopied = tt
+
+-- 13-0 count: bit 14 is none of it
+pub countOf14Bits : T (eqb (getD (sending 0 14 0xC002 0 .part .outgoing) 14 0) 0x11)
+unfolding byteAt putByte bytesAt putBytes value digits fieldAt place field begunBy descriptorAt buffer service
+countOf14Bits = tt
 
 -- ---- end
 
