@@ -1,2 +1,3 @@
--- What the proofs of the crates above cite.
+-- What the proofs of the crates above cite, and what the actions say, sentence by sentence.
 pub mod Laws
+pub mod Shown

@@ -1,2 +1,3 @@
--- What this crate's definitions say where another reading would swap the columns.
+-- What this crate's definitions say where another reading would swap the columns, and step by step.
 pub mod Swaps
+pub mod Shown

@@ -1,2 +1,3 @@
--- What the rooms above cite.
+-- What the rooms above cite, and what answers and lengths are.
 pub mod Laws
+pub mod Shown

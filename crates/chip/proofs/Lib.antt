@@ -1,5 +1,6 @@
--- Document 01's cases, shown of the definitions by computation.
+-- Document 01's cases, shown of the definitions by computation; what a turn and a run of turns come to.
 pub mod Board
+pub mod Shown
 pub mod Papers
 pub mod Swaps
 pub mod Status

@@ -1,3 +1,4 @@
--- What the proofs of the crates above cite, and what the definitions say where another reading would swap the columns.
+-- What the proofs of the crates above cite; where another reading would swap the columns; and what the definitions say, sentence by sentence.
 pub mod Laws
 pub mod Swaps
+pub mod Shown

@@ -1,1 +1,2 @@
--- No laws yet.
+-- What an answer says.
+pub mod Shown

@@ -1,0 +1,107 @@
+-- The actions, sentence by sentence: 01, "Turns". Each is a computed case that another reading fails. Assumes nothing.
+use mathlib.Core.Bool.{Bool, true, false, _&&_, not}
+use mathlib.Core.List.{List, [], _∷_}
+use Prim.Native.Nat.{ℕ}
+use lib.Dec.{T, eqb}
+use lib.ListN.{replicate, getD}
+use Rattle.memory.specs.Address.{place}
+use Rattle.memory.specs.Memory.{byteAt, putByte, bytesAt, putBytes, value, digits, fieldAt, wordAt, Write, wordTo, apply}
+use Rattle.scb.specs.Words.{field}
+use Rattle.device.specs.State.{freshSettings}
+use Rattle.device.specs.declared.Action.{Action}
+use Rattle.device.specs.declared.Action.the-variants as action
+use Rattle.actions.specs.Actions.{Acted, clamped, settingsBy, listing, act, reported, isSent, sent, notSent}
+use Rattle.actions.specs.Setup.{Setup}
+
+-- settings as after reset, own address six FFh, every listed byte 09h; the SCB base is 10h, the block at offset 40h, address 50h
+abbrev setup : Setup
+setup = record { settings = freshSettings; own = replicate 6 255; listed = replicate 96 9 }
+
+abbrev given : List Write → List ℕ
+given ws = apply ws (replicate 256 0)
+
+abbrev acted : Action → List Write → Acted
+acted a ws = act a (record { 0 = 0x10 }) setup (record { 0 = 0x40 }) (given ws)
+
+-- ---- 0 NOP, 7 Diagnose: A000h; 6 Dump: 8000h
+
+pub statuses : T (eqb (acted action.Nop [] .status) 0xA000 && eqb (acted action.Diagnose [] .status) 0xA000 && eqb (acted action.Dump [] .status) 0x8000)
+unfolding byteAt putByte putBytes act
+statuses = tt
+
+-- ---- 1 IA-Setup: six bytes at +6
+
+pub ownFrom6 : T (eqb (getD (acted action.IaSetup (wordTo 0x56 0x0201 ∷ wordTo 0x5A 0x0605 ∷ []) .setup .own) 0 0) 1
+    && eqb (getD (acted action.IaSetup (wordTo 0x56 0x0201 ∷ wordTo 0x5A 0x0605 ∷ []) .setup .own) 5 0) 6)
+unfolding byteAt putByte bytesAt putBytes digits place act
+ownFrom6 = tt
+
+-- ---- 2 Configure
+
+-- byte count, low 4 bits of +6, below 4 taken as 4, above 12 as 12
+pub byteCount : T (eqb (clamped 0xF3) 4 && eqb (clamped 0x15) 5 && eqb (clamped 0x0D) 12)
+unfolding field
+byteCount = tt
+
+-- a Configure of so many bytes: byte 2 is 80h, byte 3 as said, byte 8 is 02h, byte 10 is 99
+abbrev configured : (count third : ℕ) → Acted
+configured count third =
+    acted action.Configure (wordTo 0x56 count ∷ wordTo 0x58 0x0080 ∷ wordTo 0x59 third ∷ wordTo 0x5E 0x0002 ∷ wordTo 0x60 99 ∷ [])
+
+-- byte 2: bit 7 save bad frames; byte 8: bit 0 promiscuous, 1 broadcast disabled; byte 10: minimum length
+pub eachInItsByte : T (configured 11 6 .setup .settings .savebad && configured 11 6 .setup .settings .nobroadcast
+    && not (configured 11 6 .setup .settings .promiscuous) && eqb (configured 11 6 .setup .settings .minimum) 99)
+unfolding byteAt putByte bytesAt putBytes digits place field settingsBy act
+eachInItsByte = tt
+
+-- the others kept: eight bytes do not reach byte 8, nine do; ten do not reach byte 10
+pub othersKept : T (not (configured 8 6 .setup .settings .nobroadcast) && configured 9 6 .setup .settings .nobroadcast
+    && eqb (configured 10 6 .setup .settings .minimum) 64)
+unfolding byteAt putByte bytesAt putBytes digits place field settingsBy act
+othersKept = tt
+
+-- a length other than 6, location 1 or loopback: status 8000h, nothing changed
+abbrev unchanged : ℕ → Bool
+unchanged third = eqb (configured 11 third .status) 0x8000 && not (configured 11 third .setup .settings .savebad)
+
+pub notAccepted : T (unchanged 5 && unchanged 0x0E && unchanged 0x46 && unchanged 0x86 && eqb (configured 11 6 .status) 0xA000)
+unfolding byteAt putByte bytesAt putBytes digits place field settingsBy act
+notAccepted = tt
+
+-- ---- 3 MC-Setup
+
+-- the listed byte at an index after an MC-Setup with that word, where so many bytes are 77h
+abbrev listedAt : (word bytes index : ℕ) → ℕ
+listedAt word bytes index =
+    getD (acted action.McSetup (wordTo 0x56 word ∷ record { to = 0x58; bytes = replicate bytes 0x77 } ∷ []) .setup .listed) index 0
+
+-- low 14 bits count bytes, addresses from +8, a remainder ignored; the old list is gone
+pub twoListed : T (eqb (listedAt 0xC011 18 0) 0x77 && eqb (listedAt 0xC011 18 11) 0x77 && eqb (listedAt 0xC011 18 12) 0)
+unfolding byteAt putByte bytesAt putBytes value digits fieldAt place field listing act
+twoListed = tt
+
+-- above 16 addresses: 8000h, old list kept
+pub sixteenListed : T (eqb (listedAt 101 96 95) 0x77 && eqb (listedAt 102 102 95) 9 && eqb (acted action.McSetup (wordTo 0x56 102 ∷ []) .status) 0x8000)
+unfolding byteAt putByte bytesAt putBytes value digits fieldAt place field listing act
+sixteenListed = tt
+
+-- ---- 4 Transmit
+
+-- bits 10, 9, 7, 6, 5, 3-0 of the report are set with C; OK, and the frame sent, exactly if 10, 9, 5 are clear
+abbrev sending : ℕ → Acted
+sending report = sent setup 60 report
+
+pub reportedBits : T (eqb (sending 0x0000 .status) 0xA000 && eqb (sending 0xF9DF .status) 0xA0CF && eqb (sending 0xF9DF .length) 60
+    && eqb (sending 0x0020 .status) 0x8020 && eqb (sending 0x0200 .status) 0x8200 && eqb (sending 0x0400 .status) 0x8400 && eqb (sending 0x0020 .length) 0)
+unfolding field reported isSent sent
+reportedBits = tt
+
+-- 8100h, nothing sent
+pub chainFailed : T (eqb (notSent setup .status) 0x8100 && eqb (notSent setup .length) 0)
+chainFailed = tt
+
+-- ---- 5 TDR: word +6 becomes 8000h, status A000h
+
+pub tdrWord : T (eqb (wordAt (apply (acted action.Tdr [] .writes) (given [])) 0x56) 0x8000 && eqb (acted action.Tdr [] .status) 0xA000)
+unfolding byteAt putByte bytesAt putBytes value digits fieldAt place act
+tdrWord = tt

@@ -1,0 +1,142 @@
+-- One service of the command unit, sentence by sentence: 01, "Turns". Each is a computed case that another reading fails. Assumes nothing.
+use mathlib.Core.Bool.{Bool, true, false, _&&_, not}
+use mathlib.Core.List.{List, [], _∷_}
+use Prim.Native.Nat.{ℕ}
+use lib.Dec.{T, eqb}
+use lib.ListN.{replicate, getD}
+use Rattle.memory.specs.Address.{place}
+use Rattle.memory.specs.Memory.{byteAt, putByte, bytesAt, putBytes, value, digits, fieldAt, wordAt, Write, wordTo, apply}
+use Rattle.scb.specs.Words.{field}
+use Rattle.device.specs.Numbers.{actionOf, actionNumber}
+use Rattle.device.specs.State.{freshSettings}
+use Rattle.device.specs.declared.Action.the-variants as action
+use Rattle.device.specs.declared.Begun.{Begun}
+use Rattle.device.specs.declared.Cu.{Cu}
+use Rattle.device.specs.declared.Cu.the-variants as cu
+use Rattle.actions.specs.Actions.{act, reported, isSent, sent}
+use Rattle.command.specs.Begin.{begin, begunBy, headerOf}
+use Rattle.command.specs.Buffer.{descriptorAt, buffer}
+use Rattle.command.specs.End.{nextAfter, end}
+use Rattle.command.specs.Part.{Part, Service}
+use Rattle.command.specs.Service.{service}
+
+-- a unit with the SCB base at 10h and own address six 66h; the block is at offset 40h, address 50h
+abbrev part : Cu → Part
+part unit =
+    record {
+      base = record { 0 = 0x10 };
+      unit = unit;
+      setup = record { settings = freshSettings; own = replicate 6 0x66; listed = replicate 96 0 };
+      outgoing = replicate 2048 0;
+    }
+
+abbrev given : List Write → List ℕ
+given ws = apply ws (replicate 256 0)
+
+abbrev served : Cu → List Write → Service
+served unit ws = service (part unit) (given ws) 0
+
+-- the phase of a unit, by number
+abbrev phase : Cu → ℕ
+phase cu.Idle = 0
+phase (cu.Suspended o) = 1
+phase (cu.Waiting o) = 2
+phase (cu.Acting b a) = 3
+phase (cu.Sending b w) = 4
+phase (cu.Ending b n) = 5
+phase (cu.Failing b) = 6
+
+-- ---- begin
+
+-- a block with that command word is begun
+abbrev begun : (word : ℕ) → Service
+begun word = served (cu.Waiting (record { 0 = 0x40 })) (wordTo 0x52 word ∷ wordTo 0x56 0xFFFF ∷ [])
+
+-- write status 4000h, at begin already
+pub busyAtBegin : T (eqb (wordAt (apply (begun 0 .writes) (given [])) 0x50) 0x4000)
+unfolding byteAt putByte bytesAt putBytes value digits fieldAt place field actionOf begunBy begin service
+busyAtBegin = tt
+
+-- 2-0 CMD, whatever stands above it; Transmit: +6 FFFFh is no buffer, and the end is next
+pub cmdOfThreeBits : T (eqb (phase (begun 0x0008 .part .unit)) 3 && eqb (phase (begun 0x000C .part .unit)) 5)
+unfolding byteAt putByte bytesAt putBytes value digits fieldAt place field actionOf begunBy headerOf begin service
+cmdOfThreeBits = tt
+
+-- 15 EL, 14 S, 13 I
+abbrev flags : (word : ℕ) → Begun
+flags word = begunBy (record { 0 = 0x40 }) word
+
+pub flagsInTheirBits : T (flags 0x8000 .el && not (flags 0x6000 .el) && flags 0x4000 .suspend && not (flags 0xA000 .suspend)
+    && flags 0x2000 .interrupt && not (flags 0xC000 .interrupt))
+unfolding field begunBy
+flagsInTheirBits = tt
+
+-- Frame: destination, own address, type; the header goes to the outgoing area at begin
+abbrev header : List ℕ
+header =
+    served (cu.Waiting (record { 0 = 0x40 }))
+    (wordTo 0x52 4 ∷ wordTo 0x56 0xFFFF ∷ wordTo 0x58 0x2211 ∷ wordTo 0x5C 0x4433 ∷ wordTo 0x5E 0x0008 ∷ []) .part .outgoing
+
+pub headerInOrder : T (eqb (getD header 0 0) 0x11 && eqb (getD header 5 0) 0x44 && eqb (getD header 6 0) 0x66 && eqb (getD header 12 0) 0x08)
+unfolding byteAt putByte bytesAt putBytes value digits fieldAt place field actionOf begunBy headerOf begin service
+headerInOrder = tt
+
+-- ---- buffer
+
+-- a Transmit with so many descriptors used and bytes in the outgoing area, at a descriptor with those words at +0 and +2, whose buffer is at C0h
+abbrev sending : (used filled first next : ℕ) → Service
+sending used filled first next =
+    served (cu.Sending (flags 0) (record { next = record { 0 = 0x90 }; used = used; filled = filled }))
+    (wordTo 0xA0 first ∷ wordTo 0xA2 next ∷ wordTo 0xA4 0xC0 ∷ wordTo 0xC0 0x2211 ∷ [])
+
+-- with no EOF in 64 descriptors the end turn is next, with nothing sent; the 63rd has a next, and EOF in the 64th is in time
+pub sixtyFour : T (eqb (phase (sending 62 14 2 0x98 .part .unit)) 4 && eqb (phase (sending 63 14 2 0x98 .part .unit)) 6
+    && eqb (phase (sending 63 14 0x8002 0x98 .part .unit)) 5)
+unfolding byteAt putByte bytesAt putBytes value digits fieldAt place field begunBy descriptorAt buffer service
+sixtyFour = tt
+
+-- a next offset FFFFh before EOF is no end of the data; with EOF it is not looked at
+pub onesBeforeEof : T (eqb (phase (sending 0 14 2 0xFFFF .part .unit)) 6 && eqb (phase (sending 0 14 0x8002 0xFFFF .part .unit)) 5)
+unfolding byteAt putByte bytesAt putBytes value digits fieldAt place field begunBy descriptorAt buffer service
+onesBeforeEof = tt
+
+-- 2,034 data bytes pass, 2,035 don't
+pub longestFrame : T (eqb (phase (sending 0 2046 0x8002 0 .part .unit)) 5 && eqb (phase (sending 0 2046 0x8003 0 .part .unit)) 6)
+unfolding byteAt putByte bytesAt putBytes value digits fieldAt place field begunBy descriptorAt buffer service
+longestFrame = tt
+
+-- a buffer that would pass 2,048 bytes: none of it copied
+pub noneOfItCopied : T (eqb (getD (sending 0 2046 0x8003 0 .part .outgoing) 2046 0) 0)
+unfolding byteAt putByte bytesAt putBytes value digits fieldAt place field begunBy descriptorAt buffer service
+noneOfItCopied = tt
+
+-- 13-0 count: bit 14 is none of it
+pub countOf14Bits : T (eqb (getD (sending 0 14 0xC002 0 .part .outgoing) 14 0) 0x11)
+unfolding byteAt putByte bytesAt putBytes value digits fieldAt place field begunBy descriptorAt buffer service
+countOf14Bits = tt
+
+-- ---- end
+
+-- a NOP that was begun with those flags, and perhaps a waiting SUSPEND, is ended
+abbrev ended : (word : ℕ) → (pausing : Bool) → Service
+ended word pausing =
+    served
+    (cu.Acting (record { block = record { 0 = 0x40 }; el = flags word .el; suspend = flags word .suspend; interrupt = flags word .interrupt; pausing = pausing }) action.Nop)
+    []
+
+-- EL makes CU Idle, else S or a waiting SUSPEND makes it Suspended. EL wins over S
+pub elOverS : T (eqb (phase (ended 0xC000 false .part .unit)) 0 && eqb (phase (ended 0x4000 false .part .unit)) 1
+    && eqb (phase (ended 0 true .part .unit)) 1 && eqb (phase (ended 0 false .part .unit)) 2)
+unfolding byteAt putByte bytesAt putBytes value digits fieldAt place field begunBy act nextAfter end service
+elOverS = tt
+
+-- I raises CX, and nothing else does; leaving Active raises CNA, to Suspended too
+pub raised : T (ended 0x2000 false .raised .cx && not (ended 0x8000 false .raised .cx)
+    && not (ended 0x2000 false .raised .cna) && ended 0x4000 false .raised .cna && ended 0x8000 false .raised .cna)
+unfolding byteAt putByte bytesAt putBytes value digits fieldAt place field begunBy act nextAfter end service
+raised = tt
+
+-- the length sent is that of header and data
+pub sentWhole : T (eqb (served (cu.Ending (flags 0) 60) [] .length) 60 && eqb (wordAt (apply (served (cu.Failing (flags 0)) [] .writes) (given [])) 0x50) 0x8100)
+unfolding byteAt putByte bytesAt putBytes value digits fieldAt place field begunBy reported isSent sent nextAfter end service
+sentWhole = tt

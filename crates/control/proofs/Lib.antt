@@ -1,0 +1,2 @@
+-- What the control codes do, row by row.
+pub mod Shown

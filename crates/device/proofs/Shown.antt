@@ -1,0 +1,55 @@
+-- The paper's numbers, and the fresh state: computed cases that another reading fails. Assumes nothing.
+use mathlib.Core.Bool.{Bool, true, false, _&&_, not}
+use mathlib.Core.List.{List, [], _∷_}
+use Prim.Native.Nat.{ℕ}
+use lib.Dec.{T, eqb}
+use lib.ListN.{length, replicate, getD}
+use Rattle.memory.specs.Memory.{byteAt, putByte, bytesAt, putBytes, value, digits, fieldAt, wordAt, apply}
+use Rattle.memory.specs.Address.{place}
+use Rattle.device.specs.Answers.{counterOf, counts}
+use Rattle.device.specs.Limits.{header, areaSize, recordSize, longest, mostBuffers, mostListed, fcs}
+use Rattle.device.specs.Numbers.{verdictNumber, verdictOf, refusalNumber, counterPlace}
+use Rattle.device.specs.State.{goodBy, fresh}
+use Rattle.device.specs.declared.Counter.{Counter}
+use Rattle.device.specs.declared.Counter.the-variants as counter
+use Rattle.device.specs.declared.Fate.the-variants as fate
+use Rattle.device.specs.declared.Refusal.the-variants as refusal
+use Rattle.device.specs.declared.Verdict.the-variants as verdict
+
+-- 01, "What the desk is buying": any other value is misaligned
+pub othersMisaligned : T (eqb (verdictNumber (verdictOf 3)) 2 && eqb (verdictNumber (verdictOf 0xFFFFFFFF)) 2)
+unfolding verdictOf
+othersMisaligned = tt
+
+-- 01, "Calls, lent areas, refusals": 1 N, 2 another area, 3 an arriving frame, 4 the record; 0 if not refused
+pub refusalsNumbered : T (eqb (refusalNumber refusal.Accepted) 0 && eqb (refusalNumber refusal.Memory) 1 && eqb (refusalNumber refusal.Area) 2
+    && eqb (refusalNumber refusal.Overlong) 3 && eqb (refusalNumber refusal.Foreign) 4)
+refusalsNumbered = tt
+
+-- 01, "The SCB": +8 CRCERRS, +10 ALNERRS, +12 RSCERRS, +14 OVRNERRS. Each is increased alone, with an SCB at 0 and FFFFh in all four
+abbrev counted : Counter → List ℕ
+counted c = let m = replicate {A = ℕ} 16 255 in apply (counts c (record { 0 = 0 }) (record { 0 = 0 }) m) m
+
+pub countersInPlace : T (eqb (wordAt (counted counter.Crc) 8) 0 && eqb (wordAt (counted counter.Alignment) 10) 0
+    && eqb (wordAt (counted counter.Resources) 12) 0 && eqb (wordAt (counted counter.Overruns) 14) 0 && eqb (wordAt (counted counter.Uncounted) 0) 0xFFFF)
+unfolding byteAt putByte bytesAt putBytes value digits fieldAt place counts
+countersInPlace = tt
+
+-- 01, "Arrival and storing": a frame already held: OVRNERRS; a good one that is not held: RSCERRS; kept out of buffers: RSCERRS too
+pub countersOfFates : T (eqb (counterPlace (counterOf fate.Overrun)) 14 && eqb (counterPlace (counterOf fate.NoResources)) 12
+    && eqb (counterPlace (counterOf fate.StoredCounted)) 12 && eqb (counterPlace (counterOf fate.Aborted)) 0)
+countersOfFates = tt
+
+-- short: bad
+pub shortIsBad : T (not (goodBy true verdict.Good) && goodBy false verdict.Good)
+shortIsBad = tt
+
+-- 01, "Turns": after reset the address is six FFh, the minimum length 64, those bits 0; RU first
+pub afterReset : T (eqb (length (fresh .own)) 6 && eqb (getD (fresh .own) 5 0) 255 && eqb (fresh .units .settings .minimum) 64
+    && not (fresh .units .settings .savebad) && not (fresh .units .settings .promiscuous) && not (fresh .units .settings .nobroadcast)
+    && not (fresh .units .rulast) && not (fresh .units .initialised))
+afterReset = tt
+
+-- the sizes and limits
+pub limits : T (eqb header 14 && eqb areaSize 2048 && eqb recordSize 256 && eqb longest 2048 && eqb mostBuffers 64 && eqb mostListed 16 && eqb fcs 4)
+limits = tt
