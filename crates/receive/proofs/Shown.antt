@@ -149,7 +149,8 @@ full (ru.Closing s o e) = e
 full (ru.Lacking s) = false
 
 -- data left after EL, or after 64: out of buffers
-pub outOfBuffers : T (eqb (phase (filling 62 1 0x98 .unit)) 5 && eqb (phase (filling 63 1 0x98 .unit)) 7 && eqb (phase (filling 63 2 0x98 .unit)) 6
+pub outOfBuffers : T (eqb (phase (filling 62 1 0x98 .unit)) 5 && eqb (phase (filling 63 1 0x98 .unit)) 7
+    && eqb (phase (filling 63 2 0x98 .unit)) 6
     && eqb (phase (filling 0 0x8001 0x98 .unit)) 7)
 unfolding byteAt putByte bytesAt putBytes value digits fieldAt place field descriptorAt buffer service
 outOfBuffers = tt
@@ -194,7 +195,8 @@ unfolding byteAt putByte bytesAt putBytes value digits fieldAt place field count
 keptOrNot = tt
 
 -- either way RSCERRS follows if otherwise good, and No Resources
-pub lackingAddsOne : T (eqb (counted (served (lacking true verdict.Good) [] .fate)) 12 && eqb (counted (served (lacking false verdict.Good) [] .fate)) 12
+pub lackingAddsOne : T (eqb (counted (served (lacking true verdict.Good) [] .fate)) 12
+    && eqb (counted (served (lacking false verdict.Good) [] .fate)) 12
     && eqb (counted (served (lacking true verdict.Crc) [] .fate)) 0 && eqb (phase (served (lacking false verdict.Good) [] .unit)) 2)
 unfolding byteAt putByte bytesAt putBytes value digits fieldAt place field counts frameStatus settles lack service
 lackingAddsOne = tt
