@@ -82,8 +82,8 @@ unfolding byteAt putByte bytesAt putBytes value digits fieldAt place field listi
 twoListed = tt
 
 -- above 16 addresses: 8000h, old list kept
-pub sixteenListed : T (eqb (listedAt 101 96 95) 0x77 && eqb (listedAt 102 102 95) 9
-    && eqb (acted action.McSetup (wordTo 0x56 102 ∷ []) .status) 0x8000)
+pub sixteenListed : T (eqb (acted action.McSetup (wordTo 0x56 102 ∷ []) .status) 0x8000
+    && eqb (listedAt 101 96 95) 0x77 && eqb (listedAt 102 102 95) 9)
 unfolding byteAt putByte bytesAt putBytes value digits fieldAt place field listing act
 sixteenListed = tt
 
