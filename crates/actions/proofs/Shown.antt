@@ -25,7 +25,8 @@ acted a ws = act a (record { 0 = 0x10 }) setup (record { 0 = 0x40 }) (given ws)
 
 -- ---- 0 NOP, 7 Diagnose: A000h; 6 Dump: 8000h
 
-pub statuses : T (eqb (acted action.Nop [] .status) 0xA000 && eqb (acted action.Diagnose [] .status) 0xA000 && eqb (acted action.Dump [] .status) 0x8000)
+pub statuses : T (eqb (acted action.Nop [] .status) 0xA000 && eqb (acted action.Diagnose [] .status) 0xA000
+    && eqb (acted action.Dump [] .status) 0x8000)
 unfolding byteAt putByte putBytes act
 statuses = tt
 
@@ -81,7 +82,8 @@ unfolding byteAt putByte bytesAt putBytes value digits fieldAt place field listi
 twoListed = tt
 
 -- above 16 addresses: 8000h, old list kept
-pub sixteenListed : T (eqb (listedAt 101 96 95) 0x77 && eqb (listedAt 102 102 95) 9 && eqb (acted action.McSetup (wordTo 0x56 102 ∷ []) .status) 0x8000)
+pub sixteenListed : T (eqb (acted action.McSetup (wordTo 0x56 102 ∷ []) .status) 0x8000
+    && eqb (listedAt 101 96 95) 0x77 && eqb (listedAt 102 102 95) 9)
 unfolding byteAt putByte bytesAt putBytes value digits fieldAt place field listing act
 sixteenListed = tt
 
@@ -92,7 +94,8 @@ abbrev sending : ℕ → Acted
 sending report = sent setup 60 report
 
 pub reportedBits : T (eqb (sending 0x0000 .status) 0xA000 && eqb (sending 0xF9DF .status) 0xA0CF && eqb (sending 0xF9DF .length) 60
-    && eqb (sending 0x0020 .status) 0x8020 && eqb (sending 0x0200 .status) 0x8200 && eqb (sending 0x0400 .status) 0x8400 && eqb (sending 0x0020 .length) 0)
+    && eqb (sending 0x0020 .status) 0x8020 && eqb (sending 0x0200 .status) 0x8200 && eqb (sending 0x0400 .status) 0x8400
+    && eqb (sending 0x0020 .length) 0)
 unfolding field reported isSent sent
 reportedBits = tt
 

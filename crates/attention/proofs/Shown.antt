@@ -1,4 +1,5 @@
--- An attention, step by step: 01, "First attention after reset" and "The SCB". Each is a computed case that another reading fails. Assumes nothing.
+-- An attention, step by step: 01, "First attention after reset" and "The SCB". Each is a computed case that another reading fails.
+-- Assumes nothing.
 use mathlib.Core.Bool.{Bool, true, false, _&&_, not}
 use mathlib.Core.List.{List, [], _∷_}
 use Prim.Native.Nat.{ℕ}
@@ -45,7 +46,9 @@ events cx fr cna rnr = record { cx = cx; fr = fr; cna = cna; rnr = rnr }
 
 -- base 0 and the SCB at 30h, with those events set and that command unit; own address six 66h
 abbrev device : Events → Cu → Device
-device e c = withAddresses (withUnits fresh (withCu (initialisedAt freshUnits (record { 0 = 0 }) (record { 0 = 0x30 }) e) c)) (replicate 6 0x66) (replicate 96 0)
+device e c =
+    let units = withCu (initialisedAt freshUnits (record { 0 = 0 }) (record { 0 = 0x30 }) e) c in
+    withAddresses (withUnits fresh units) (replicate 6 0x66) (replicate 96 0)
 
 -- a command that is begun, with its block where the RFA offset stands
 abbrev acting : Cu

@@ -1,11 +1,13 @@
--- Answers, lengths and reset: 01, "Calls, lent areas, refusals". Each is a computed case that another reading fails. Assumes nothing.
+-- Answers, lengths, refusals and reset: 01, "Calls, lent areas, refusals". Each is a computed case that another reading fails. Assumes nothing.
 use mathlib.Core.Bool.{Bool, true, false, _&&_, not}
 use mathlib.Core.List.{List, [], _∷_}
 use Prim.Native.Nat.{ℕ}
 use lib.Dec.{T, eqb}
 use lib.ListN.{length}
+use Rattle.memory.specs.Size.{sizeAllowed}
+use Rattle.device.specs.Numbers.{refusalNumber}
 use Rattle.device.specs.declared.Refusal.the-variants as refusal
-use Rattle.calls.specs.Calls.{packed, lengthsRight, refusedAnswer, resetCall}
+use Rattle.calls.specs.Calls.{areasOf, packed, lengthsRight, areasRight, refusalOf, refusedAnswer, resetCall}
 
 -- the number, the length sent from bit 16 on, the edge in bit 32
 pub answersPacked : T (eqb (packed (record { number = refusal.Accepted; length = 60; edge = true })) 0x1003C0000
@@ -17,6 +19,11 @@ answersPacked = tt
 pub lengthsExact : T (lengthsRight 2048 2048 256 && not (lengthsRight 2047 2048 256) && not (lengthsRight 2048 2049 256)
     && not (lengthsRight 2048 2048 255) && not (lengthsRight 2048 2048 257))
 lengthsExact = tt
+
+-- the lowest number that applies is given: with every area empty, 1
+pub lowestFirst : T (eqb (refusalNumber (refusalOf (areasOf [] [] [] []) [])) 1)
+unfolding sizeAllowed areasRight refusalOf
+lowestFirst = tt
 
 -- reset takes the record alone: one of the wrong length is refusal 2, and stays
 pub resetOfNoRecord : T (eqb (resetCall [] .answer) 2 && eqb (length (resetCall [] .kept)) 0)

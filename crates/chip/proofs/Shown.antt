@@ -30,10 +30,9 @@ use Rattle.chip.specs.Turn.{concluded, commandTurn, receiveTurn, turnOf}
 -- base 0 and the SCB at 30h, CX set; 1234h stands in the SCB's status, a NOP with I in the block at 40h
 abbrev world : Cu → Ru → (rulast : Bool) → World
 world c r rulast =
+    let units = initialisedAt freshUnits (record { 0 = 0 }) (record { 0 = 0x30 }) (record { cx = true; fr = false; cna = false; rnr = false }) in
     record {
-      device =
-          withUnits fresh
-          (servedRu (withRu (withCu (initialisedAt freshUnits (record { 0 = 0 }) (record { 0 = 0x30 }) (record { cx = true; fr = false; cna = false; rnr = false })) c) r) rulast);
+      device = withUnits fresh (servedRu (withRu (withCu units c) r) rulast);
       memory = apply (wordTo 0x30 0x1234 ∷ wordTo 0x42 0x2000 ∷ []) (replicate 128 0);
       holding = replicate 16 0;
       outgoing = replicate 16 0;
@@ -50,7 +49,8 @@ abbrev held : Ru
 held = ru.Held (record { 0 = 0x60 }) (record { length = 16; verdict = verdict.Good; short = false; savebad = false }) false
 
 -- an edge is reported when an event is raised, again included: CX was set before
-pub edgeAgain : T (turnOf (world (acting 0x40) ru.Idle false) 0 .outcome .answer .edge && not (turnOf (world waiting ru.Idle false) 0 .outcome .answer .edge))
+pub edgeAgain : T (turnOf (world (acting 0x40) ru.Idle false) 0 .outcome .answer .edge
+    && not (turnOf (world waiting ru.Idle false) 0 .outcome .answer .edge))
 unfolding byteAt putByte bytesAt putBytes value digits fieldAt place field joined anyOf eventBits statusWord actionOf act nextAfter end command-begin.begunBy command-begin.begin command-service.service statusTo concluded commandTurn turnOf
 edgeAgain = tt
 
@@ -60,7 +60,8 @@ unfolding byteAt putByte bytesAt putBytes value digits fieldAt place field joine
 statusLast = tt
 
 -- at every turn that raises an event or changes a unit's state: a begin turn does neither
-pub statusNotAlways : T (eqb (wordAt (turnOf (world waiting ru.Idle false) 0 .memory) 0x30) 0x1234 && eqb (wordAt (turnOf (world waiting ru.Idle false) 0 .memory) 0x40) 0x4000)
+pub statusNotAlways : T (eqb (wordAt (turnOf (world waiting ru.Idle false) 0 .memory) 0x30) 0x1234
+    && eqb (wordAt (turnOf (world waiting ru.Idle false) 0 .memory) 0x40) 0x4000)
 unfolding byteAt putByte bytesAt putBytes value digits fieldAt place field joined anyOf eventBits statusWord actionOf command-begin.begunBy command-begin.begin command-service.service statusTo concluded commandTurn turnOf
 statusNotAlways = tt
 
@@ -68,6 +69,7 @@ statusNotAlways = tt
 abbrev served : (rulast : Bool) → List ℕ
 served rulast = turnOf (world waiting held rulast) 0 .memory
 
-pub byTurns : T (eqb (wordAt (served true) 0x40) 0x4000 && eqb (wordAt (served true) 0x60) 0 && eqb (wordAt (served false) 0x40) 0 && eqb (wordAt (served false) 0x60) 0x4000)
+pub byTurns : T (eqb (wordAt (served true) 0x40) 0x4000 && eqb (wordAt (served true) 0x60) 0
+    && eqb (wordAt (served false) 0x40) 0 && eqb (wordAt (served false) 0x60) 0x4000)
 unfolding byteAt putByte bytesAt putBytes value digits fieldAt place field joined anyOf eventBits statusWord actionOf command-begin.begunBy command-begin.begin command-service.service receive-begin.begunBy receive-begin.begin receive-service.service statusTo concluded commandTurn receiveTurn turnOf
 byTurns = tt

@@ -83,11 +83,11 @@ headerInOrder = tt
 
 -- ---- buffer
 
--- a Transmit with so many descriptors used and bytes in the outgoing area, at a descriptor with those words at +0 and +2, whose buffer is at C0h
+-- a Transmit with so many descriptors used and bytes in the outgoing area, at a descriptor with those words at +0 and +2, and 2211h in memory
 abbrev sending : (used filled first next : ℕ) → Service
 sending used filled first next =
     served (cu.Sending (flags 0) (record { next = record { 0 = 0x90 }; used = used; filled = filled }))
-    (wordTo 0xA0 first ∷ wordTo 0xA2 next ∷ wordTo 0xA4 0xC0 ∷ wordTo 0xC0 0x2211 ∷ [])
+    (wordTo 0xA0 first ∷ wordTo 0xA2 next ∷ wordTo 0xA4 0xC0 ∷ wordTo 0xC0 0x2211 ∷ wordTo 0xD0 0x2211 ∷ [])
 
 -- with no EOF in 64 descriptors the end turn is next, with nothing sent; the 63rd has a next, and EOF in the 64th is in time
 pub sixtyFour : T (eqb (phase (sending 62 14 2 0x98 .part .unit)) 4 && eqb (phase (sending 63 14 2 0x98 .part .unit)) 6
@@ -120,9 +120,9 @@ countOf14Bits = tt
 -- a NOP that was begun with those flags, and perhaps a waiting SUSPEND, is ended
 abbrev ended : (word : ℕ) → (pausing : Bool) → Service
 ended word pausing =
-    served
-    (cu.Acting (record { block = record { 0 = 0x40 }; el = flags word .el; suspend = flags word .suspend; interrupt = flags word .interrupt; pausing = pausing }) action.Nop)
-    []
+    let b = flags word in
+    let whole : Begun = record { block = b .block; el = b .el; suspend = b .suspend; interrupt = b .interrupt; pausing = pausing } in
+    served (cu.Acting whole action.Nop) []
 
 -- EL makes CU Idle, else S or a waiting SUSPEND makes it Suspended. EL wins over S
 pub elOverS : T (eqb (phase (ended 0xC000 false .part .unit)) 0 && eqb (phase (ended 0x4000 false .part .unit)) 1
@@ -137,6 +137,7 @@ unfolding byteAt putByte bytesAt putBytes value digits fieldAt place field begun
 raised = tt
 
 -- the length sent is that of header and data
-pub sentWhole : T (eqb (served (cu.Ending (flags 0) 60) [] .length) 60 && eqb (wordAt (apply (served (cu.Failing (flags 0)) [] .writes) (given [])) 0x50) 0x8100)
+pub sentWhole : T (eqb (served (cu.Ending (flags 0) 60) [] .length) 60
+    && eqb (wordAt (apply (served (cu.Failing (flags 0)) [] .writes) (given [])) 0x50) 0x8100)
 unfolding byteAt putByte bytesAt putBytes value digits fieldAt place field begunBy reported isSent sent nextAfter end service
 sentWhole = tt

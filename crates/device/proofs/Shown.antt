@@ -31,7 +31,8 @@ abbrev counted : Counter → List ℕ
 counted c = let m = replicate {A = ℕ} 16 255 in apply (counts c (record { 0 = 0 }) (record { 0 = 0 }) m) m
 
 pub countersInPlace : T (eqb (wordAt (counted counter.Crc) 8) 0 && eqb (wordAt (counted counter.Alignment) 10) 0
-    && eqb (wordAt (counted counter.Resources) 12) 0 && eqb (wordAt (counted counter.Overruns) 14) 0 && eqb (wordAt (counted counter.Uncounted) 0) 0xFFFF)
+    && eqb (wordAt (counted counter.Resources) 12) 0 && eqb (wordAt (counted counter.Overruns) 14) 0
+    && eqb (wordAt (counted counter.Uncounted) 0) 0xFFFF)
 unfolding byteAt putByte bytesAt putBytes value digits fieldAt place counts
 countersInPlace = tt
 
@@ -51,5 +52,6 @@ pub afterReset : T (eqb (length (fresh .own)) 6 && eqb (getD (fresh .own) 5 0) 2
 afterReset = tt
 
 -- the sizes and limits
-pub limits : T (eqb header 14 && eqb areaSize 2048 && eqb recordSize 256 && eqb longest 2048 && eqb mostBuffers 64 && eqb mostListed 16 && eqb fcs 4)
+pub limits : T (eqb header 14 && eqb areaSize 2048 && eqb recordSize 256 && eqb longest 2048
+    && eqb mostBuffers 64 && eqb mostListed 16 && eqb fcs 4)
 limits = tt

@@ -33,7 +33,8 @@ unfolding field agree isListed matches
 broadcastByItsBit = tt
 
 -- own address: all six bytes of it
-pub ownIsSixBytes : T (matches (settings false true) own listed own && not (matches (settings false true) own listed (2 ∷ 1 ∷ 1 ∷ 1 ∷ 1 ∷ 9 ∷ [])))
+pub ownIsSixBytes : T (matches (settings false true) own listed own
+    && not (matches (settings false true) own listed (2 ∷ 1 ∷ 1 ∷ 1 ∷ 1 ∷ 9 ∷ [])))
 unfolding field agree isListed matches
 ownIsSixBytes = tt
 

@@ -32,19 +32,24 @@ use Rattle.receive.specs.Service.{service}
 abbrev settings : (savebad : Bool) → Settings
 settings savebad = record { savebad = savebad; promiscuous = false; nobroadcast = false; minimum = 64 }
 
--- what becomes of a frame of so many bytes that matches: the place of the counter that it adds to (0: none), and whether it is held
+-- what becomes of a frame of so many bytes that matches
 abbrev arrives : (savebad : Bool) → Ru → (bytes verdict : ℕ) → Fate
 arrives savebad unit bytes v = fateOf (settings savebad) true unit (replicate bytes 0) v
 
+-- the place of the counter that it adds to, 0 if it adds to none
 abbrev counted : Fate → ℕ
 counted f = counterPlace (counterOf f)
 
 abbrev ready : Ru
 ready = ru.Ready (record { 0 = 0x50 })
 
--- under 14 bytes, dropped; fourteen are a frame, as they are a header
-pub fourteenBytes : T (eqb (counted (arrives false ru.NoResources 13 0)) 0
-    && isHeld (fateOf (record { savebad = false; promiscuous = false; nobroadcast = false; minimum = 0 }) true ready (replicate 14 0) 0))
+-- under 14 bytes, dropped; fourteen are a frame, with no data. The minimum length is 0 here, so that neither is short
+abbrev heldOf : (bytes : ℕ) → Bool
+heldOf bytes =
+    let anyLength : Settings = record { savebad = false; promiscuous = false; nobroadcast = false; minimum = 0 } in
+    isHeld (fateOf anyLength true ready (replicate bytes 0) 0)
+
+pub fourteenBytes : T (heldOf 14 && not (heldOf 13))
 unfolding lengthOf judged fateOf verdictOf
 fourteenBytes = tt
 
@@ -149,7 +154,8 @@ full (ru.Closing s o e) = e
 full (ru.Lacking s) = false
 
 -- data left after EL, or after 64: out of buffers
-pub outOfBuffers : T (eqb (phase (filling 62 1 0x98 .unit)) 5 && eqb (phase (filling 63 1 0x98 .unit)) 7 && eqb (phase (filling 63 2 0x98 .unit)) 6
+pub outOfBuffers : T (eqb (phase (filling 62 1 0x98 .unit)) 5 && eqb (phase (filling 63 1 0x98 .unit)) 7
+    && eqb (phase (filling 63 2 0x98 .unit)) 6
     && eqb (phase (filling 0 0x8001 0x98 .unit)) 7)
 unfolding byteAt putByte bytesAt putBytes value digits fieldAt place field descriptorAt buffer service
 outOfBuffers = tt
@@ -194,7 +200,8 @@ unfolding byteAt putByte bytesAt putBytes value digits fieldAt place field count
 keptOrNot = tt
 
 -- either way RSCERRS follows if otherwise good, and No Resources
-pub lackingAddsOne : T (eqb (counted (served (lacking true verdict.Good) [] .fate)) 12 && eqb (counted (served (lacking false verdict.Good) [] .fate)) 12
+pub lackingAddsOne : T (eqb (counted (served (lacking true verdict.Good) [] .fate)) 12
+    && eqb (counted (served (lacking false verdict.Good) [] .fate)) 12
     && eqb (counted (served (lacking true verdict.Crc) [] .fate)) 0 && eqb (phase (served (lacking false verdict.Good) [] .unit)) 2)
 unfolding byteAt putByte bytesAt putBytes value digits fieldAt place field counts frameStatus settles lack service
 lackingAddsOne = tt

@@ -27,6 +27,7 @@ unfolding field joined eventBits acknowledged
 acknowledgedByTheirBits = tt
 
 -- 10-8 CUC; 7 RESET; 6-4 RUC
-pub commandWord : T (eqb (cuc 0x0C4F) 4 && eqb (ruc 0x0C4F) 4 && not (resets 0x0C4F) && eqb (cuc 0xF8FF) 0 && eqb (ruc 0xFF8F) 0 && resets 0x0080)
+pub commandWord : T (eqb (cuc 0x0C4F) 4 && eqb (ruc 0x0C4F) 4 && not (resets 0x0C4F)
+    && eqb (cuc 0xF8FF) 0 && eqb (ruc 0xFF8F) 0 && resets 0x0080)
 unfolding field
 commandWord = tt

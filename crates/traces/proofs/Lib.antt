@@ -1,2 +1,2 @@
--- What an answer says.
+-- What an answer says, and what an event is.
 pub mod Shown
