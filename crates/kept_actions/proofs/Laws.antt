@@ -2,13 +2,13 @@
 use mathlib.Core.Path.{_≡_, refl, sym, ap, _∙_}
 use mathlib.Core.Bool.{true, false}
 use mathlib.Core.List.{List, [], _∷_, _++_}
-use Prim.Native.Nat.{ℕ, suc, _+_, _*_, _/_, _%_, _≤_, _<_}
+use Prim.Native.Nat.{ℕ, zero, suc, _+_, _*_, _/_, _%_, _≤_, _<_}
+use native.Mathlib.Nat.{div-one}
 use native.Mathlib.Omega.{arith}
-use lib.Dec.{T, eqb, ltb, eqb→eq}
+use lib.Dec.{eqb, ltb}
 use lib.ListN.{length, getD, set, replicate, length-replicate, length-append}
 use lib.Seq.{sets, sets-eq, length-sets, drop-at}
 use Rattle.scb.specs.Words.{one, field, bit}
-use Rattle.scb.proofs.Below.{all, below}
 use Rattle.device.specs.declared.Settings.{Settings}
 use Rattle.phases.proofs.Units.{one-below}
 use Rattle.actions.specs.Setup.{Setup}
@@ -89,25 +89,27 @@ listing-set s b bs h =
 
 -- ---- a setup's settings
 
--- bit 7 of a byte is its half, and bits 0 and 1 are its rest by 4: every byte, computed
-all-high : T (all (λ k. eqb (k / 128) (one (bit k 7))) 256)
-unfolding field
-all-high = tt
+one-two : (k : ℕ) → k < 2 → one (eqb k 1) ≡ k
+one-two zero h = refl
+one-two (suc zero) h = refl
+one-two (suc (suc k)) h = absurd (omega arith)
 
-all-low : T (all (λ k. eqb (k % 4 * 2) (2 * one (bit k 0) + 4 * one (bit k 1))) 256)
-unfolding field
-all-low = tt
+one-odd : (x : ℕ) → one (eqb (x % 2) 1) ≡ x % 2
+one-odd x = one-two (x % 2) (omega arith)
 
+-- bit 7 of a byte is its half, and bits 0 and 1 are its rest by 4
 high-bit : (n : ℕ) → n < 256 → n / 128 ≡ one (bit n 7)
-high-bit n g = eqb→eq _ _ (below (λ k. eqb (k / 128) (one (bit k 7))) 256 all-high n g)
+unfolding field
+high-bit n g = rw (one-odd (n / 128)) (omega arith)
 
-low-bits : (n : ℕ) → n < 256 → n % 4 * 2 ≡ 2 * one (bit n 0) + 4 * one (bit n 1)
-low-bits n g = eqb→eq _ _ (below (λ k. eqb (k % 4 * 2) (2 * one (bit k 0) + 4 * one (bit k 1))) 256 all-low n g)
+low-bits : (n : ℕ) → n % 4 * 2 ≡ 2 * one (bit n 0) + 4 * one (bit n 1)
+unfolding field
+low-bits n = rw (div-one n, one-odd n, one-odd (n / 2)) (omega arith)
 
 module _ (count : ℕ) (byte : ℕ → ℕ) (s : Settings) (g : byte 2 < 256) where
   pub settings-taken : ltb 8 count ≡ true → byte 8 < 256 → byte 2 / 128 + byte 8 % 4 * 2 ≡ settingsByte (settingsBy count byte s)
   unfolding settingsBy
-  settings-taken e l = rw e (omega (arith, high-bit (byte 2) g, low-bits (byte 8) l))
+  settings-taken e l = rw e (omega (arith, high-bit (byte 2) g, low-bits (byte 8)))
 
   pub settings-kept : ltb 8 count ≡ false → (kept : ℕ) → kept ≡ settingsByte s → byte 2 / 128 + kept / 2 * 2 ≡ settingsByte (settingsBy count byte s)
   unfolding settingsBy

@@ -1,4 +1,5 @@
 -- `words::read64` meets its contract. Assumes nothing.
+use mathlib.Core.Path.{sym}
 use Rattle.words.proofs.Laws.{eight}
 use borrow.Author.Needs.{needs}
 use Rattle.words.proofs.read64.Statement.{statement}
@@ -45,4 +46,15 @@ read64-spec =
     (λ c κs. search needs)
     (λ c. search needs)
     (λ c. search needs)
-    (λ c. let s : tie.Start = search needs in cc (eight (s .args .r .now) (s .args .at))))
+    (λ c.
+    let s : tie.Start = search needs in
+    rw (
+      c .wide8 .ensures .0,
+      c .before .before .wide7 .ensures .0,
+      c .before .before .before .before .wide6 .ensures .0,
+      c .before .before .before .before .before .before .wide5 .ensures .0,
+      c .before .before .before .before .before .before .before .before .wide4 .ensures .0,
+      c .before .before .before .before .before .before .before .before .before .before .wide3 .ensures .0,
+      c .before .before .before .before .before .before .before .before .before .before .before .before .wide2 .ensures .0,
+      c .before .before .before .before .before .before .before .before .before .before .before .before .before .before .wide .ensures .0,
+    ) (sym (eight (s .args .r .now) (s .args .at)))))
