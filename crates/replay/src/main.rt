@@ -54,7 +54,7 @@ fn run_stretch(
     requires { ⌜ newlines (now input) ≤ 1 ⌝ }
     ensures { λ r. ⌜ Runs (ran (emptiedIn (stateOf s (now (memory .entry)) (now (holding .entry)) (now (outgoing .entry)) (now (bytes .entry)) (now (out .entry)))) (now (input .entry))) r (now (memory .exit)) (now (holding .exit)) (now (outgoing .exit)) (now (bytes .exit)) (now (out .exit)) ⌝ }
 {
-    let t = session::run(
+    let t = running::run(
         session::emptied(s),
         memory,
         holding,
@@ -87,18 +87,34 @@ fn run_lines(
     t
 }
 
-// A session, and whether there may be more input for it.
-struct Step {
-    session: Session,
-    more: bool,
+// The next piece of input, as much as the slice takes; how many bytes it has. None is there at the end, nor where it cannot be read, which is told.
+fn read_piece(input: &mut [u8], fd: i32) -> usize
+    ensures { λ r. ⌜ r ≤ length (now (input .exit)) ⌝ }
+{
+    let got = libc::read(fd, input);
+    if got < 0 {
+        os::fail(b"read");
+        return 0;
+    }
+    io::count(got, input)
 }
 
-fn step_of(session: Session, more: bool) -> Step {
-    Step { session, more }
+// How many turns of the loop are left behind a piece of n bytes: none, if the input has ended or a line was wrong.
+fn turns_left(turns: u64, n: usize, stopped: bool) -> u64
+    requires { ⌜ 0 < turns ⌝ }
+    ensures { λ r. ⌜ r < turns ⌝ }
+{
+    if stopped {
+        return 0;
+    }
+    if n == 0 {
+        return 0;
+    }
+    turns - 1
 }
 
-// The next piece of input.
-fn run_piece(
+// Piece by piece. A proved loop has to end, and nothing says that a file does: the loop counts its turns, up to a number that no run uses up.
+fn run_pieces(
     s: Session,
     memory: &mut [u8],
     holding: &mut [u8],
@@ -106,22 +122,19 @@ fn run_piece(
     bytes: &mut [u8],
     out: &mut [u8],
     fd: i32,
-) -> Step {
+) -> Session {
     let mut input = io::buffer();
-    let got = libc::read(fd, &mut input);
-    if got < 0 {
-        os::fail(b"read");
-        return step_of(s, false);
+    let mut t = s;
+    let mut turns = u64::MAX;
+    while turns > 0 {
+        let n = read_piece(&mut input, fd);
+        t = run_lines(t, memory, holding, outgoing, bytes, &input[..n], out);
+        turns = turns_left(turns, n, t.stopped);
     }
-    let n = io::count(got, &input);
-    if n == 0 {
-        return step_of(s, false);
-    }
-    let t = run_lines(s, memory, holding, outgoing, bytes, &input[..n], out);
-    step_of(t, !t.stopped)
+    t
 }
 
-// All of the input. A proved loop has to end, and nothing says that a file does: the loop counts its turns, up to a number that no run uses up.
+// All of the input; the last line needs no newline.
 fn run_all(
     memory: &mut [u8],
     holding: &mut [u8],
@@ -130,16 +143,7 @@ fn run_all(
     out: &mut [u8],
     fd: i32,
 ) {
-    let mut s = session::start();
-    let mut turns = u64::MAX;
-    let mut more = true;
-    while turns > 0 && more {
-        let step = run_piece(s, memory, holding, outgoing, bytes, out, fd);
-        s = step.session;
-        more = step.more;
-        turns -= 1;
-    }
-    // the last line needs no newline
+    let s = run_pieces(session::start(), memory, holding, outgoing, bytes, out, fd);
     run_stretch(s, memory, holding, outgoing, bytes, b"\n", out);
 }
 
