@@ -1,4 +1,4 @@
--- `replay::line_end` meets its contract. The invariant: no line ends before i. Assumes nothing.
+-- `stretches::line_end` meets its contract. The invariant: no line ends before i. Assumes nothing.
 use mathlib.Core.Path.{_≡_}
 use Prim.Native.Nat.{_-_, _<_, _≤_}
 use native.Mathlib.Omega.{arith}
@@ -6,8 +6,8 @@ use borrow.Author.Needs.{needs}
 use lib.ListN.{length, take, drop}
 use Rattle.printing.specs.Run.{newlines}
 use Rattle.printing.proofs.Cuts.{no-line-ends, none-ends, one-ends}
-use Rattle.replay.proofs.line_end.Statement.{statement}
-use Rattle.replay.proofs.line_end.Tie as tie
+use Rattle.stretches.proofs.line_end.Statement.{statement}
+use Rattle.stretches.proofs.line_end.Tie as tie
 
 abbrev Inv-loop : tie.InvT-loop
 Inv-loop input from i₀ i = (from ≤ i) × (i ≤ length input) × (newlines (take (i - from) (drop from input)) ≡ 0)
