@@ -107,8 +107,6 @@ pub fn obey(
             own,
             out,
         ),
-        Deed::Host(part) => scene::host(
-            part, verb, line, p, memory, holding, outgoing, own, out,
-        ),
+        Deed::Host(part) => scene::host(part, verb, line, p, memory, holding, outgoing, own, out),
     }
 }

@@ -50,7 +50,7 @@ pub fn is_right(r: Reader) -> bool
 {
     let f = r.fault;
     let wrong = f.wrong;
-    wording::is_nothing(wrong)
+    wants::is_nothing(wrong)
 }
 
 // The reader behind a character that says nothing more.
@@ -103,7 +103,7 @@ fn end_word(bytes: &mut [u8], r: Reader) -> Reader
     let line = r.line;
     let w = r.word;
     let verb = line.verb;
-    let t = wording::take(bytes, line, w, wording::wanted(verb, line.taken));
+    let t = taking::take(bytes, line, w, wants::wanted(verb, line.taken));
     with_taken(r, t)
 }
 
@@ -139,10 +139,10 @@ fn more_text(bytes: &mut [u8], r: Reader, c: u8) -> Reader
 fn first_of(bytes: &mut [u8], r: Reader, c: u8, want: Want) -> Reader
     ensures { λ x. ⌜ reader.Reads (reader.firstOf want r c (now (bytes .entry))) x (now (bytes .exit)) ⌝ }
 {
-    if wording::is_text(want) {
+    if wants::is_text(want) {
         return more_text(bytes, r, c);
     }
-    if wording::is_end(want) {
+    if wants::is_end(want) {
         return with_fault(r, wording::fault_at(Wrong::End, r.column));
     }
     begin_word(r, c)
@@ -160,7 +160,7 @@ fn between(bytes: &mut [u8], r: Reader, c: u8) -> Reader
     if c == 35 {
         return past(r, Part::Comment);
     }
-    first_of(bytes, r, c, wording::wanted(verb, line.taken))
+    first_of(bytes, r, c, wants::wanted(verb, line.taken))
 }
 
 // A further character of a word.
@@ -254,7 +254,7 @@ fn judge(r: Reader) -> Reader
 {
     let line = r.line;
     if is_right(r) {
-        return with_fault(r, wording::judged(line, r.behind));
+        return with_fault(r, wants::judged(line, r.behind));
     }
     r
 }

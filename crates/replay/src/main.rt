@@ -1,44 +1,12 @@
 // Replays a list of calls and host writes, from the file that its argument names or from standard input, and prints each answer.
-// docs/replay.md has the forms. What is done with the input is the session's; here it is read, cut at line ends, and what was put is written.
+// docs/replay.md has the forms. What is done with the input is `running`'s; here it is run stretch by stretch.
 use libc::STDIN_FILENO;
-use libc::STDOUT_FILENO;
 use session::Session;
 ghost use mathlib.Core.Path.{_≡_};
-ghost use Prim.Native.Nat.{_-_, _<_, _≤_};
-ghost use lib.ListN.{length, take, drop};
+ghost use Prim.Native.Nat.{_≤_};
+ghost use lib.ListN.{length};
 ghost use Rattle.session.specs.Run.{stateOf, Runs, ran};
 ghost use Rattle.printing.specs.Run.{newlines, emptiedIn};
-
-// The smaller of two numbers.
-fn least(a: usize, b: usize) -> usize
-    ensures { λ r. ⌜ (r ≤ a) × (r ≤ b) ⌝ }
-{
-    if a < b {
-        return a;
-    }
-    b
-}
-
-// Where the line that `from` lies in ends: behind its newline, or at the end of the input. So at most one line ends up to there.
-fn line_end(input: &[u8], from: usize) -> usize
-    requires { ⌜ from < length (now input) ⌝ }
-    ensures { λ r. ⌜ (from < r) × (r ≤ length (now (input .entry))) × (newlines (take (r - from) (drop from (now (input .entry)))) ≤ 1) ⌝ }
-{
-    let mut i = from;
-    while i < input.len() {
-        if input[i] == 10 {
-            return i + 1;
-        }
-        i += 1;
-    }
-    i
-}
-
-// What a session has printed is written out; whether that went well.
-fn written(s: Session, out: &[u8]) -> bool {
-    let n = least(s.at, out.len());
-    io::write_all(STDOUT_FILENO, &out[..n])
-}
 
 // A stretch of input is run and what it prints is written out. The slice for texts has room for what any one line prints: `one-line-fits` in
 // the room `printing`, where this is a step of `inStretches`.
@@ -54,7 +22,7 @@ fn run_stretch(
     requires { ⌜ newlines (now input) ≤ 1 ⌝ }
     ensures { λ r. ⌜ Runs (ran (emptiedIn (stateOf s (now (memory .entry)) (now (holding .entry)) (now (outgoing .entry)) (now (bytes .entry)) (now (out .entry)))) (now (input .entry))) r (now (memory .exit)) (now (holding .exit)) (now (outgoing .exit)) (now (bytes .exit)) (now (out .exit)) ⌝ }
 {
-    let t = session::run(
+    let t = running::run(
         session::emptied(s),
         memory,
         holding,
@@ -63,7 +31,7 @@ fn run_stretch(
         input,
         out,
     );
-    written(t, out);
+    stretches::write_out(t, out);
     t
 }
 
@@ -80,48 +48,15 @@ fn run_lines(
     let mut t = s;
     let mut from: usize = 0;
     while from < input.len() {
-        let to = line_end(input, from);
+        let to = stretches::line_end(input, from);
         t = run_stretch(t, memory, holding, outgoing, bytes, &input[from..to], out);
         from = to;
     }
     t
 }
 
-// A session, and whether there may be more input for it.
-struct Step {
-    session: Session,
-    more: bool,
-}
-
-fn step_of(session: Session, more: bool) -> Step {
-    Step { session, more }
-}
-
-// The next piece of input.
-fn run_piece(
-    s: Session,
-    memory: &mut [u8],
-    holding: &mut [u8],
-    outgoing: &mut [u8],
-    bytes: &mut [u8],
-    out: &mut [u8],
-    fd: i32,
-) -> Step {
-    let mut input = io::buffer();
-    let got = libc::read(fd, &mut input);
-    if got < 0 {
-        os::fail(b"read");
-        return step_of(s, false);
-    }
-    let n = io::count(got, &input);
-    if n == 0 {
-        return step_of(s, false);
-    }
-    let t = run_lines(s, memory, holding, outgoing, bytes, &input[..n], out);
-    step_of(t, !t.stopped)
-}
-
-// All of the input. A proved loop has to end, and nothing says that a file does: the loop counts its turns, up to a number that no run uses up.
+// All of the input, piece by piece. A proved loop has to end, and nothing says that a file does: the loop counts its turns, up to a number
+// that no run uses up.
 fn run_all(
     memory: &mut [u8],
     holding: &mut [u8],
@@ -130,17 +65,15 @@ fn run_all(
     out: &mut [u8],
     fd: i32,
 ) {
+    let mut input = io::buffer();
     let mut s = session::start();
     let mut turns = u64::MAX;
-    let mut more = true;
-    while turns > 0 && more {
-        let step = run_piece(s, memory, holding, outgoing, bytes, out, fd);
-        s = step.session;
-        more = step.more;
-        turns -= 1;
+    while turns > 0 {
+        let piece = stretches::read_piece(&mut input, fd);
+        let n = piece.length;
+        s = run_lines(s, memory, holding, outgoing, bytes, &input[..n], out);
+        turns = stretches::turns_left(turns, piece.last, s.stopped);
     }
-    // the last line needs no newline
-    run_stretch(s, memory, holding, outgoing, bytes, b"\n", out);
 }
 
 // Room for what one line prints: 65,535 answers of at most 20 characters are the most.

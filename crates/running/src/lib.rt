@@ -37,22 +37,6 @@ fn judge(
     session::stop(s, reader, out)
 }
 
-// A line's end.
-fn end_line(
-    s: Session,
-    memory: &mut [u8],
-    holding: &mut [u8],
-    outgoing: &mut [u8],
-    bytes: &mut [u8],
-    out: &mut [u8],
-) -> Session
-    ensures { λ r. ⌜ Runs (run.lineEnded (run.stateOf s (now (memory .entry)) (now (holding .entry)) (now (outgoing .entry)) (now (bytes .entry)) (now (out .entry)))) r (now (memory .exit)) (now (holding .exit)) (now (outgoing .exit)) (now (bytes .exit)) (now (out .exit)) ⌝ }
-{
-    let r = s.reader;
-    let reader = lines::end(bytes, r);
-    judge(s, reader, memory, holding, outgoing, bytes, out)
-}
-
 // A character.
 fn feed(
     s: Session,
@@ -65,14 +49,11 @@ fn feed(
 ) -> Session
     ensures { λ r. ⌜ Runs (run.fed (run.stateOf s (now (memory .entry)) (now (holding .entry)) (now (outgoing .entry)) (now (bytes .entry)) (now (out .entry))) c) r (now (memory .exit)) (now (holding .exit)) (now (outgoing .exit)) (now (bytes .exit)) (now (out .exit)) ⌝ }
 {
-    if s.stopped {
-        return s;
+    let reader = session::read_on(s, bytes, c);
+    if session::ends_line(s, c) {
+        return judge(s, reader, memory, holding, outgoing, bytes, out);
     }
-    if c == 10 {
-        return end_line(s, memory, holding, outgoing, bytes, out);
-    }
-    let r = s.reader;
-    session::with_reader(s, lines::read(bytes, r, c))
+    session::with_reader(s, reader)
 }
 
 // A stretch of input.

@@ -4,7 +4,6 @@ use mathlib.Core.Bool.{Bool, true, false, cond}
 use mathlib.Core.List.{List, [], _∷_, _++_}
 use Prim.Native.Nat.{ℕ, zero, suc, _+_, _<_, min}
 use native.Mathlib.Omega.{arith}
-use borrow.Author.Tests.{eq-eqb, ne-eqb}
 use lib.Dec.{eqb}
 use lib.ListN.{length, take, getD}
 use Rattle.board.proofs.Laws.{take-least}
@@ -14,7 +13,7 @@ use Rattle.lines.specs.Reader as lines
 use Rattle.scene.specs.declared.Play.{Play}
 use Rattle.scene.specs.Scene.{Scene, playOf, sceneOf, Plays, obeyed}
 use Rattle.session.specs.declared.Session.{Session}
-use Rattle.session.specs.Run.{State, stateOf, Runs, withReader, nextLine, stoppedBy, lineObeyed, judged, lineEnded, readBy, fed, ran}
+use Rattle.session.specs.Run.{State, stateOf, Runs, withReader, nextLine, stoppedBy, lineObeyed, judged, endedBy, lineEnded, readBy, fed, ran, readOn, endsLine}
 
 -- ---- what was left is what is said
 
@@ -76,49 +75,33 @@ module _ (s : Session) (r : Reader) (m h og by out : List ℕ) (t : Session) (m�
   judged-wrong y z =
       subst (λ (k : State). Runs k t m′ h′ og′ by o′) (sym (refuse (lines.isRight r) (lineObeyed s (r .line) m h og by out) (stoppedBy s r m h og by out) (sym is ∙ y))) z
 
--- a line that was read to its end and judged
-pub ended : (s : Session) (m h og out : List ℕ) (e : lines.Read) (r : Reader) (by : List ℕ) (t : Session) (m′ h′ og′ o′ : List ℕ) → lines.Reads e r by
-    → Runs (judged s r m h og by out) t m′ h′ og′ by o′
-    → Runs (judged s (e .reader) m h og (e .bytes) out) t m′ h′ og′ by o′
-ended s m h og out e r by t m′ h′ og′ o′ x z =
-    subst (λ (k : lines.Read). Runs (judged s (k .reader) m h og (k .bytes) out) t m′ h′ og′ by o′) (read-is e r by x) z
-
+-- a character ends a line and what was read is judged, or it is read
 module _ (s : Session) (m h og by out : List ℕ) where
   abbrev before : State
   before = stateOf s m h og by out
 
-  abbrev otherwise : ℕ → State
-  otherwise c = readBy before (lines.read (s .reader) c by)
+  parted : (a b : Bool) (x y z : lines.Read) → readBy before x ≡ before
+      → cond (cond a false b) (endedBy before (cond a x (cond b y z))) (readBy before (cond a x (cond b y z))) ≡ cond a before (cond b (endedBy before y) (readBy before z))
+  parted true b x y z e = e
+  parted false true x y z e = refl
+  parted false false x y z e = refl
 
-  pub fed-stopped : (c : ℕ) → s .stopped ≡ true → Runs (fed before c) s m h og by out
-  unfolding fed
-  fed-stopped c e =
-      subst (λ (k : State). Runs k s m h og by out) (sym (choose (s .stopped) before (cond (eqb c 10) (lineEnded before) (otherwise c)) e))
-      (record { session = refl; memory = refl; holding = refl; outgoing = refl; bytes = refl; out = refl })
+  module _ (c : ℕ) (r : Reader) (by′ : List ℕ) (t : Session) (ends : Bool) (x : lines.Reads (readOn s c by) r by′) (is : ends ≡ endsLine s c) where
+    fed-as : cond ends (judged s r m h og by′ out) (stateOf (withReader s r) m h og by′ out) ≡ fed before c
+    unfolding fed lineEnded
+    fed-as =
+        ap (λ (k : Bool). cond k (judged s r m h og by′ out) (stateOf (withReader s r) m h og by′ out)) is
+        ∙ ap (λ (k : lines.Read). cond (endsLine s c) (endedBy before k) (readBy before k)) (read-is (readOn s c by) r by′ x)
+        ∙ parted (s .stopped) (eqb c 10) (lines.left (s .reader) by) (lines.end (s .reader) by) (lines.read (s .reader) c by) refl
 
-  pub fed-newline : (c : ℕ) (t : Session) (m′ h′ og′ by′ o′ : List ℕ) → s .stopped ≡ false → c ≡ 10 → Runs (lineEnded before) t m′ h′ og′ by′ o′
-      → Runs (fed before c) t m′ h′ og′ by′ o′
-  unfolding fed
-  fed-newline c t m′ h′ og′ by′ o′ e n z =
-      subst (λ (k : State). Runs k t m′ h′ og′ by′ o′)
-      (sym (refuse (s .stopped) before (cond (eqb c 10) (lineEnded before) (otherwise c)) e ∙ choose (eqb c 10) (lineEnded before) (otherwise c) (eq-eqb c 10 n)))
-      z
+    pub fed-end : (m′ h′ og′ o′ : List ℕ) → ends ≡ true → Runs (judged s r m h og by′ out) t m′ h′ og′ by′ o′ → Runs (fed before c) t m′ h′ og′ by′ o′
+    fed-end m′ h′ og′ o′ y z =
+        subst (λ (k : State). Runs k t m′ h′ og′ by′ o′) (sym (choose ends (judged s r m h og by′ out) (stateOf (withReader s r) m h og by′ out) y) ∙ fed-as) z
 
-  pub fed-other : (c : ℕ) (r : Reader) (by′ : List ℕ) (t : Session) → s .stopped ≡ false → (c ≡ 10 → ⊥) → lines.Reads (lines.read (s .reader) c by) r by′
-      → t ≡ withReader s r
-      → Runs (fed before c) t m h og by′ out
-  unfolding fed
-  fed-other c r by′ t e n x w =
-      subst (λ (k : State). Runs k t m h og by′ out)
-      (sym (refuse (s .stopped) before (cond (eqb c 10) (lineEnded before) (otherwise c)) e ∙ refuse (eqb c 10) (lineEnded before) (otherwise c) (ne-eqb c 10 n)))
-      (record {
-        session = w ∙ ap (withReader s) (x .reader);
-        memory = refl;
-        holding = refl;
-        outgoing = refl;
-        bytes = x .bytes;
-        out = refl;
-      })
+    pub fed-on : ends ≡ false → t ≡ withReader s r → Runs (fed before c) t m h og by′ out
+    fed-on y z =
+        subst (λ (k : State). Runs k t m h og by′ out) (sym (refuse ends (judged s r m h og by′ out) (stateOf (withReader s r) m h og by′ out) y) ∙ fed-as)
+        (record { session = z; memory = refl; holding = refl; outgoing = refl; bytes = refl; out = refl })
 
 -- ---- a stretch
 

@@ -118,3 +118,14 @@ fed st c =
 unfoldable pub ran : State → List ℕ → State
 ran st [] = st
 ran st (c ∷ cs) = ran (fed st c) cs
+
+-- ---- how the code takes a character: what it makes of the reader, and whether it ends a line
+
+abbrev pub readOn : Session → ℕ → List ℕ → lines.Read
+readOn s c by =
+    cond (s .stopped) (lines.left (s .reader) by)
+    (cond (eqb c 10) (lines.end (s .reader) by)
+    (lines.read (s .reader) c by))
+
+abbrev pub endsLine : Session → ℕ → Bool
+endsLine s c = cond (s .stopped) false (eqb c 10)

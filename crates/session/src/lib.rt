@@ -8,6 +8,7 @@ use wording::Wrong;
 ghost use mathlib.Core.Path.{_≡_};
 ghost use mathlib.Core.List.{List};
 ghost use Prim.Native.Nat.{ℕ, min};
+ghost use Rattle.lines.specs.Reader as lines;
 ghost use Rattle.session.specs.Run.{Runs};
 ghost use Rattle.session.specs.Run as run;
 
@@ -101,4 +102,28 @@ pub fn own_length(filled: u32, most: usize) -> usize
         return n;
     }
     most
+}
+
+// What a character makes of the reader: at a line's end what was read is ended; after bad input nothing more is read.
+pub fn read_on(s: Session, bytes: &mut [u8], c: u8) -> Reader
+    ensures { λ r. ⌜ lines.Reads (run.readOn s c (now (bytes .entry))) r (now (bytes .exit)) ⌝ }
+{
+    let r = s.reader;
+    if s.stopped {
+        return r;
+    }
+    if c == 10 {
+        return lines::end(bytes, r);
+    }
+    lines::read(bytes, r, c)
+}
+
+// Whether a character ends a line: 10 does, but after bad input none.
+pub fn ends_line(s: Session, c: u8) -> bool
+    ensures { λ r. ⌜ r ≡ run.endsLine s c ⌝ }
+{
+    if s.stopped {
+        return false;
+    }
+    c == 10
 }

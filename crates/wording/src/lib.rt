@@ -1,6 +1,6 @@
-// The words of a list of calls: how a word is read, character by character, what a line's words must be, and what each makes of its line.
-// docs/replay.md has the forms. The bytes that a line brings go to a slice that is lent beside it; what would pass its end goes nowhere.
-// It takes every slice, every word and every line.
+// The words of a list of calls: how a word is read, character by character, as a name, a number or a piece of bytes; and, in specs/, what a
+// line's words must be and what each makes of its line. docs/replay.md has the forms. The bytes that a line brings go to a slice that is lent
+// beside it; what would pass its end goes nowhere. It takes every slice, every word and every line.
 ghost use mathlib.Core.Path.{_≡_};
 ghost use Prim.Native.Nat.{_-_, min};
 ghost use lib.ListN.{set, replicate};
@@ -9,7 +9,6 @@ ghost use Rattle.wording.specs.Chars as chars;
 ghost use Rattle.wording.specs.Names as names;
 ghost use Rattle.wording.specs.Words as words;
 ghost use Rattle.wording.specs.Lines as lines;
-ghost use Rattle.wording.specs.Take as take;
 
 // What a line does, by its first word.
 pub enum Verb {
@@ -124,7 +123,7 @@ pub struct Fault {
 }
 
 // Numbers are told apart up to this one; it stands for all above.
-const MANY: u64 = 0x1_0000_0000;
+pub const MANY: u64 = 0x1_0000_0000;
 
 // Bytes and words of a line are counted up to this one.
 const MOST: u64 = 65537;
@@ -183,7 +182,7 @@ pub fn further(column: u32) -> u32
 }
 
 // n, or the bound if n is beyond it.
-fn capped(n: u64, bound: u64) -> u64
+pub fn capped(n: u64, bound: u64) -> u64
     ensures { λ r. ⌜ r ≡ min n bound ⌝ }
 {
     if n < bound {
@@ -221,7 +220,7 @@ fn more_letters(letters: u64, c: u8) -> u64
 }
 
 // The verb that a first word names.
-fn verb_of(letters: u64) -> Verb
+pub fn verb_of(letters: u64) -> Verb
     ensures { λ r. ⌜ r ≡ names.verbOf letters ⌝ }
 {
     match letters {
@@ -249,7 +248,7 @@ pub enum Named {
 }
 
 // The area that a word names.
-fn area_of(letters: u64) -> Named
+pub fn area_of(letters: u64) -> Named
     ensures { λ r. ⌜ r ≡ names.areaOf letters ⌝ }
 {
     match letters {
@@ -332,7 +331,7 @@ fn number(n: u64) -> Found
 }
 
 // The number that a whole word is, if it is one.
-fn number_of(n: Digits) -> Found
+pub fn number_of(n: Digits) -> Found
     ensures { λ r. ⌜ r ≡ words.numberOf n ⌝ }
 {
     if n.closed {
@@ -449,7 +448,7 @@ fn room(end: usize, i: usize, n: usize) -> usize
 }
 
 // The byte goes to n places from i on, as far as there are such.
-fn fill(bytes: &mut [u8], i: usize, n: usize, b: u8)
+pub fn fill(bytes: &mut [u8], i: usize, n: usize, b: u8)
     ensures { λ _. ⌜ now (bytes .exit) ≡ sets (now (bytes .entry)) i (replicate n b) ⌝ }
 {
     let k = room(bytes.len(), i, n);
@@ -529,104 +528,8 @@ pub fn no_line() -> Line
     }
 }
 
-// By how many words a line has.
-fn want_by(taken: u32, first: Want, second: Want, third: Want, then: Want) -> Want
-    ensures { λ r. ⌜ r ≡ lines.wantBy taken first second third then ⌝ }
-{
-    if taken == 0 {
-        return first;
-    }
-    if taken == 1 {
-        return second;
-    }
-    if taken == 2 {
-        return third;
-    }
-    then
-}
-
-// What the next word of a line must be.
-pub fn wanted(verb: Verb, taken: u32) -> Want
-    ensures { λ r. ⌜ r ≡ lines.wanted verb taken ⌝ }
-{
-    match verb {
-        Verb::Nothing => Want::First,
-        Verb::Size => want_by(taken, Want::Size, Want::End, Want::End, Want::End),
-        Verb::Reset => Want::End,
-        Verb::Attention => Want::End,
-        Verb::Arrival => want_by(taken, Want::Number, Want::Bytes, Want::Bytes, Want::Bytes),
-        Verb::Turn => want_by(taken, Want::Short, Want::Short, Want::End, Want::End),
-        Verb::Run => want_by(taken, Want::Short, Want::Short, Want::End, Want::End),
-        Verb::Bytes => want_by(taken, Want::Area, Want::Place, Want::Bytes, Want::Bytes),
-        Verb::Words => want_by(taken, Want::Area, Want::Place, Want::Value, Want::Value),
-        Verb::Show => want_by(taken, Want::Area, Want::Place, Want::Number, Want::End),
-        Verb::Look => want_by(taken, Want::Area, Want::Place, Want::Number, Want::End),
-        Verb::Interrupt => Want::End,
-        Verb::Record => Want::End,
-        Verb::Say => Want::Text,
-    }
-}
-
-// Whether the rest of the line is a text.
-pub fn is_text(want: Want) -> bool
-    ensures { λ r. ⌜ r ≡ lines.isText want ⌝ }
-{
-    match want {
-        Want::First => false,
-        Want::Size => false,
-        Want::Short => false,
-        Want::Number => false,
-        Want::Area => false,
-        Want::Place => false,
-        Want::Bytes => false,
-        Want::Value => false,
-        Want::Text => true,
-        Want::End => false,
-    }
-}
-
-// Whether no further word may stand.
-pub fn is_end(want: Want) -> bool
-    ensures { λ r. ⌜ r ≡ lines.isEnd want ⌝ }
-{
-    match want {
-        Want::First => false,
-        Want::Size => false,
-        Want::Short => false,
-        Want::Number => false,
-        Want::Area => false,
-        Want::Place => false,
-        Want::Bytes => false,
-        Want::Value => false,
-        Want::Text => false,
-        Want::End => true,
-    }
-}
-
-// How many words a line must have behind its verb.
-fn least(verb: Verb) -> u32
-    ensures { λ r. ⌜ r ≡ lines.least verb ⌝ }
-{
-    match verb {
-        Verb::Nothing => 0,
-        Verb::Size => 1,
-        Verb::Reset => 0,
-        Verb::Attention => 0,
-        Verb::Arrival => 1,
-        Verb::Turn => 0,
-        Verb::Run => 1,
-        Verb::Bytes => 2,
-        Verb::Words => 2,
-        Verb::Show => 3,
-        Verb::Look => 3,
-        Verb::Interrupt => 0,
-        Verb::Record => 0,
-        Verb::Say => 0,
-    }
-}
-
 // Whether a first word named a verb.
-fn is_verb(verb: Verb) -> bool
+pub fn is_verb(verb: Verb) -> bool
     ensures { λ r. ⌜ r ≡ lines.isVerb verb ⌝ }
 {
     match verb {
@@ -647,8 +550,6 @@ fn is_verb(verb: Verb) -> bool
     }
 }
 
-// ---- a word ends
-
 // What a word makes of its line, and what is wrong with it.
 pub struct Taken {
     pub line: Line,
@@ -668,252 +569,4 @@ pub fn no_fault() -> Fault
     ensures { λ r. ⌜ r ≡ lines.noFault ⌝ }
 {
     fault_at(Wrong::Nothing, 0)
-}
-
-fn taken_as(line: Line) -> Taken
-    ensures { λ r. ⌜ r ≡ take.takenAs line ⌝ }
-{
-    Taken {
-        line: line,
-        fault: no_fault(),
-    }
-}
-
-// The line with one word more.
-fn advanced(line: Line) -> Taken
-    ensures { λ r. ⌜ r ≡ take.advanced line ⌝ }
-{
-    taken_as(Line {
-        taken: counted(line.taken, 1),
-        ..line
-    })
-}
-
-// The line with one word more, and n bytes.
-fn brought(line: Line, n: u64) -> Taken
-    ensures { λ r. ⌜ r ≡ take.brought line n ⌝ }
-{
-    advanced(Line {
-        filled: counted(line.filled, n),
-        ..line
-    })
-}
-
-fn refused(line: Line, wrong: Wrong, column: u32) -> Taken
-    ensures { λ r. ⌜ r ≡ take.refused line wrong column ⌝ }
-{
-    Taken {
-        line: line,
-        fault: fault_at(wrong, column),
-    }
-}
-
-// A number in its slot: the first word's in the first, a later one's in the second.
-fn with_number(line: Line, n: u64) -> Line
-    ensures { λ r. ⌜ r ≡ take.withNumber line n ⌝ }
-{
-    if line.taken == 0 {
-        return Line { first: n, ..line };
-    }
-    Line { second: n, ..line }
-}
-
-fn take_verb(line: Line, verb: Verb, start: u32) -> Taken
-    ensures { λ r. ⌜ r ≡ take.takeVerb verb line start ⌝ }
-{
-    if is_verb(verb) {
-        return taken_as(Line { verb: verb, ..line });
-    }
-    refused(line, Wrong::First, start)
-}
-
-// A number below a bound; what is said of one that is not.
-fn take_number(line: Line, found: Found, start: u32, bound: u64, beyond: Wrong) -> Taken
-    ensures { λ r. ⌜ r ≡ take.takeNumber found line start bound beyond ⌝ }
-{
-    match found {
-        Found::Number(n) => {
-            if n < bound {
-                return advanced(with_number(line, n));
-            }
-            refused(line, beyond, start)
-        }
-        Found::Other => refused(line, Wrong::Number, start),
-    }
-}
-
-fn take_area(line: Line, named: Named, start: u32) -> Taken
-    ensures { λ r. ⌜ r ≡ take.takeArea named line start ⌝ }
-{
-    match named {
-        Named::Area(a) => advanced(Line { area: a, ..line }),
-        Named::Other => refused(line, Wrong::Area, start),
-    }
-}
-
-// A place below the area's size.
-fn take_place(line: Line, found: Found, start: u32, size: u64) -> Taken
-    ensures { λ r. ⌜ r ≡ take.takePlace found line start size ⌝ }
-{
-    match found {
-        Found::Number(n) => {
-            if n < size {
-                return advanced(Line {
-                    first: n,
-                    placed: start,
-                    ..line
-                });
-            }
-            refused(line, Wrong::Place, start)
-        }
-        Found::Other => refused(line, Wrong::Number, start),
-    }
-}
-
-// Bytes that were stored digit by digit, or one byte so often.
-fn take_bytes(bytes: &mut [u8], line: Line, p: Piece, stage: Stage, start: u32) -> Taken
-    ensures { λ r. ⌜ take.Takes (take.takeBytes stage p line start (now (bytes .entry))) r (now (bytes .exit)) ⌝ }
-{
-    match stage {
-        Stage::High => brought(line, p.stored as u64),
-        Stage::Low => refused(line, Wrong::Bytes, start),
-        Stage::TimesHigh => refused(line, Wrong::Bytes, start),
-        Stage::TimesLow => refused(line, Wrong::Bytes, start),
-        Stage::Times => {
-            fill(bytes, line.filled as usize, p.times as usize, p.half);
-            brought(line, p.times)
-        }
-        Stage::Bad => refused(line, Wrong::Bytes, start),
-    }
-}
-
-// A word of 16 bits goes to a place, low byte first.
-fn put_value(bytes: &mut [u8], i: u32, n: u64)
-    ensures { λ _. ⌜ now (bytes .exit) ≡ take.putValue i n (now (bytes .entry)) ⌝ }
-{
-    put(bytes, i as usize, (n % 256) as u8);
-    put(bytes, i as usize + 1, (n / 256 % 256) as u8);
-}
-
-fn take_value(bytes: &mut [u8], line: Line, found: Found, start: u32) -> Taken
-    ensures { λ r. ⌜ take.Takes (take.takeValue found line start (now (bytes .entry))) r (now (bytes .exit)) ⌝ }
-{
-    match found {
-        Found::Number(n) => {
-            if n < 65536 {
-                put_value(bytes, line.filled, n);
-                return brought(line, 2);
-            }
-            refused(line, Wrong::Short, start)
-        }
-        Found::Other => refused(line, Wrong::Number, start),
-    }
-}
-
-// A word that must be what is wanted.
-pub fn take(bytes: &mut [u8], line: Line, w: Word, want: Want) -> Taken
-    ensures { λ r. ⌜ take.Takes (take.takeWord want line w (now (bytes .entry))) r (now (bytes .exit)) ⌝ }
-{
-    let digits = w.digits;
-    let piece = w.piece;
-    let stage = piece.stage;
-    let area = line.area;
-    let found = number_of(digits);
-    match want {
-        Want::First => take_verb(line, verb_of(w.letters), w.start),
-        Want::Size => take_number(line, found, w.start, 65537, Wrong::Size),
-        Want::Short => take_number(line, found, w.start, 65536, Wrong::Short),
-        Want::Number => take_number(line, found, w.start, MANY, Wrong::Number),
-        Want::Area => take_area(line, area_of(w.letters), w.start),
-        Want::Place => take_place(line, found, w.start, size_of(area)),
-        Want::Bytes => take_bytes(bytes, line, piece, stage, w.start),
-        Want::Value => take_value(bytes, line, found, w.start),
-        Want::Text => refused(line, Wrong::End, w.start),
-        Want::End => refused(line, Wrong::End, w.start),
-    }
-}
-
-// ---- a line ends
-
-// What is missing from a line.
-fn missing(want: Want) -> Wrong
-    ensures { λ r. ⌜ r ≡ lines.missing want ⌝ }
-{
-    match want {
-        Want::First => Wrong::Number,
-        Want::Size => Wrong::Number,
-        Want::Short => Wrong::Number,
-        Want::Number => Wrong::Number,
-        Want::Area => Wrong::Area,
-        Want::Place => Wrong::Number,
-        Want::Bytes => Wrong::Number,
-        Want::Value => Wrong::Number,
-        Want::Text => Wrong::Number,
-        Want::End => Wrong::Number,
-    }
-}
-
-// Whether n bytes from a place on lie below the end.
-fn has_room(end: u64, place: u64, n: u64) -> bool
-    ensures { λ r. ⌜ r ≡ lines.hasRoom end place n ⌝ }
-{
-    if place <= end {
-        return n <= end - place;
-    }
-    false
-}
-
-// Whether what a line writes or shows lies in its area, which ends there.
-fn fits(verb: Verb, line: Line, end: u64) -> bool
-    ensures { λ r. ⌜ r ≡ lines.fits verb line end ⌝ }
-{
-    match verb {
-        Verb::Nothing => true,
-        Verb::Size => true,
-        Verb::Reset => true,
-        Verb::Attention => true,
-        Verb::Arrival => true,
-        Verb::Turn => true,
-        Verb::Run => true,
-        Verb::Bytes => has_room(end, line.first, line.filled as u64),
-        Verb::Words => has_room(end, line.first, line.filled as u64),
-        Verb::Show => has_room(end, line.first, line.second),
-        Verb::Look => has_room(end, line.first, capped(line.second, MANY) * 2),
-        Verb::Interrupt => true,
-        Verb::Record => true,
-        Verb::Say => true,
-    }
-}
-
-// What is wrong with a line that has ended.
-pub fn judged(line: Line, behind: u32) -> Fault
-    ensures { λ r. ⌜ r ≡ lines.judged line behind ⌝ }
-{
-    let verb = line.verb;
-    let area = line.area;
-    if line.taken < least(verb) {
-        return fault_at(missing(wanted(verb, line.taken)), behind);
-    }
-    if fits(verb, line, size_of(area)) {
-        return no_fault();
-    }
-    fault_at(Wrong::Room, line.placed)
-}
-
-// Whether nothing is wrong.
-pub fn is_nothing(wrong: Wrong) -> bool
-    ensures { λ r. ⌜ r ≡ lines.isNothing wrong ⌝ }
-{
-    match wrong {
-        Wrong::Nothing => true,
-        Wrong::First => false,
-        Wrong::Number => false,
-        Wrong::Size => false,
-        Wrong::Short => false,
-        Wrong::Area => false,
-        Wrong::Place => false,
-        Wrong::Bytes => false,
-        Wrong::Room => false,
-        Wrong::End => false,
-    }
 }
