@@ -31,8 +31,8 @@ fn lent(
         Which::Arrival => {
             front::receive_through(kept, memory, holding, outgoing, frame, asked.verdict)
         }
-        Which::Turn => front::turn_through(kept, memory, holding, outgoing, asked.report),
-        Which::Run => front::run_through(
+        Which::Turn => turning::turn_through(kept, memory, holding, outgoing, asked.report),
+        Which::Run => turning::run_through(
             kept,
             memory,
             holding,

@@ -1,6 +1,6 @@
-// The thin front: attention, arrival, turn and run on one device record that is lent and changed in place. Each makes the call that C makes,
-// on the record by value, and stores the record that it gives. A program holds its record by value, and calls the lenders, which lend it for
-// one call and give it back.
+// The thin front: attention and arrival on one device record that is lent and changed in place, and reset; turn and run are in the room
+// `turning`. Each makes the call that C makes, on the record by value, and stores the record that it gives. A program holds its record by
+// value, and calls the lenders, which lend it for one call and give it back.
 use board::Lent;
 use board::Record;
 ghost use Rattle.calls.specs.Calls as calls;
@@ -51,43 +51,6 @@ fn arrival_on(
     }
 }
 
-// A turn of the device of a record.
-fn turn_on(
-    d: Record,
-    memory: &mut [u8],
-    holding: &mut [u8],
-    outgoing: &mut [u8],
-    report: u16,
-) -> Lent
-    ensures { λ r. ⌜ front.Fronted (calls.turnCall (front.areasWith d (now (memory .entry)) (now (holding .entry)) (now (outgoing .entry))) report) (r .kept) (r .answer) (now (memory .exit)) (now (holding .exit)) (now (outgoing .exit)) ⌝ }
-{
-    let mut bytes = d.bytes;
-    let answer = lentoquist::lq_turn(memory, holding, outgoing, &mut bytes, report);
-    Lent {
-        kept: Record { bytes },
-        answer,
-    }
-}
-
-// A run of turns of the device of a record.
-fn run_on(
-    d: Record,
-    memory: &mut [u8],
-    holding: &mut [u8],
-    outgoing: &mut [u8],
-    report: u16,
-    budget: u16,
-) -> Lent
-    ensures { λ r. ⌜ front.Fronted (calls.runCall (front.areasWith d (now (memory .entry)) (now (holding .entry)) (now (outgoing .entry))) report budget) (r .kept) (r .answer) (now (memory .exit)) (now (holding .exit)) (now (outgoing .exit)) ⌝ }
-{
-    let mut bytes = d.bytes;
-    let answer = lentoquist::lq_run(memory, holding, outgoing, &mut bytes, report, budget);
-    Lent {
-        kept: Record { bytes },
-        answer,
-    }
-}
-
 // ---- the record in place
 
 // A channel attention.
@@ -113,37 +76,6 @@ pub fn receive(
     let arrived = arrival_on(*d, memory, holding, outgoing, frame, verdict);
     *d = arrived.kept;
     arrived.answer
-}
-
-// A turn, with the line report.
-pub fn turn(
-    d: &mut Record,
-    memory: &mut [u8],
-    holding: &mut [u8],
-    outgoing: &mut [u8],
-    report: u16,
-) -> u64
-    ensures { λ r. ⌜ front.Fronted (calls.turnCall (front.areasWith (now (d .entry)) (now (memory .entry)) (now (holding .entry)) (now (outgoing .entry))) report) (now (d .exit)) r (now (memory .exit)) (now (holding .exit)) (now (outgoing .exit)) ⌝ }
-{
-    let turned = turn_on(*d, memory, holding, outgoing, report);
-    *d = turned.kept;
-    turned.answer
-}
-
-// A run of turns, each with the same line report.
-pub fn run(
-    d: &mut Record,
-    memory: &mut [u8],
-    holding: &mut [u8],
-    outgoing: &mut [u8],
-    report: u16,
-    budget: u16,
-) -> u64
-    ensures { λ r. ⌜ front.Fronted (calls.runCall (front.areasWith (now (d .entry)) (now (memory .entry)) (now (holding .entry)) (now (outgoing .entry))) report budget) (now (d .exit)) r (now (memory .exit)) (now (holding .exit)) (now (outgoing .exit)) ⌝ }
-{
-    let ran = run_on(*d, memory, holding, outgoing, report, budget);
-    *d = ran.kept;
-    ran.answer
 }
 
 // ---- the lenders: the same calls for a caller that holds the record by value, in a loop or not
@@ -175,36 +107,5 @@ pub fn receive_through(
 {
     let mut d = kept;
     let answer = receive(&mut d, memory, holding, outgoing, frame, verdict);
-    Lent { kept: d, answer }
-}
-
-// A turn, through the front.
-pub fn turn_through(
-    kept: Record,
-    memory: &mut [u8],
-    holding: &mut [u8],
-    outgoing: &mut [u8],
-    report: u16,
-) -> Lent
-    ensures { λ r. ⌜ front.Fronted (calls.turnCall (front.areasWith kept (now (memory .entry)) (now (holding .entry)) (now (outgoing .entry))) report) (r .kept) (r .answer) (now (memory .exit)) (now (holding .exit)) (now (outgoing .exit)) ⌝ }
-{
-    let mut d = kept;
-    let answer = turn(&mut d, memory, holding, outgoing, report);
-    Lent { kept: d, answer }
-}
-
-// A run of turns, through the front.
-pub fn run_through(
-    kept: Record,
-    memory: &mut [u8],
-    holding: &mut [u8],
-    outgoing: &mut [u8],
-    report: u16,
-    budget: u16,
-) -> Lent
-    ensures { λ r. ⌜ front.Fronted (calls.runCall (front.areasWith kept (now (memory .entry)) (now (holding .entry)) (now (outgoing .entry))) report budget) (r .kept) (r .answer) (now (memory .exit)) (now (holding .exit)) (now (outgoing .exit)) ⌝ }
-{
-    let mut d = kept;
-    let answer = run(&mut d, memory, holding, outgoing, report, budget);
     Lent { kept: d, answer }
 }

@@ -3,37 +3,7 @@
 use libc::STDIN_FILENO;
 use session::Session;
 ghost use mathlib.Core.Path.{_≡_};
-ghost use Prim.Native.Nat.{_≤_};
 ghost use lib.ListN.{length};
-ghost use Rattle.session.specs.Run.{stateOf, Runs, ran};
-ghost use Rattle.printing.specs.Run.{newlines, emptiedIn};
-
-// A stretch of input is run and what it prints is written out. The slice for texts has room for what any one line prints: `one-line-fits` in
-// the room `printing`, where this is a step of `inStretches`.
-fn run_stretch(
-    s: Session,
-    memory: &mut [u8],
-    holding: &mut [u8],
-    outgoing: &mut [u8],
-    bytes: &mut [u8],
-    input: &[u8],
-    out: &mut [u8],
-) -> Session
-    requires { ⌜ newlines (now input) ≤ 1 ⌝ }
-    ensures { λ r. ⌜ Runs (ran (emptiedIn (stateOf s (now (memory .entry)) (now (holding .entry)) (now (outgoing .entry)) (now (bytes .entry)) (now (out .entry)))) (now (input .entry))) r (now (memory .exit)) (now (holding .exit)) (now (outgoing .exit)) (now (bytes .exit)) (now (out .exit)) ⌝ }
-{
-    let t = running::run(
-        session::emptied(s),
-        memory,
-        holding,
-        outgoing,
-        bytes,
-        input,
-        out,
-    );
-    stretches::write_out(t, out);
-    t
-}
 
 // A piece of input, line by line.
 fn run_lines(
@@ -49,7 +19,7 @@ fn run_lines(
     let mut from: usize = 0;
     while from < input.len() {
         let to = stretches::line_end(input, from);
-        t = run_stretch(t, memory, holding, outgoing, bytes, &input[from..to], out);
+        t = running::run_stretch(t, memory, holding, outgoing, bytes, &input[from..to], out);
         from = to;
     }
     t

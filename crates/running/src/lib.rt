@@ -1,9 +1,11 @@
 // A run of the replay program: characters are read, and at each line's end what was read is obeyed. docs/replay.md has the forms. A session
-// goes in and comes out, so a run in stretches is a run of the whole. It takes every session and slices of every length.
+// goes in and comes out, so a run in stretches is a run of the whole; what a stretch prints is written out. It takes every session and slices of every length.
 use lines::Reader;
 use session::Session;
+ghost use Prim.Native.Nat.{_≤_};
 ghost use Rattle.session.specs.Run.{Runs};
 ghost use Rattle.session.specs.Run as run;
+ghost use Rattle.printing.specs.Run.{newlines, emptiedIn};
 
 // A line that has been read to its end: it is obeyed, or its fault is printed.
 fn judge(
@@ -57,7 +59,7 @@ fn feed(
 }
 
 // A stretch of input.
-pub fn run(
+fn run(
     s: Session,
     memory: &mut [u8],
     holding: &mut [u8],
@@ -74,5 +76,32 @@ pub fn run(
         t = feed(t, memory, holding, outgoing, bytes, input[i], out);
         i += 1;
     }
+    t
+}
+
+// A stretch of input is run and what it prints is written out. The slice for texts has room for what any one line prints: `one-line-fits` in
+// the room `printing`, where this is a step of `inStretches`.
+pub fn run_stretch(
+    s: Session,
+    memory: &mut [u8],
+    holding: &mut [u8],
+    outgoing: &mut [u8],
+    bytes: &mut [u8],
+    input: &[u8],
+    out: &mut [u8],
+) -> Session
+    requires { ⌜ newlines (now input) ≤ 1 ⌝ }
+    ensures { λ r. ⌜ Runs (run.ran (emptiedIn (run.stateOf s (now (memory .entry)) (now (holding .entry)) (now (outgoing .entry)) (now (bytes .entry)) (now (out .entry)))) (now (input .entry))) r (now (memory .exit)) (now (holding .exit)) (now (outgoing .exit)) (now (bytes .exit)) (now (out .exit)) ⌝ }
+{
+    let t = run(
+        session::emptied(s),
+        memory,
+        holding,
+        outgoing,
+        bytes,
+        input,
+        out,
+    );
+    stretches::write_out(t, out);
     t
 }

@@ -42,7 +42,7 @@ use denote.Triple.Table.{entered, cited}
 use denote.Triple.Walked.{says, Stays, stay-ref, gave-slice, walkOf, AllGo, goes-ref, goes-gave-slice, Walks, ends-at, walked, walk-meets}
 use Rattle.calls.specs.Calls.{attentionCall}
 use Rattle.board.specs.Front.{areasWith, Fronted}
-use Rattle.front.proofs.Parts.{dvals, kept-is, answer-is}
+use Rattle.board.proofs.Parts.{dvals, kept-is, answer-is}
 use Rattle.board.specs.declared.Record.{Record}
 use Rattle.board.specs.declared.Lent.{Lent}
 use Rattle.board.proofs.Record as D

@@ -43,7 +43,7 @@ use denote.Triple.Walked.{says, Stays, stay-none, stay-none-slice, stay-ref, gav
 use denote.Exit.{yes}
 use Rattle.calls.specs.Calls.{arrivalCall}
 use Rattle.board.specs.Front.{areasWith, Fronted}
-use Rattle.front.proofs.Parts.{dvals, kept-is, answer-is}
+use Rattle.board.proofs.Parts.{dvals, kept-is, answer-is}
 use Rattle.board.specs.declared.Record.{Record}
 use Rattle.board.specs.declared.Lent.{Lent}
 use Rattle.board.proofs.Record as D

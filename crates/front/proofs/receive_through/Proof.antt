@@ -44,7 +44,7 @@ use denote.Triple.Walked.{says, Stays, stay-none, stay-none-slice, gave-slice, w
 use denote.Exit.{yes}
 use Rattle.calls.specs.Calls.{arrivalCall}
 use Rattle.board.specs.Front.{areasWith, Fronted}
-use Rattle.front.proofs.Parts.{dval, dvals, lies-in, lies-out, made, made-is}
+use Rattle.board.proofs.Parts.{dval, dvals, lies-in, lies-out, made, made-is}
 use Rattle.board.specs.declared.Record.{Record}
 use Rattle.board.proofs.Record as D
 use Rattle.board.proofs.Record.Laws as D′

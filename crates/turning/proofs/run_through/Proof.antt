@@ -1,4 +1,4 @@
--- `front::run_through` meets its contract: a walk of its MIR, by hand. All that it knows of `run` is that it meets its contract.
+-- `turning::run_through` meets its contract: a walk of its MIR, by hand. All that it knows of `run` is that it meets its contract.
 -- The record lies in a local, which is lent for a lifetime that the walk makes. After the call the lifetime is ended, and the local is taken back at the last value that the front's contract says. Each `&mut [u8]` is given up for good to the callee.
 -- Assumes nothing.
 use mathlib.Core.Path.{_≡_, refl, ap}
@@ -44,20 +44,20 @@ use denote.Triple.Walked.{says, Stays, stay-none, gave-slice, walkOf, AllGo, goe
 use denote.Exit.{yes}
 use Rattle.calls.specs.Calls.{runCall}
 use Rattle.board.specs.Front.{areasWith, Fronted}
-use Rattle.front.proofs.Parts.{dval, dvals, lies-in, lies-out, made, made-is}
+use Rattle.board.proofs.Parts.{dval, dvals, lies-in, lies-out, made, made-is}
 use Rattle.board.specs.declared.Record.{Record}
 use Rattle.board.proofs.Record as D
 use Rattle.board.proofs.Record.Laws as D′
 use Rattle.board.proofs.Lent as O
 use Rattle.board.proofs.Lent.Laws as O′
-use Rattle.front.proofs.run as callee
-use Rattle.front.proofs.run.Symbol as callee-def
-use Rattle.front.proofs.run.Symbol.{name as #front·run}
-use Rattle.front.proofs.run.Met as callee-thm
-use Rattle.front.proofs.run_through.Key.{name as #front·run-through}
-use Rattle.front.proofs.run_through as self
-use Rattle.front.proofs.run_through.Statement as stated
-use Rattle.front.proofs.run_through.Code as code
+use Rattle.turning.proofs.run as callee
+use Rattle.turning.proofs.run.Symbol as callee-def
+use Rattle.turning.proofs.run.Symbol.{name as #turning·run}
+use Rattle.turning.proofs.run.Met as callee-thm
+use Rattle.turning.proofs.run_through.Key.{name as #turning·run-through}
+use Rattle.turning.proofs.run_through as self
+use Rattle.turning.proofs.run_through.Statement as stated
+use Rattle.turning.proofs.run_through.Code as code
 
 -- what is had of each parameter at exit: a `&mut [u8]` is given up to the callee for good, and all else is as it was, but for `d`
 abbrev stayed : Stays (self.ended .signature .params) (self.ended .kept)
@@ -120,7 +120,7 @@ module _ {M : Type 1} (𝓤 : URA M) (H : Heap 𝓤) (A : Atoms 𝓤) (W : Given
       frame ! $ nothing ! $ owned ! u16 (Is u16) (uint-makes 𝓤 H A W w16) budget _ (refl, budget-fits) $ fjoin ! $ owned ! u16 (Is u16) (uint-makes 𝓤 H A W w16) report _ (refl, report-fits) $ fjoin ! $ move ! (1 ∷ 0 ∷ []) $ fjoin ! $ move ! (1 ∷ 0 ∷ []) $ fjoin ! $ move ! (1 ∷ 0 ∷ []) $ fjoin ! $
       owned ! D.the-row (Is D.the-row) (LL.makes D.the-type D′.the-plain 𝓤 H A) h _ h-is $ fjoin ! $ owned ! O.the-row (Is O.the-row) (LL.makes O.the-type O′.the-plain 𝓤 H A) (made r k) _ (made-is r k fine is) $ move ! (1 ∷ 0 ∷ []) $ done !
 
-  module _ (C : Calls 𝓤 H) (Λ : Loops 𝓤 H) (fm : FmC 𝓤 H (W .laws) C) (known : Triple 𝓤 (C #front·run) (Callee 𝓤 H A at-mem run)) where
+  module _ (C : Calls 𝓤 H) (Λ : Loops 𝓤 H) (fm : FmC 𝓤 H (W .laws) C) (known : Triple 𝓤 (C #turning·run) (Callee 𝓤 H A at-mem run)) where
     walk : Room u8 (length ys₁) → Room u8 (length ys₂) → Room u8 (length ys₃) → ent 𝓤 (onEntry 𝓤 H A self.signature (κ₁, (κ₂, (κ₃, tt))) (q₁, (q₂, (q₃, tt))) (h, rest) (dvals h, rest-vals)) (WpFn 𝓤 H C Λ code.function (dval h ∷ s₁ ∷ s₂ ∷ s₃ ∷ vint w16 report ∷ vint w16 budget ∷ []) Post)
     walk room₁ room₂ room₃ =
         qed W ((‵ (flft κ₁ q₁) ⊛ ‵ (flft κ₂ q₂) ⊛ ‵ (flft κ₃ q₃) ⊛ ‵ ftrue) ∷ ‵ (owns (D.the-row ∷ MutSlice (named 0) κ₁ u8 ∷ MutSlice (named 1) κ₂ u8 ∷ MutSlice (named 2) κ₃ u8 ∷ u16 ∷ u16 ∷ []) (h, rest) (dvals h, rest-vals)) ∷ []) ∵ enter ! C Λ code.function (dval h ∷ s₁ ∷ s₂ ∷ s₃ ∷ vint w16 report ∷ vint w16 budget ∷ []) _ $
@@ -163,7 +163,7 @@ module _ {M : Type 1} (𝓤 : URA M) (H : Heap 𝓤) (A : Atoms 𝓤) (W : Given
         keep ! (0 ∷ 1 ∷ 2 ∷ 3 ∷ []) $ by ! (exits r (zs .0) (zs .1 .0) (zs .1 .1 .0) (zs .1 .1 .1 .0) e l-1 l-2 l-3 (is-a .1) is-d)))))))))))))))))))))))))))))
 
 module _ {M : Type 1} (𝓤 : URA M) (H : Heap 𝓤) (A : Atoms 𝓤) (W : Given 𝓤 H A) (mem : Memory → SProp 𝓤) (run : Routine → Fun 𝓤) where
-  self-walks : (C : Calls 𝓤 H) (Λ : Loops 𝓤 H) → FmC 𝓤 H (W .laws) C → Triple 𝓤 (C #front·run) (Callee 𝓤 H A mem run) → Walks 𝓤 H A self.ended stayed (WpFn 𝓤 H C Λ code.function) (self.clauses 𝓤 H A mem run)
+  self-walks : (C : Calls 𝓤 H) (Λ : Loops 𝓤 H) → FmC 𝓤 H (W .laws) C → Triple 𝓤 (C #turning·run) (Callee 𝓤 H A mem run) → Walks 𝓤 H A self.ended stayed (WpFn 𝓤 H C Λ code.function) (self.clauses 𝓤 H A mem run)
   self-walks C Λ fm known = walked 𝓤 H A self.ended stayed (self.clauses 𝓤 H A mem run) (WpFn 𝓤 H C Λ code.function)
       (λ κs. (LL.vals D.the-type D′.the-laws, (slice-vals, (slice-vals, (slice-vals, (uint-vals w16, (uint-vals w16, tt))))))) (λ κs. (LL.tells D.the-type D′.the-laws, (mut-slice-tells (named 0) (κs .0) u8, (mut-slice-tells (named 1) (κs .1 .0) u8, (mut-slice-tells (named 2) (κs .1 .1 .0) u8, (uint-tells w16, (uint-tells w16, tt)))))))
       (λ κs qs bounds a g are. via 𝓤 _ (fst∗ 𝓤 _ (emp 𝓤)) (
@@ -172,7 +172,7 @@ module _ {M : Type 1} (𝓤 : URA M) (H : Heap 𝓤) (A : Atoms 𝓤) (W : Given
   goes : AllGo 𝓤 H A W 3 (self.signature .params) (self.ended .kept) stayed
   goes = (goes-none 𝓤 H A W 3 (λ _. D.the-row) yes (λ κs x f. refl), (goes-gave-slice 𝓤 H A W 3 0 tt (plain (λ _. u8)), (goes-gave-slice 𝓤 H A W 3 1 tt (plain (λ _. u8)), (goes-gave-slice 𝓤 H A W 3 2 tt (plain (λ _. u8)), (goes-none 𝓤 H A W 3 (λ _. u16) yes (λ κs x f. refl), (goes-none 𝓤 H A W 3 (λ _. u16) yes (λ κs x f. refl), tt))))))
 
-self-meets : {M : Type 1} (𝓤 : URA M) (H : Heap 𝓤) (A : Atoms 𝓤) → Given 𝓤 H A → (mem : Memory → SProp 𝓤) (run : Routine → Fun 𝓤) (𝓣 : Tables 𝓤 H) → Triple 𝓤 (𝓣 .C #front·run) (Callee 𝓤 H A mem run)
+self-meets : {M : Type 1} (𝓤 : URA M) (H : Heap 𝓤) (A : Atoms 𝓤) → Given 𝓤 H A → (mem : Memory → SProp 𝓤) (run : Routine → Fun 𝓤) (𝓣 : Tables 𝓤 H) → Triple 𝓤 (𝓣 .C #turning·run) (Callee 𝓤 H A mem run)
     → Meets 𝓤 H A self.signature (WpFn 𝓤 H (𝓣 .C) (𝓣 .Λ) code.function) (self.spec 𝓤 H A mem run)
 self-meets 𝓤 H A W mem run 𝓣 known =
     walk-meets 𝓤 H A self.ended stayed W (goes 𝓤 H A W mem run) (self.clauses 𝓤 H A mem run)
@@ -182,6 +182,6 @@ pub run-through-spec : {M : Type 1} → stated.statement M
 unfolding code.routine tablesOf
 run-through-spec 𝓤 H 𝓜 𝓖 𝓡 =
     entered 𝓤 H (tripleOf 𝓤 H (𝓖 .A) self.signature (self.spec 𝓤 H (𝓖 .A) (𝓜 .mem) (𝓡 .run)))
-    (tables 𝓤 H 𝓜 𝓡 code.env .C) (tables 𝓤 H 𝓜 𝓡 code.env .Λ) #front·run-through code.function (code.unfolded 𝓤 H 𝓜 𝓡)
+    (tables 𝓤 H 𝓜 𝓡 code.env .C) (tables 𝓤 H 𝓜 𝓡 code.env .Λ) #turning·run-through code.function (code.unfolded 𝓤 H 𝓜 𝓡)
     (self-meets 𝓤 H (𝓖 .A) (givenOf 𝓤 H 𝓜 𝓖) (𝓜 .mem) (𝓡 .run) (tablesOf 𝓤 H 𝓜 (tables 𝓤 H 𝓜 𝓡 code.env))
-    (cited 𝓤 H (Callee 𝓤 H (𝓖 .A) (𝓜 .mem) (𝓡 .run)) 𝓜 𝓡 code.env #front·run callee-def.routine code.calls-front·run (callee-thm.met 𝓤 H 𝓜 𝓖 𝓡)))
+    (cited 𝓤 H (Callee 𝓤 H (𝓖 .A) (𝓜 .mem) (𝓡 .run)) 𝓜 𝓡 code.env #turning·run callee-def.routine code.calls-turning·run (callee-thm.met 𝓤 H 𝓜 𝓖 𝓡)))

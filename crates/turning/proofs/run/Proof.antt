@@ -1,4 +1,4 @@
--- `front::run` meets its contract: a walk of its MIR, by hand. All that it knows of `run_on` is that it meets its contract.
+-- `turning::run` meets its contract: a walk of its MIR, by hand. All that it knows of `run_on` is that it meets its contract.
 -- The borrow of `d` is opened, and stays open across the call. Each `&mut [u8]` is given up for good to the callee, at its own lifetime, share and ghost name. The new record is stored whole, and the borrow is closed at it.
 -- Assumes nothing.
 use mathlib.Core.Path.{_≡_, refl, ap}
@@ -43,21 +43,21 @@ use denote.Triple.Walked.{says, Stays, stay-none, stay-ref, gave-slice, walkOf, 
 use denote.Exit.{yes}
 use Rattle.calls.specs.Calls.{runCall}
 use Rattle.board.specs.Front.{areasWith, Fronted}
-use Rattle.front.proofs.Parts.{dvals, kept-is, answer-is}
+use Rattle.board.proofs.Parts.{dvals, kept-is, answer-is}
 use Rattle.board.specs.declared.Record.{Record}
 use Rattle.board.specs.declared.Lent.{Lent}
 use Rattle.board.proofs.Record as D
 use Rattle.board.proofs.Record.Laws as D′
 use Rattle.board.proofs.Lent as O
 use Rattle.board.proofs.Lent.Laws as O′
-use Rattle.front.proofs.run_on as callee
-use Rattle.front.proofs.run_on.Symbol as callee-def
-use Rattle.front.proofs.run_on.Symbol.{name as #front·run-on}
-use Rattle.front.proofs.run_on.Met as callee-thm
-use Rattle.front.proofs.run.Key.{name as #front·run}
-use Rattle.front.proofs.run as self
-use Rattle.front.proofs.run.Statement as stated
-use Rattle.front.proofs.run.Code as code
+use Rattle.turning.proofs.run_on as callee
+use Rattle.turning.proofs.run_on.Symbol as callee-def
+use Rattle.turning.proofs.run_on.Symbol.{name as #turning·run-on}
+use Rattle.turning.proofs.run_on.Met as callee-thm
+use Rattle.turning.proofs.run.Key.{name as #turning·run}
+use Rattle.turning.proofs.run as self
+use Rattle.turning.proofs.run.Statement as stated
+use Rattle.turning.proofs.run.Code as code
 
 -- what is had of each parameter at exit: a `&mut [u8]` is given up to the callee for good, and all else is as it was, but for `d`
 abbrev stayed : Stays (self.ended .signature .params) (self.ended .kept)
@@ -120,7 +120,7 @@ module _ {M : Type 1} (𝓤 : URA M) (H : Heap 𝓤) (A : Atoms 𝓤) (W : Given
       move ! (2 ∷ 3 ∷ []) $ join ! $ frame ! $ feqI ! (List Val) (vptr b o ∷ []) (vptr b o ∷ []) refl $ fjoin3 ! $ nothing ! $ owned ! u16 (Is u16) (uint-makes 𝓤 H A W w16) budget _ (refl, budget-fits) $ fjoin ! $ owned ! u16 (Is u16) (uint-makes 𝓤 H A W w16) report _ (refl, report-fits) $ fjoin ! $ move ! (2 ∷ 0 ∷ []) $ fjoin ! $ move ! (2 ∷ 0 ∷ []) $ fjoin ! $ move ! (2 ∷ 0 ∷ []) $ fjoin ! $ move ! (1 ∷ 0 ∷ []) $ fjoin ! $
       owned ! u64 (Is u64) (uint-makes 𝓤 H A W w64) (r .answer) _ (refl, fine) $ move ! (1 ∷ 0 ∷ []) $ done !
 
-  module _ (C : Calls 𝓤 H) (Λ : Loops 𝓤 H) (fm : FmC 𝓤 H (W .laws) C) (known : Triple 𝓤 (C #front·run-on) (Callee 𝓤 H A at-mem run)) where
+  module _ (C : Calls 𝓤 H) (Λ : Loops 𝓤 H) (fm : FmC 𝓤 H (W .laws) C) (known : Triple 𝓤 (C #turning·run-on) (Callee 𝓤 H A at-mem run)) where
     walk : Room u8 (length ys₁) → Room u8 (length ys₂) → Room u8 (length ys₃) → ent 𝓤 (onEntry 𝓤 H A self.signature (κ₀, (κ₁, (κ₂, (κ₃, tt)))) (q₀, (q₁, (q₂, (q₃, tt)))) a (vptr b o ∷ [], rest-vals)) (WpFn 𝓤 H C Λ code.function (vptr b o ∷ s₁ ∷ s₂ ∷ s₃ ∷ vint w16 report ∷ vint w16 budget ∷ []) Post)
     walk room₁ room₂ room₃ =
         qed W ((‵ (flft κ₀ q₀) ⊛ ‵ (flft κ₁ q₁) ⊛ ‵ (flft κ₂ q₂) ⊛ ‵ (flft κ₃ q₃) ⊛ ‵ ftrue) ∷ ‵ (owns (MutRef (named 0) κ₀ D.the-row ∷ MutSlice (named 1) κ₁ u8 ∷ MutSlice (named 2) κ₂ u8 ∷ MutSlice (named 3) κ₃ u8 ∷ u16 ∷ u16 ∷ []) a (vptr b o ∷ [], rest-vals)) ∷ []) ∵ enter ! C Λ code.function (vptr b o ∷ s₁ ∷ s₂ ∷ s₃ ∷ vint w16 report ∷ vint w16 budget ∷ []) _ $
@@ -163,7 +163,7 @@ module _ {M : Type 1} (𝓤 : URA M) (H : Heap 𝓤) (A : Atoms 𝓤) (W : Given
         keep ! (0 ∷ 1 ∷ 2 ∷ 3 ∷ 4 ∷ 5 ∷ 6 ∷ []) $ by ! (exits r (zs .1 .0) (zs .1 .1 .0) (zs .1 .1 .1 .0) e-1 l-1 l-2 l-3 (answer-is r w is-o)))))))))))))))))))))))))))
 
 module _ {M : Type 1} (𝓤 : URA M) (H : Heap 𝓤) (A : Atoms 𝓤) (W : Given 𝓤 H A) (mem : Memory → SProp 𝓤) (run : Routine → Fun 𝓤) where
-  self-walks : (C : Calls 𝓤 H) (Λ : Loops 𝓤 H) → FmC 𝓤 H (W .laws) C → Triple 𝓤 (C #front·run-on) (Callee 𝓤 H A mem run) → Walks 𝓤 H A self.ended stayed (WpFn 𝓤 H C Λ code.function) (self.clauses 𝓤 H A mem run)
+  self-walks : (C : Calls 𝓤 H) (Λ : Loops 𝓤 H) → FmC 𝓤 H (W .laws) C → Triple 𝓤 (C #turning·run-on) (Callee 𝓤 H A mem run) → Walks 𝓤 H A self.ended stayed (WpFn 𝓤 H C Λ code.function) (self.clauses 𝓤 H A mem run)
   self-walks C Λ fm known = walked 𝓤 H A self.ended stayed (self.clauses 𝓤 H A mem run) (WpFn 𝓤 H C Λ code.function)
       (λ κs. (ptr-vals, (slice-vals, (slice-vals, (slice-vals, (uint-vals w16, (uint-vals w16, tt))))))) (λ κs. (mut-tells (named 0) (κs .0) D.the-row, (mut-slice-tells (named 1) (κs .1 .0) u8, (mut-slice-tells (named 2) (κs .1 .1 .0) u8, (mut-slice-tells (named 3) (κs .1 .1 .1 .0) u8, (uint-tells w16, (uint-tells w16, tt)))))))
       (λ κs qs bounds a g are. via 𝓤 _ (fst∗ 𝓤 _ (emp 𝓤)) (
@@ -172,7 +172,7 @@ module _ {M : Type 1} (𝓤 : URA M) (H : Heap 𝓤) (A : Atoms 𝓤) (W : Given
   goes : AllGo 𝓤 H A W 4 (self.signature .params) (self.ended .kept) stayed
   goes = (goes-ref 𝓤 H A W 4 0 tt (plain (λ _. D.the-row)), (goes-gave-slice 𝓤 H A W 4 1 tt (plain (λ _. u8)), (goes-gave-slice 𝓤 H A W 4 2 tt (plain (λ _. u8)), (goes-gave-slice 𝓤 H A W 4 3 tt (plain (λ _. u8)), (goes-none 𝓤 H A W 4 (λ _. u16) yes (λ κs x f. refl), (goes-none 𝓤 H A W 4 (λ _. u16) yes (λ κs x f. refl), tt))))))
 
-self-meets : {M : Type 1} (𝓤 : URA M) (H : Heap 𝓤) (A : Atoms 𝓤) → Given 𝓤 H A → (mem : Memory → SProp 𝓤) (run : Routine → Fun 𝓤) (𝓣 : Tables 𝓤 H) → Triple 𝓤 (𝓣 .C #front·run-on) (Callee 𝓤 H A mem run)
+self-meets : {M : Type 1} (𝓤 : URA M) (H : Heap 𝓤) (A : Atoms 𝓤) → Given 𝓤 H A → (mem : Memory → SProp 𝓤) (run : Routine → Fun 𝓤) (𝓣 : Tables 𝓤 H) → Triple 𝓤 (𝓣 .C #turning·run-on) (Callee 𝓤 H A mem run)
     → Meets 𝓤 H A self.signature (WpFn 𝓤 H (𝓣 .C) (𝓣 .Λ) code.function) (self.spec 𝓤 H A mem run)
 self-meets 𝓤 H A W mem run 𝓣 known =
     walk-meets 𝓤 H A self.ended stayed W (goes 𝓤 H A W mem run) (self.clauses 𝓤 H A mem run)
@@ -182,6 +182,6 @@ pub run-spec : {M : Type 1} → stated.statement M
 unfolding code.routine tablesOf
 run-spec 𝓤 H 𝓜 𝓖 𝓡 =
     entered 𝓤 H (tripleOf 𝓤 H (𝓖 .A) self.signature (self.spec 𝓤 H (𝓖 .A) (𝓜 .mem) (𝓡 .run)))
-    (tables 𝓤 H 𝓜 𝓡 code.env .C) (tables 𝓤 H 𝓜 𝓡 code.env .Λ) #front·run code.function (code.unfolded 𝓤 H 𝓜 𝓡)
+    (tables 𝓤 H 𝓜 𝓡 code.env .C) (tables 𝓤 H 𝓜 𝓡 code.env .Λ) #turning·run code.function (code.unfolded 𝓤 H 𝓜 𝓡)
     (self-meets 𝓤 H (𝓖 .A) (givenOf 𝓤 H 𝓜 𝓖) (𝓜 .mem) (𝓡 .run) (tablesOf 𝓤 H 𝓜 (tables 𝓤 H 𝓜 𝓡 code.env))
-    (cited 𝓤 H (Callee 𝓤 H (𝓖 .A) (𝓜 .mem) (𝓡 .run)) 𝓜 𝓡 code.env #front·run-on callee-def.routine code.calls-front·run-on (callee-thm.met 𝓤 H 𝓜 𝓖 𝓡)))
+    (cited 𝓤 H (Callee 𝓤 H (𝓖 .A) (𝓜 .mem) (𝓡 .run)) 𝓜 𝓡 code.env #turning·run-on callee-def.routine code.calls-turning·run-on (callee-thm.met 𝓤 H 𝓜 𝓖 𝓡)))

@@ -1,7 +1,7 @@
--- `replay::run_stretch` meets its contract. Assumes nothing.
+-- `running::run_stretch` meets its contract. Assumes nothing.
 use borrow.Author.Needs.{needs}
-use Rattle.replay.proofs.run_stretch.Statement.{statement}
-use Rattle.replay.proofs.run_stretch.Tie as tie
+use Rattle.running.proofs.run_stretch.Statement.{statement}
+use Rattle.running.proofs.run_stretch.Tie as tie
 
 pub run-stretch-spec : {M : Type 1} → statement M
 run-stretch-spec =
