@@ -1,5 +1,5 @@
 -- The actions, sentence by sentence: 01, "Turns". Each is a computed case that another reading fails. Assumes nothing.
-use mathlib.Core.Bool.{Bool, true, false, _&&_, not}
+use mathlib.Core.Bool.{Bool, _&&_, not}
 use mathlib.Core.List.{List, [], _∷_}
 use Prim.Native.Nat.{ℕ}
 use lib.Dec.{T, eqb}
@@ -51,7 +51,8 @@ configured count third =
 
 -- byte 2: bit 7 save bad frames; byte 8: bit 0 promiscuous, 1 broadcast disabled; byte 10: minimum length
 pub eachInItsByte : T (configured 11 6 .setup .settings .savebad && configured 11 6 .setup .settings .nobroadcast
-    && not (configured 11 6 .setup .settings .promiscuous) && eqb (configured 11 6 .setup .settings .minimum) 99)
+    && not (configured 11 6 .setup .settings .promiscuous) && eqb (configured 11 6 .setup .settings .minimum) 99
+    && acted action.Configure (wordTo 0x56 9 ∷ wordTo 0x59 6 ∷ wordTo 0x5E 0x0001 ∷ []) .setup .settings .promiscuous)
 unfolding byteAt putByte bytesAt putBytes digits place field settingsBy act
 eachInItsByte = tt
 

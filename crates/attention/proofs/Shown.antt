@@ -11,13 +11,14 @@ use Rattle.scb.specs.Control.{cuNext, ruNext}
 use Rattle.scb.specs.Words.{field, joined, acknowledged, anyOf, eventBits, statusWord}
 use Rattle.scb.specs.declared.Events.{Events}
 use Rattle.device.specs.Change.{initialisedAt, withUnits, withAddresses, withCu}
-use Rattle.device.specs.State.{fresh, freshUnits}
+use Rattle.device.specs.State.{fresh, freshUnits, cuState, isActive, ruState, isReady}
 use Rattle.device.specs.declared.Action.the-variants as action
 use Rattle.device.specs.declared.Cu.{Cu}
 use Rattle.device.specs.declared.Cu.the-variants as cu
 use Rattle.device.specs.declared.Device.{Device}
 use Rattle.device.specs.declared.Ru.{Ru}
 use Rattle.device.specs.declared.Ru.the-variants as ru
+use Rattle.device.specs.declared.Units.{Units}
 use Rattle.control.specs.Obey.{cuFirst, obeyCuc, ruFirst, obeyRuc}
 use Rattle.attention.specs.Status.{statusTo}
 use Rattle.attention.specs.Attention.{Attended, iscpOf, initialise, resetBy, unitsAfter, obey, attend, attention}
@@ -34,8 +35,13 @@ first = wordTo 0xFC 0x20 ∷ wordTo 0x20 0xFFFF ∷ wordTo 0x22 0x30 ∷ wordTo 
 abbrev initialised : List ℕ
 initialised = apply (attention fresh (given first) .writes) (given first)
 
--- BUSY byte +0, SCB offset +2, SCB base (real) +4: clears BUSY, writes SCB status A000h and command 0000h. It doesn't obey the command word
-pub firstAttention : T (eqb (wordAt initialised 0x20) 0xFF00 && eqb (wordAt initialised 0x40) 0xA000 && eqb (wordAt initialised 0x42) 0)
+-- BUSY byte +0, SCB offset +2, SCB base (real) +4: clears BUSY, writes SCB status A000h and command 0000h. It doesn't obey the command word,
+-- which has both STARTs: both units are Idle
+abbrev bothIdle : Units → Bool
+bothIdle u = not (isActive (cuState (u .cu))) && not (isReady (ruState (u .ru)))
+
+pub firstAttention : T (eqb (wordAt initialised 0x20) 0xFF00 && eqb (wordAt initialised 0x40) 0xA000 && eqb (wordAt initialised 0x42) 0
+    && bothIdle (attention fresh (given first) .outcome .device .units))
 unfolding byteAt putByte bytesAt putBytes value digits fieldAt place beyond iscpOf initialise attention
 firstAttention = tt
 
@@ -63,6 +69,7 @@ left e c command = apply (attended e c command .writes) (given (wordTo 0x32 comm
 -- if RESET, write command 0 and become as after reset, nothing else: no status, no edge, no code obeyed; the own address is six FFh again
 pub resetsAlone : T (eqb (wordAt (left (events true false false false) acting 0x8480) 0x32) 0
     && eqb (wordAt (left (events true false false false) acting 0x8480) 0x30) 0x1234
+    && eqb (wordAt (left (events true false false false) acting 0x8480) 0x36) 0
     && not (attended (events true false false false) acting 0x8480 .outcome .answer .edge)
     && eqb (getD (attended (events true false false false) acting 0x8480 .outcome .device .own) 0 0) 255)
 unfolding byteAt putByte bytesAt putBytes value digits fieldAt place field resetBy attend attention
@@ -74,10 +81,10 @@ unfolding byteAt putByte bytesAt putBytes value digits fieldAt place cuNext ruNe
 acknowledgedBefore = tt
 
 -- an edge is reported when an attention leaves any event set, raised before or now; with all acknowledged none is
-abbrev edge : (command : ℕ) → Bool
-edge command = attended (events true false false false) cu.Idle command .outcome .answer .edge
+abbrev edge : Cu → (command : ℕ) → Bool
+edge c command = attended (events true false false false) c command .outcome .answer .edge
 
-pub edgeWhileSet : T (edge 0 && not (edge 0x8000))
+pub edgeWhileSet : T (edge cu.Idle 0 && not (edge cu.Idle 0x8000) && edge acting 0x8400)
 unfolding byteAt putByte bytesAt putBytes value digits fieldAt place cuNext ruNext field joined acknowledged anyOf eventBits statusWord cuFirst obeyCuc ruFirst obeyRuc statusTo unitsAfter obey attend attention
 edgeWhileSet = tt
 

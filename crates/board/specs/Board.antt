@@ -94,7 +94,7 @@ exportedOf (arrive f v) a = exported.arrivalCall a f v
 exportedOf (turn report) a = exported.turnCall a report
 exportedOf (run report budget) a = exported.runCall a report budget
 
--- what the code does
+-- what the code that makes a call leaves
 pub record Leaves (left : Left) (s : Said) (m h out : List ℕ) : Type 0 where
   pub said : s ≡ left .said
   pub memory : m ≡ left .memory

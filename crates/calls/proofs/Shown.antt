@@ -1,9 +1,8 @@
 -- Answers, lengths, refusals and reset: 01, "Calls, lent areas, refusals". Each is a computed case that another reading fails. Assumes nothing.
-use mathlib.Core.Bool.{Bool, true, false, _&&_, not}
-use mathlib.Core.List.{List, [], _∷_}
-use Prim.Native.Nat.{ℕ}
+use mathlib.Core.Bool.{true, _&&_, not}
+use mathlib.Core.List.{[], _∷_}
 use lib.Dec.{T, eqb}
-use lib.ListN.{length}
+use lib.ListN.{length, getD}
 use Rattle.memory.specs.Size.{sizeAllowed}
 use Rattle.device.specs.Numbers.{refusalNumber}
 use Rattle.device.specs.declared.Refusal.the-variants as refusal
@@ -26,6 +25,6 @@ unfolding sizeAllowed areasRight refusalOf
 lowestFirst = tt
 
 -- reset takes the record alone: one of the wrong length is refusal 2, and stays
-pub resetOfNoRecord : T (eqb (resetCall [] .answer) 2 && eqb (length (resetCall [] .kept)) 0)
+pub resetOfNoRecord : T (eqb (resetCall (7 ∷ []) .answer) 2 && eqb (length (resetCall (7 ∷ []) .kept)) 1 && eqb (getD (resetCall (7 ∷ []) .kept) 0 0) 7)
 unfolding packed resetCall
 resetOfNoRecord = tt

@@ -5,9 +5,8 @@ use Prim.Native.Nat.{ℕ}
 use lib.Dec.{T, eqb}
 use lib.ListN.{replicate}
 use Rattle.memory.specs.Address.{place}
-use Rattle.memory.specs.Memory.{byteAt, putByte, bytesAt, putBytes, value, digits, fieldAt, wordAt, Write, wordTo, apply}
+use Rattle.memory.specs.Memory.{byteAt, putByte, bytesAt, putBytes, value, digits, fieldAt, wordAt, wordTo, apply}
 use Rattle.scb.specs.Words.{field, joined, anyOf, eventBits, statusWord}
-use Rattle.scb.specs.declared.Events.{Events}
 use Rattle.device.specs.Change.{initialisedAt, servedRu, withUnits, withCu, withRu}
 use Rattle.device.specs.Numbers.{actionOf}
 use Rattle.device.specs.State.{fresh, freshUnits}
@@ -24,7 +23,7 @@ use Rattle.command.specs.Service as command-service
 use Rattle.receive.specs.Begin as receive-begin
 use Rattle.receive.specs.Service as receive-service
 use Rattle.attention.specs.Status.{statusTo}
-use Rattle.chip.specs.World.{World, Ran}
+use Rattle.chip.specs.World.{World}
 use Rattle.chip.specs.Turn.{concluded, commandTurn, receiveTurn, turnOf}
 
 -- base 0 and the SCB at 30h, CX set; 1234h stands in the SCB's status, a NOP with I in the block at 40h

@@ -58,7 +58,17 @@ unfolding byteAt putByte bytesAt putBytes value digits fieldAt place field actio
 busyAtBegin = tt
 
 -- 2-0 CMD, whatever stands above it; Transmit: +6 FFFFh is no buffer, and the end is next
-pub cmdOfThreeBits : T (eqb (phase (begun 0x0008 .part .unit)) 3 && eqb (phase (begun 0x000C .part .unit)) 5)
+abbrev command : Cu → ℕ
+command cu.Idle = 8
+command (cu.Suspended o) = 8
+command (cu.Waiting o) = 8
+command (cu.Acting b a) = actionNumber a
+command (cu.Sending b w) = 4
+command (cu.Ending b n) = 4
+command (cu.Failing b) = 4
+
+pub cmdOfThreeBits : T (eqb (command (begun 0x0008 .part .unit)) 0 && eqb (command (begun 0x000D .part .unit)) 5
+    && eqb (phase (begun 0x000C .part .unit)) 5)
 unfolding byteAt putByte bytesAt putBytes value digits fieldAt place field actionOf begunBy headerOf begin service
 cmdOfThreeBits = tt
 
@@ -131,13 +141,27 @@ unfolding byteAt putByte bytesAt putBytes value digits fieldAt place field begun
 elOverS = tt
 
 -- I raises CX, and nothing else does; leaving Active raises CNA, to Suspended too
-pub raised : T (ended 0x2000 false .raised .cx && not (ended 0x8000 false .raised .cx)
+pub raised : T (ended 0x2000 false .raised .cx && not (ended 0x8000 false .raised .cx) && not (ended 0x4000 true .raised .cx)
     && not (ended 0x2000 false .raised .cna) && ended 0x4000 false .raised .cna && ended 0x8000 false .raised .cna)
 unfolding byteAt putByte bytesAt putBytes value digits fieldAt place field begunBy act nextAfter end service
 raised = tt
 
--- the length sent is that of header and data
-pub sentWhole : T (eqb (served (cu.Ending (flags 0) 60) [] .length) 60
-    && eqb (wordAt (apply (served (cu.Failing (flags 0)) [] .writes) (given [])) 0x50) 0x8100)
-unfolding byteAt putByte bytesAt putBytes value digits fieldAt place field begunBy reported isSent sent nextAfter end service
+-- the length sent is that of header and data: 14, and 2 more behind a buffer of two bytes
+abbrev whole : Cu → ℕ
+whole cu.Idle = 0
+whole (cu.Suspended o) = 0
+whole (cu.Waiting o) = 0
+whole (cu.Acting b a) = 0
+whole (cu.Sending b w) = 0
+whole (cu.Ending b n) = served (cu.Ending b n) [] .length
+whole (cu.Failing b) = 0
+
+pub sentWhole : T (eqb (whole (begun 0x0004 .part .unit)) 14 && eqb (whole (sending 0 14 0x8002 0 .part .unit)) 16)
+unfolding byteAt putByte bytesAt putBytes value digits fieldAt place field actionOf begunBy headerOf begin descriptorAt buffer reported isSent sent nextAfter end service
 sentWhole = tt
+
+-- with no end of the data found: 8100h, nothing sent
+pub nothingSent : T (eqb (wordAt (apply (served (cu.Failing (flags 0)) [] .writes) (given [])) 0x50) 0x8100
+    && eqb (served (cu.Failing (flags 0)) [] .length) 0)
+unfolding byteAt putByte bytesAt putBytes value digits fieldAt place field begunBy reported isSent sent nextAfter end service
+nothingSent = tt

@@ -1,5 +1,5 @@
 -- The control codes, row by row: 01, "The SCB". Each is a computed case that another reading fails. Assumes nothing.
-use mathlib.Core.Bool.{Bool, true, false, _&&_, not}
+use mathlib.Core.Bool.{Bool, false, _&&_, not}
 use mathlib.Core.List.{List, [], _∷_}
 use Prim.Native.Nat.{ℕ, _*_}
 use lib.Dec.{T, eqb}
@@ -17,7 +17,6 @@ use Rattle.device.specs.declared.Cu.the-variants as cu
 use Rattle.device.specs.declared.Frame.{Frame}
 use Rattle.device.specs.declared.Ru.{Ru}
 use Rattle.device.specs.declared.Ru.the-variants as ru
-use Rattle.device.specs.declared.Storing.{Storing}
 use Rattle.device.specs.declared.Verdict.the-variants as verdict
 use Rattle.control.specs.Obey.{Obeyed, cuFirst, obeyCuc, ruFirst, obeyRuc}
 
@@ -72,9 +71,13 @@ next = cu.Waiting (record { 0 = 0x60 })
 abbrev paused : Cu
 paused = cu.Suspended (record { 0 = 0x60 })
 
+-- a unit that is to begin the block at o
+abbrev cuGoes : Cu → (o : ℕ) → Bool
+cuGoes unit o = eqb (cuPhase unit) 2 && eqb (cuAt unit) o
+
 -- 1 START: Idle, Suspended to Active, at CBL offset; 2 RESUME: Suspended to Active, where it was. An Active unit goes on where it is
-pub cuStarts : T (eqb (cuAt (cuDoes 1 cu.Idle .unit)) 0x40 && eqb (cuAt (cuDoes 1 paused .unit)) 0x40 && eqb (cuAt (cuDoes 2 paused .unit)) 0x60
-    && eqb (cuAt (cuDoes 1 next .unit)) 0x60)
+pub cuStarts : T (cuGoes (cuDoes 1 cu.Idle .unit) 0x40 && cuGoes (cuDoes 1 paused .unit) 0x40 && cuGoes (cuDoes 2 paused .unit) 0x60
+    && cuGoes (cuDoes 1 next .unit) 0x60)
 unfolding byteAt putByte bytesAt putBytes value digits fieldAt place cuNext field cuFirst obeyCuc
 cuStarts = tt
 
@@ -133,14 +136,30 @@ ruAt (ru.Filling s w) = s .fd .0
 ruAt (ru.Closing s o e) = s .fd .0
 ruAt (ru.Lacking s) = s .fd .0
 
+-- a unit that is Ready at o, with no frame held
+abbrev ruGoes : Ru → (o : ℕ) → Bool
+ruGoes unit o = eqb (ruPhase unit) 3 && eqb (ruAt unit) o
+
 -- 1 START: Idle, Suspended, No Resources to Ready, at RFA offset; 2 RESUME: Suspended to Ready, where it was
-pub ruStarts : T (eqb (ruAt (ruDoes 1 ru.NoResources .unit)) 0x50 && eqb (ruAt (ruDoes 1 (ru.Suspended (record { 0 = 0x70 })) .unit)) 0x50
-    && eqb (ruAt (ruDoes 2 (ru.Suspended (record { 0 = 0x70 })) .unit)) 0x70)
+pub ruStarts : T (ruGoes (ruDoes 1 ru.Idle .unit) 0x50 && ruGoes (ruDoes 1 ru.NoResources .unit) 0x50
+    && ruGoes (ruDoes 1 (ru.Suspended (record { 0 = 0x70 })) .unit) 0x50 && ruGoes (ruDoes 2 (ru.Suspended (record { 0 = 0x70 })) .unit) 0x70)
 unfolding byteAt putByte bytesAt putBytes value digits fieldAt place ruNext field ruFirst obeyRuc
 ruStarts = tt
 
+-- a SUSPEND waits for the end of the held frame
+abbrev ruWaits : Ru → Bool
+ruWaits ru.Idle = false
+ruWaits (ru.Suspended o) = false
+ruWaits ru.NoResources = false
+ruWaits (ru.Ready o) = false
+ruWaits (ru.Held o f p) = p
+ruWaits (ru.Filling s w) = s .pausing
+ruWaits (ru.Closing s o e) = s .pausing
+ruWaits (ru.Lacking s) = s .pausing
+
 -- 3 SUSPEND: at the end of a held frame, begun or not, else at once
-pub ruSuspends : T (eqb (ruPhase (ruDoes 3 held .unit)) 4 && not (ruDoes 3 held .left) && eqb (ruPhase (ruDoes 3 lacking .unit)) 7
+pub ruSuspends : T (eqb (ruPhase (ruDoes 3 held .unit)) 4 && ruWaits (ruDoes 3 held .unit) && not (ruDoes 3 held .left)
+    && eqb (ruPhase (ruDoes 3 lacking .unit)) 7 && ruWaits (ruDoes 3 lacking .unit)
     && eqb (ruPhase (ruDoes 3 (ru.Ready (record { 0 = 0x70 })) .unit)) 1)
 unfolding byteAt putByte bytesAt putBytes value digits fieldAt place ruNext field ruFirst obeyRuc
 ruSuspends = tt

@@ -1,10 +1,9 @@
 -- The paper's numbers, and the fresh state: computed cases that another reading fails. Assumes nothing.
-use mathlib.Core.Bool.{Bool, true, false, _&&_, not}
-use mathlib.Core.List.{List, [], _∷_}
+use mathlib.Core.Bool.{true, false, _&&_, not}
 use Prim.Native.Nat.{ℕ}
 use lib.Dec.{T, eqb}
-use lib.ListN.{length, replicate, getD}
-use Rattle.memory.specs.Memory.{byteAt, putByte, bytesAt, putBytes, value, digits, fieldAt, wordAt, apply}
+use lib.ListN.{length, replicate}
+use Rattle.memory.specs.Memory.{byteAt, putByte, bytesAt, putBytes, value, digits, fieldAt, apply}
 use Rattle.memory.specs.Address.{place}
 use Rattle.device.specs.Answers.{counterOf, counts}
 use Rattle.device.specs.Limits.{header, areaSize, recordSize, longest, mostBuffers, mostListed, fcs}
@@ -26,13 +25,14 @@ pub refusalsNumbered : T (eqb (refusalNumber refusal.Accepted) 0 && eqb (refusal
     && eqb (refusalNumber refusal.Overlong) 3 && eqb (refusalNumber refusal.Foreign) 4)
 refusalsNumbered = tt
 
--- 01, "The SCB": +8 CRCERRS, +10 ALNERRS, +12 RSCERRS, +14 OVRNERRS. Each is increased alone, with an SCB at 0 and FFFFh in all four
-abbrev counted : Counter → List ℕ
-counted c = let m = replicate {A = ℕ} 16 255 in apply (counts c (record { 0 = 0 }) (record { 0 = 0 }) m) m
+-- 01, "The SCB": +8 CRCERRS, +10 ALNERRS, +12 RSCERRS, +14 OVRNERRS. Each is increased alone: what the four come to, with an SCB at 0 and
+-- every byte of it alike before
+abbrev counted : Counter → (byte : ℕ) → ℕ
+counted c byte = let m = replicate {A = ℕ} 16 byte in fieldAt 8 (apply (counts c (record { 0 = 0 }) (record { 0 = 0 }) m) m) 8
 
-pub countersInPlace : T (eqb (wordAt (counted counter.Crc) 8) 0 && eqb (wordAt (counted counter.Alignment) 10) 0
-    && eqb (wordAt (counted counter.Resources) 12) 0 && eqb (wordAt (counted counter.Overruns) 14) 0
-    && eqb (wordAt (counted counter.Uncounted) 0) 0xFFFF)
+pub countersInPlace : T (eqb (counted counter.Crc 7) 0x0707070707070708 && eqb (counted counter.Alignment 7) 0x0707070707080707
+    && eqb (counted counter.Resources 7) 0x0707070807070707 && eqb (counted counter.Overruns 7) 0x0708070707070707
+    && eqb (counted counter.Uncounted 7) 0x0707070707070707 && eqb (counted counter.Crc 255) 0xFFFFFFFFFFFF0000)
 unfolding byteAt putByte bytesAt putBytes value digits fieldAt place counts
 countersInPlace = tt
 
@@ -46,9 +46,10 @@ pub shortIsBad : T (not (goodBy true verdict.Good) && goodBy false verdict.Good)
 shortIsBad = tt
 
 -- 01, "Turns": after reset the address is six FFh, the minimum length 64, those bits 0; RU first
-pub afterReset : T (eqb (length (fresh .own)) 6 && eqb (getD (fresh .own) 5 0) 255 && eqb (fresh .units .settings .minimum) 64
+pub afterReset : T (eqb (length (fresh .own)) 6 && eqb (value (fresh .own)) 0xFFFFFFFFFFFF && eqb (fresh .units .settings .minimum) 64
     && not (fresh .units .settings .savebad) && not (fresh .units .settings .promiscuous) && not (fresh .units .settings .nobroadcast)
     && not (fresh .units .rulast) && not (fresh .units .initialised))
+unfolding value
 afterReset = tt
 
 -- the sizes and limits

@@ -1,5 +1,5 @@
 // Shared memory: bytes, words and real addresses in a slice of any length, each address taken modulo that length, byte by byte.
-// The only room that indexes shared memory, and the only one that makes a real address.
+// The only room that makes a real address, and the only one that indexes shared memory; copies stands on its slot, read, write and copy_run.
 ghost use mathlib.Core.Path.{_≡_};
 ghost use mathlib.Core.List.{[], _∷_};
 ghost use Prim.Native.Nat.{_+_, _-_, _*_, _%_, _≤_, _<_, min};

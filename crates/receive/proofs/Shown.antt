@@ -2,12 +2,12 @@
 -- fails. Assumes nothing.
 use mathlib.Core.Bool.{Bool, true, false, _&&_, not}
 use mathlib.Core.List.{List, [], _∷_}
-use Prim.Native.Nat.{ℕ}
+use Prim.Native.Nat.{ℕ, _+_, _*_}
 use lib.Dec.{T, eqb}
 use lib.ListN.{replicate, getD}
 use Rattle.memory.specs.Address.{place}
 use Rattle.memory.specs.Memory.{byteAt, putByte, bytesAt, putBytes, value, digits, fieldAt, wordAt, Write, wordTo, apply}
-use Rattle.scb.specs.Words.{field}
+use Rattle.scb.specs.Words.{field, one}
 use Rattle.device.specs.Answers.{counterOf, counts, isHeld}
 use Rattle.device.specs.Change.{withRu, withSettings}
 use Rattle.device.specs.Numbers.{counterPlace, verdictOf}
@@ -125,12 +125,24 @@ phase (ru.Lacking s) = 7
 
 -- ---- begin
 
--- read +2 and +6, write 4000h; data at FFFFh: out of buffers
+-- read +2 and +6, write 4000h; +2: 15 EL, 14 S; data at FFFFh: out of buffers
 abbrev begun : List Write → Service
 begun ws = served (ru.Held (record { 0 = 0x50 }) (good 16) false) ws
 
+-- EL and S as the unit keeps them, 2 and 1
+abbrev flags : Ru → ℕ
+flags ru.Idle = 0
+flags (ru.Suspended o) = 0
+flags ru.NoResources = 0
+flags (ru.Ready o) = 0
+flags (ru.Held o f p) = 0
+flags (ru.Filling s w) = one (s .el) * 2 + one (s .suspend)
+flags (ru.Closing s o e) = one (s .el) * 2 + one (s .suspend)
+flags (ru.Lacking s) = one (s .el) * 2 + one (s .suspend)
+
 pub beginning : T (eqb (wordAt (left (ru.Held (record { 0 = 0x50 }) (good 16) false) []) 0x60) 0x4000
-    && eqb (phase (begun (wordTo 0x66 0x90 ∷ []) .unit)) 5 && eqb (phase (begun (wordTo 0x66 0xFFFF ∷ []) .unit)) 7)
+    && eqb (phase (begun (wordTo 0x66 0x90 ∷ []) .unit)) 5 && eqb (phase (begun (wordTo 0x66 0xFFFF ∷ []) .unit)) 7
+    && eqb (flags (begun (wordTo 0x62 0x8000 ∷ []) .unit)) 2 && eqb (flags (begun (wordTo 0x62 0x4000 ∷ []) .unit)) 1)
 unfolding byteAt putByte bytesAt putBytes value digits fieldAt place field begunBy begin service
 beginning = tt
 
@@ -153,10 +165,10 @@ full (ru.Filling s w) = false
 full (ru.Closing s o e) = e
 full (ru.Lacking s) = false
 
--- data left after EL, or after 64: out of buffers
+-- data left after EL, after 64, or at FFFFh: out of buffers
 pub outOfBuffers : T (eqb (phase (filling 62 1 0x98 .unit)) 5 && eqb (phase (filling 63 1 0x98 .unit)) 7
     && eqb (phase (filling 63 2 0x98 .unit)) 6
-    && eqb (phase (filling 0 0x8001 0x98 .unit)) 7)
+    && eqb (phase (filling 0 0x8001 0x98 .unit)) 7 && eqb (phase (filling 0 1 0xFFFF .unit)) 7)
 unfolding byteAt putByte bytesAt putBytes value digits fieldAt place field descriptorAt buffer service
 outOfBuffers = tt
 
@@ -202,7 +214,8 @@ keptOrNot = tt
 -- either way RSCERRS follows if otherwise good, and No Resources
 pub lackingAddsOne : T (eqb (counted (served (lacking true verdict.Good) [] .fate)) 12
     && eqb (counted (served (lacking false verdict.Good) [] .fate)) 12
-    && eqb (counted (served (lacking true verdict.Crc) [] .fate)) 0 && eqb (phase (served (lacking false verdict.Good) [] .unit)) 2)
+    && eqb (counted (served (lacking true verdict.Crc) [] .fate)) 0 && eqb (phase (served (lacking false verdict.Good) [] .unit)) 2
+    && eqb (phase (served (lacking true verdict.Good) [] .unit)) 2 && served (lacking true verdict.Good) [] .raised .rnr)
 unfolding byteAt putByte bytesAt putBytes value digits fieldAt place field counts frameStatus settles lack service
 lackingAddsOne = tt
 

@@ -1,5 +1,6 @@
 // A run of the replay program: characters are read, and at each line's end what was read is obeyed. docs/replay.md has the forms. A session
-// goes in and comes out, so a run in stretches is a run of the whole; what a stretch prints is written out. It takes every session and slices of every length.
+// goes in and comes out, so a run in stretches is a run of the whole; what a stretch prints is written out. It takes every session, slices of
+// every length, and a stretch in which at most one line ends.
 use lines::Reader;
 use session::Session;
 ghost use Prim.Native.Nat.{_≤_};

@@ -11,7 +11,8 @@ pub takenApart : T (eqb (number 0x1003C0000) 0 && eqb (sentLength 0x1003C0000) 6
 takenApart = tt
 
 -- 01, "Turns": demand 3 counts turns, and no other call
-pub turnsAlone : T (isTurn (call (turn 0)) && not (isTurn (call (arrive [] 0))) && not (isTurn (call attention)) && not (isTurn (host [] [] [])))
+pub turnsAlone : T (isTurn (call (turn 0)) && not (isTurn (call (arrive [] 0))) && not (isTurn (call attention))
+    && not (isTurn (call reset)) && not (isTurn (host [] [] [])))
 turnsAlone = tt
 
 -- no attention or reset comes; a frame may arrive, and the host may write
