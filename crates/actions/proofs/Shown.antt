@@ -6,7 +6,7 @@ use lib.Dec.{T, eqb}
 use lib.ListN.{replicate, getD}
 use Rattle.memory.specs.Address.{place}
 use Rattle.memory.specs.Memory.{byteAt, putByte, bytesAt, putBytes, value, digits, fieldAt, wordAt, Write, wordTo, apply}
-use Rattle.scb.specs.Words.{field}
+use Rattle.scb.specs.Words.{bitsAt}
 use Rattle.device.specs.State.{freshSettings}
 use Rattle.device.specs.declared.Action.{Action}
 use Rattle.device.specs.declared.Action.the-variants as action
@@ -41,7 +41,7 @@ ownFrom6 = tt
 
 -- byte count, low 4 bits of +6, below 4 taken as 4, above 12 as 12
 pub byteCount : T (eqb (clamped 0xF3) 4 && eqb (clamped 0x15) 5 && eqb (clamped 0x0D) 12)
-unfolding field
+unfolding bitsAt
 byteCount = tt
 
 -- a Configure of so many bytes: byte 2 is 80h, byte 3 as said, byte 8 is 02h, byte 10 is 99
@@ -53,13 +53,13 @@ configured count third =
 pub eachInItsByte : T (configured 11 6 .setup .settings .savebad && configured 11 6 .setup .settings .nobroadcast
     && not (configured 11 6 .setup .settings .promiscuous) && eqb (configured 11 6 .setup .settings .minimum) 99
     && acted action.Configure (wordTo 0x56 9 ∷ wordTo 0x59 6 ∷ wordTo 0x5E 0x0001 ∷ []) .setup .settings .promiscuous)
-unfolding byteAt putByte bytesAt putBytes digits place field settingsBy act
+unfolding byteAt putByte bytesAt putBytes digits place bitsAt settingsBy act
 eachInItsByte = tt
 
 -- the others kept: eight bytes do not reach byte 8, nine do; ten do not reach byte 10
 pub othersKept : T (not (configured 8 6 .setup .settings .nobroadcast) && configured 9 6 .setup .settings .nobroadcast
     && eqb (configured 10 6 .setup .settings .minimum) 64)
-unfolding byteAt putByte bytesAt putBytes digits place field settingsBy act
+unfolding byteAt putByte bytesAt putBytes digits place bitsAt settingsBy act
 othersKept = tt
 
 -- a length other than 6, location 1 or loopback: status 8000h, nothing changed
@@ -67,7 +67,7 @@ abbrev unchanged : ℕ → Bool
 unchanged third = eqb (configured 11 third .status) 0x8000 && not (configured 11 third .setup .settings .savebad)
 
 pub notAccepted : T (unchanged 5 && unchanged 0x0E && unchanged 0x46 && unchanged 0x86 && eqb (configured 11 6 .status) 0xA000)
-unfolding byteAt putByte bytesAt putBytes digits place field settingsBy act
+unfolding byteAt putByte bytesAt putBytes digits place bitsAt settingsBy act
 notAccepted = tt
 
 -- ---- 3 MC-Setup
@@ -79,13 +79,13 @@ listedAt word bytes index =
 
 -- low 14 bits count bytes, addresses from +8, a remainder ignored; the old list is gone
 pub twoListed : T (eqb (listedAt 0xC011 18 0) 0x77 && eqb (listedAt 0xC011 18 11) 0x77 && eqb (listedAt 0xC011 18 12) 0)
-unfolding byteAt putByte bytesAt putBytes value digits fieldAt place field listing act
+unfolding byteAt putByte bytesAt putBytes value digits fieldAt place bitsAt listing act
 twoListed = tt
 
 -- above 16 addresses: 8000h, old list kept
 pub sixteenListed : T (eqb (acted action.McSetup (wordTo 0x56 102 ∷ []) .status) 0x8000
     && eqb (listedAt 101 96 95) 0x77 && eqb (listedAt 102 102 95) 9)
-unfolding byteAt putByte bytesAt putBytes value digits fieldAt place field listing act
+unfolding byteAt putByte bytesAt putBytes value digits fieldAt place bitsAt listing act
 sixteenListed = tt
 
 -- ---- 4 Transmit
@@ -97,7 +97,7 @@ sending report = sent setup 60 report
 pub reportedBits : T (eqb (sending 0x0000 .status) 0xA000 && eqb (sending 0xF9DF .status) 0xA0CF && eqb (sending 0xF9DF .length) 60
     && eqb (sending 0x0020 .status) 0x8020 && eqb (sending 0x0200 .status) 0x8200 && eqb (sending 0x0400 .status) 0x8400
     && eqb (sending 0x0020 .length) 0)
-unfolding field reported isSent sent
+unfolding bitsAt reported isSent sent
 reportedBits = tt
 
 -- 8100h, nothing sent

@@ -9,7 +9,7 @@ use Rattle.memory.specs.Memory.{byteAt, wordAt, bytesAt, Write, wordTo}
 use Rattle.memory.specs.Address.{place}
 use Rattle.memory.specs.declared.Offset.{Offset}
 use Rattle.memory.specs.declared.RealAddress.{RealAddress}
-use Rattle.scb.specs.Words.{field, bit}
+use Rattle.scb.specs.Words.{bitsAt, bit}
 use Rattle.device.specs.Limits.{addressLength, mostListed, listedSize}
 use Rattle.device.specs.declared.Action.{Action}
 use Rattle.device.specs.declared.Action.the-variants as action
@@ -50,7 +50,7 @@ iaSetup base s block m =
 
 -- byte count, low 4 bits of +6, below 4 taken as 4, above 12 as 12
 abbrev pub clamped : ℕ → ℕ
-clamped byte = min 12 (max 4 (field byte 0 4))
+clamped byte = min 12 (max 4 (bitsAt byte 0 4))
 
 -- that many bytes are taken from +6 (byte 0)
 abbrev pub byteOf : RealAddress → Offset → List ℕ → ℕ → ℕ
@@ -68,7 +68,7 @@ settingsBy count byte s =
 
 -- Byte 3: bits 2-0 address length, 3 address location, 6 and 7 loopback. A length other than 6, location 1 or loopback is not taken
 abbrev pub acceptable : ℕ → Bool
-acceptable byte = eqb (field byte 0 3) addressLength && not (bit byte 3) && not (bit byte 6) && not (bit byte 7)
+acceptable byte = eqb (bitsAt byte 0 3) addressLength && not (bit byte 3) && not (bit byte 6) && not (bit byte 7)
 
 -- if the result is not acceptable: status 8000h, nothing changed (ours)
 abbrev pub configure : RealAddress → Setup → Offset → List ℕ → Acted
@@ -81,7 +81,7 @@ configure base s block m =
 
 -- low 14 bits at +6 count bytes, a remainder ignored
 abbrev pub groups : RealAddress → Offset → List ℕ → ℕ
-groups base block m = field (wordAt m (place base block argumentAt)) 0 14 / addressLength
+groups base block m = bitsAt (wordAt m (place base block argumentAt)) 0 14 / addressLength
 
 -- addresses from +8; the unused slots are zero
 unfoldable pub listing : RealAddress → Offset → List ℕ → ℕ → List ℕ
@@ -114,7 +114,7 @@ act action.Diagnose base s block m = plainly s done 0
 
 -- bits 10, 9, 7, 6, 5, 3-0 of the line report
 unfoldable pub reported : ℕ → ℕ
-reported report = field report 9 2 * 2 ^ 9 + field report 5 3 * 2 ^ 5 + field report 0 4
+reported report = bitsAt report 9 2 * 2 ^ 9 + bitsAt report 5 3 * 2 ^ 5 + bitsAt report 0 4
 
 -- 10, 9, 5 are clear
 unfoldable pub isSent : ℕ → Bool

@@ -4,14 +4,14 @@ use Rattle.device.specs.Limits.{addressLength}
 
 -- Command block: +0 status, +2 command, +4 link offset; the commands' own fields from +6 on
 
-abbrev pub statusAt : ℕ
-statusAt = 0
+abbrev pub blockStatusAt : ℕ
+blockStatusAt = 0
 
-abbrev pub commandAt : ℕ
-commandAt = 2
+abbrev pub blockCommandAt : ℕ
+blockCommandAt = 2
 
-abbrev pub linkAt : ℕ
-linkAt = 4
+abbrev pub blockLinkAt : ℕ
+blockLinkAt = 4
 
 abbrev pub argumentAt : ℕ
 argumentAt = 6

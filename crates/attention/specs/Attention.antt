@@ -6,7 +6,7 @@ use Rattle.memory.specs.Memory.{Write, wordAt, wordTo, bytesTo, apply}
 use Rattle.memory.specs.Address.{place, beyond, offsetAt, addressAt, scp}
 use Rattle.memory.specs.declared.Offset.{Offset}
 use Rattle.memory.specs.declared.RealAddress.{RealAddress}
-use Rattle.scb.specs.Words.{statusAt, commandAt, resets, acknowledged, raise, anyOf}
+use Rattle.scb.specs.Words.{scbStatusAt, scbCommandAt, resets, acknowledged, raise, anyOf}
 use Rattle.scb.specs.declared.Events.{Events}
 use Rattle.device.specs.Answers.{answered, outcomeOf}
 use Rattle.device.specs.Change.{withCu, withRu, withEvents, withUnits, initialisedAt}
@@ -40,7 +40,7 @@ initialEvents = record { cx = true; fr = false; cna = true; rnr = false }
 -- clears BUSY, writes SCB status A000h (CX, CNA) and command 0000h
 abbrev pub initialWrites : RealAddress → RealAddress → Offset → List Write
 initialWrites iscp base scb =
-    bytesTo (beyond iscp 0) (0 ∷ []) ∷ wordTo (place base scb statusAt) 0xA000 ∷ wordTo (place base scb commandAt) 0x0000 ∷ []
+    bytesTo (beyond iscp 0) (0 ∷ []) ∷ wordTo (place base scb scbStatusAt) 0xA000 ∷ wordTo (place base scb scbCommandAt) 0x0000 ∷ []
 
 abbrev pub initialisedBy : Device → RealAddress → RealAddress → Offset → Attended
 initialisedBy d iscp base scb =
@@ -61,7 +61,7 @@ unfoldable pub resetBy : Device → Attended
 resetBy d =
     record {
       outcome = outcomeOf fresh (answered 0 false) (lostBy fate.Reset (isHolding (d .units .ru)) false);
-      writes = wordTo (ofScb (d .units) commandAt) 0x0000 ∷ [];
+      writes = wordTo (ofScb (d .units) scbCommandAt) 0x0000 ∷ [];
     }
 
 -- leaving Active raises CNA, leaving Ready raises RNR
@@ -75,7 +75,7 @@ unitsAfter u command c cleft r rleft =
 
 -- write status; write command 0. An edge is reported when an attention leaves any event set
 abbrev pub settledWrites : Units → List Write
-settledWrites u = statusTo u ∷ wordTo (ofScb u commandAt) 0x0000 ∷ []
+settledWrites u = statusTo u ∷ wordTo (ofScb u scbCommandAt) 0x0000 ∷ []
 
 abbrev pub settledBy : Device → Units → List Write → Fate → Attended
 settledBy d u writes f =
@@ -98,7 +98,7 @@ attendBy false d command m = obey d command m
 -- an attention, in order: read command; if RESET ..
 unfoldable pub attend : Device → List ℕ → Attended
 attend d m =
-    let command = wordAt m (ofScb (d .units) commandAt) in attendBy (resets command) d command m
+    let command = wordAt m (ofScb (d .units) scbCommandAt) in attendBy (resets command) d command m
 
 -- ---- an attention
 

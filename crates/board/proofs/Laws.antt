@@ -13,7 +13,7 @@ use Rattle.device.specs.Limits.{longest}
 use Rattle.device.specs.declared.Device.{Device}
 use Rattle.device.specs.declared.Refusal.the-variants as refusal
 use Rattle.memory.specs.Memory.{value}
-use Rattle.words.specs.Places.{bytesFrom, field}
+use Rattle.numerals.specs.Places.{bytesFrom, field}
 use Rattle.image.specs.Found as is
 use Rattle.image.specs.Image.{imageOf, headShaped, shaped, decodeFull, decodeOf}
 use Rattle.image.proofs.Exact.{level}
@@ -105,7 +105,7 @@ module _ (n : ℕ) (m h out : List ℕ) where
   answers-4 = leftAs (saidOf before (before .kept) 4) m h out
 
   same : leftBy before m (exported.refused refusal.Foreign (lent before m h out)) ≡ answers-4
-  unfolding exported.packed
+  unfolding exported.answerNumber
   same = ap (λ (ys : List ℕ). leftAs (saidOf before (before .kept) 4) ys h out) (take-append-drop n m)
 
   module _ (size : sizeAllowed (length (take n m)) ≡ true) (areas : exported.areasRight (lent before m h out) ≡ true) where

@@ -13,7 +13,7 @@ use Rattle.image.specs.Image.{decodeOf, deviceAt}
 use Rattle.image.specs.Found as is
 use Rattle.chip.specs.World.{World, Ran, worldOf}
 use Rattle.chip.specs.Run.{runOf}
-use Rattle.calls.specs.Calls.{Areas, areasRight, refusalOf, refused, keptBy, calledBy, keptRun, runCall}
+use Rattle.calls.specs.Calls.{Areas, areasRight, refusalOf, refused, onBytes, calledBy, runOnBytes, runCall}
 
 module _ (a : Areas) (f : List ℕ) (run : World → Ran) where
   -- 1: N is not allowed
@@ -41,13 +41,13 @@ module _ (a : Areas) (f : List ℕ) (run : World → Ran) where
   -- not refused
   pub accepted : (u : Units) → sizeAllowed (length (a .memory)) ≡ true → areasRight a ≡ true → leb (length f) longest ≡ true
       → decodeOf (a .kept) ≡ is.Units u
-      → calledBy (refusalOf a f) run a ≡ keptBy (run (worldOf (deviceAt (a .kept) u) (a .memory) (a .holding) (a .outgoing)))
+      → calledBy (refusalOf a f) run a ≡ onBytes (run (worldOf (deviceAt (a .kept) u) (a .memory) (a .holding) (a .outgoing)))
   unfolding refusalOf
   accepted u s r l d = rw (s, r, l, d, d)
 
 -- ---- a run
 
 pub run-kept : (a : Areas) (report budget : ℕ) (u : Units) → sizeAllowed (length (a .memory)) ≡ true → areasRight a ≡ true → decodeOf (a .kept) ≡ is.Units u
-    → runCall a report budget ≡ keptRun (runOf budget (worldOf (deviceAt (a .kept) u) (a .memory) (a .holding) (a .outgoing)) report)
+    → runCall a report budget ≡ runOnBytes (runOf budget (worldOf (deviceAt (a .kept) u) (a .memory) (a .holding) (a .outgoing)) report)
 unfolding runCall refusalOf
 run-kept a report budget u s r d = rw (s, r, d, d)

@@ -6,12 +6,12 @@ use lib.ListN.{length, getD}
 use Rattle.memory.specs.Size.{sizeAllowed}
 use Rattle.device.specs.Numbers.{refusalNumber}
 use Rattle.device.specs.declared.Refusal.the-variants as refusal
-use Rattle.calls.specs.Calls.{areasOf, packed, lengthsRight, areasRight, refusalOf, refusedAnswer, resetCall}
+use Rattle.calls.specs.Calls.{areasOf, answerNumber, lengthsRight, areasRight, refusalOf, refusedAnswer, resetCall}
 
 -- the number, the length sent from bit 16 on, the edge in bit 32
-pub answersPacked : T (eqb (packed (record { number = refusal.Accepted; length = 60; edge = true })) 0x1003C0000
-    && eqb (packed (refusedAnswer refusal.Foreign)) 4 && eqb (packed (refusedAnswer refusal.Memory)) 1)
-unfolding packed
+pub answersPacked : T (eqb (answerNumber (record { number = refusal.Accepted; length = 60; edge = true })) 0x1003C0000
+    && eqb (answerNumber (refusedAnswer refusal.Foreign)) 4 && eqb (answerNumber (refusedAnswer refusal.Memory)) 1)
+unfolding answerNumber
 answersPacked = tt
 
 -- holding area, 2,048 bytes; outgoing area, 2,048 bytes; device record, 256 bytes: neither less nor more
@@ -26,5 +26,5 @@ lowestFirst = tt
 
 -- reset takes the record alone: one of the wrong length is refusal 2, and stays
 pub resetOfNoRecord : T (eqb (resetCall (7 ∷ []) .answer) 2 && eqb (length (resetCall (7 ∷ []) .kept)) 1 && eqb (getD (resetCall (7 ∷ []) .kept) 0 0) 7)
-unfolding packed resetCall
+unfolding answerNumber resetCall
 resetOfNoRecord = tt

@@ -48,8 +48,8 @@ pub record Calls (said : Called) (a : ℕ) (m h out r : List ℕ) : Type 0 where
   pub kept : r ≡ said .areas .kept
 
 -- number + length * 65,536 + edge * 4,294,967,296
-unfoldable pub packed : Answer → ℕ
-packed a = refusalNumber (a .number) + a .length * 2 ^ 16 + one (a .edge) * 2 ^ 32
+unfoldable pub answerNumber : Answer → ℕ
+answerNumber a = refusalNumber (a .number) + a .length * 2 ^ 16 + one (a .edge) * 2 ^ 32
 
 -- ---- refusals
 
@@ -83,14 +83,14 @@ abbrev pub refusedAnswer : Refusal → Answer
 refusedAnswer r = record { number = r; length = 0; edge = false }
 
 abbrev pub refused : Refusal → Areas → Called
-refused r a = record { answer = packed (refusedAnswer r); areas = a }
+refused r a = record { answer = answerNumber (refusedAnswer r); areas = a }
 
 -- ---- a call that is not refused: the chip's definition, under decode and image
 
-abbrev pub keptBy : Ran → Called
-keptBy r =
+abbrev pub onBytes : Ran → Called
+onBytes r =
     record {
-      answer = packed (r .outcome .answer);
+      answer = answerNumber (r .outcome .answer);
       areas = areasOf (r .memory) (r .holding) (r .outgoing) (imageOf (r .outcome .device));
     }
 
@@ -107,10 +107,10 @@ unlessRefused refusal.Overlong does a = refused refusal.Overlong a
 unlessRefused refusal.Foreign does a = refused refusal.Foreign a
 
 abbrev pub calledOn : (World → Ran) → Areas → Found → Called
-calledOn run a decoded = decodedOn (λ w. keptBy (run w)) a decoded
+calledOn run a decoded = decodedOn (λ w. onBytes (run w)) a decoded
 
 abbrev pub calledBy : Refusal → (World → Ran) → Areas → Called
-calledBy r run a = unlessRefused r (λ w. keptBy (run w)) a
+calledBy r run a = unlessRefused r (λ w. onBytes (run w)) a
 
 -- ---- attention, arrival, turn
 
@@ -126,16 +126,16 @@ turnCall a report = calledBy (refusalOf a []) (λ w. turnOf w report) a
 -- ---- a run of turns
 
 -- the answer of the last turn, with the number of turns taken in bits 48 to 63
-abbrev pub keptRun : Run → Called
-keptRun r =
+abbrev pub runOnBytes : Run → Called
+runOnBytes r =
     record {
-      answer = packed (r .answer) + r .taken * 2 ^ 48;
+      answer = answerNumber (r .answer) + r .taken * 2 ^ 48;
       areas = areasOf (r .world .memory) (r .world .holding) (r .world .outgoing) (imageOf (r .world .device));
     }
 
 -- it is refused as a turn is, with no turn taken, whatever the budget
 unfoldable pub runCall : Areas → (report budget : ℕ) → Called
-runCall a report budget = unlessRefused (refusalOf a []) (λ w. keptRun (runOf budget w report)) a
+runCall a report budget = unlessRefused (refusalOf a []) (λ w. runOnBytes (runOf budget w report)) a
 
 -- ---- reset
 
@@ -150,8 +150,8 @@ pub record Renews (said : Renewed) (a : ℕ) (r : List ℕ) : Type 0 where
 
 -- it ignores the record's content and writes a fresh one; a wrong length is refusal 2
 abbrev pub renewed : (right : Bool) → List ℕ → Renewed
-renewed true r = record { answer = packed (resetOf .answer); kept = imageOf (resetOf .device) }
-renewed false r = record { answer = packed (refusedAnswer refusal.Area); kept = r }
+renewed true r = record { answer = answerNumber (resetOf .answer); kept = imageOf (resetOf .device) }
+renewed false r = record { answer = answerNumber (refusedAnswer refusal.Area); kept = r }
 
 unfoldable pub resetCall : List ℕ → Renewed
 resetCall r = renewed (eqb (length r) recordSize) r

@@ -20,7 +20,7 @@ use Rattle.device.specs.declared.Ru.{Ru}
 use Rattle.device.specs.declared.Ru.the-variants as ru
 use Rattle.device.specs.declared.Storing.{Storing}
 use Rattle.device.specs.declared.Walk.{Walk}
-use Rattle.actions.specs.Block.{commandAt, argumentAt}
+use Rattle.actions.specs.Block.{blockCommandAt, argumentAt}
 use Rattle.actions.specs.Actions.{Acted, act, sent, notSent}
 use Rattle.command.specs.Part as command
 use Rattle.command.specs.Begin as command-begin
@@ -30,7 +30,7 @@ use Rattle.command.specs.Service as command-service
 use Rattle.receive.specs.Part as receive
 use Rattle.receive.specs.Begin as receive-begin
 use Rattle.receive.specs.Buffer as receive-buffer
-use Rattle.receive.specs.End.{before, goesOn, close, lack}
+use Rattle.receive.specs.End.{before, proceeds, close, lack}
 use Rattle.receive.specs.Service as receive-service
 use Rattle.chip.specs.Turn.{servedBy, concluded, commandTurn, receiveTurn, turnBy, turnOf}
 use Rattle.chip.specs.World.{World}
@@ -83,7 +83,7 @@ unfolding cu-mark command-begin.begin command-buffer.buffer
 cu-moves cu.Idle p m r a h = false≢true a
 cu-moves (cu.Suspended o) p m r a h = false≢true a
 cu-moves (cu.Waiting o) p m r a h =
-    let word = wordAt m (place (p .base) o commandAt) in
+    let word = wordAt m (place (p .base) o blockCommandAt) in
     omega (arith, h, begun (eqb (command-begin.cmd word) transmit) p (command-begin.begunBy o word) word m)
 cu-moves (cu.Acting b x) p m r a h = omega (arith, h, end-mark p b (act x (p .base) (p .setup) (b .block) m) m)
 cu-moves (cu.Sending b w) p m r a h =
@@ -125,7 +125,7 @@ before-mark true link = refl
 before-mark false link = refl
 
 goes-mark : (x : Bool) (p : receive.Part) (s : Storing) (free : Offset) (f : Fate) (ws : List Write) (m : List ℕ)
-    → ru-mark (goesOn x p s free f ws m .unit) ≡ 0
+    → ru-mark (proceeds x p s free f ws m .unit) ≡ 0
 unfolding ru-mark
 goes-mark true p s free f ws m = refl
 goes-mark false p s free f ws m = before-mark (s .suspend || s .pausing) _

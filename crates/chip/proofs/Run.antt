@@ -24,7 +24,7 @@ use Rattle.receive.specs.End as endings
 use Rattle.receive.specs.Service as receive-service
 use Rattle.chip.specs.World.{World, Ran, afterwards}
 use Rattle.chip.specs.Turn.{servedBy, concluded, commandTurn, receiveTurn, turnBy, turnOf}
-use Rattle.chip.specs.Run.{tells, stops, stopsAt, Run, noTurn, lastTurn, oneMore, goesOn, runOf, runFrom}
+use Rattle.chip.specs.Run.{tells, stops, stopsAt, Run, noTurn, lastTurn, oneMore, continued, runOf, runFrom}
 
 -- ---- which turns end a run
 
@@ -55,7 +55,7 @@ going-quiet w report s =
 
 -- nor does it make anything of a held frame: an end raises FR, or RNR, and so reports an edge
 goes-raises : (x : Bool) (p : receive.Part) (s : Storing) (free : Offset) (ws : List Write) (m : List ℕ)
-    → anyOf (endings.goesOn x p s free fate.Stored ws m .raised) ≡ true
+    → anyOf (endings.proceeds x p s free fate.Stored ws m .raised) ≡ true
 unfolding anyOf
 goes-raises true p s free ws m = refl
 goes-raises false p s free ws m = refl
@@ -155,7 +155,7 @@ unfolding runOf
 run-goes n w report s = rw s
 
 one-by : (s : Bool) (w : World) (report : ℕ) → stopsAt w report ≡ s
-    → goesOn s (turnOf w report) (noTurn (afterwards (turnOf w report))) ≡ lastTurn (turnOf w report)
+    → continued s (turnOf w report) (noTurn (afterwards (turnOf w report))) ≡ lastTurn (turnOf w report)
 one-by true w report e = refl
 one-by false w report e = rw (going-quiet w report e)
 
@@ -199,7 +199,7 @@ from-goes k (suc n) w report l s =
 
 -- ---- how many turns
 
-most-by : (s : Bool) (n : ℕ) (r : Ran) (rest : Run) → rest .taken ≤ n → goesOn s r rest .taken ≤ suc n
+most-by : (s : Bool) (n : ℕ) (r : Ran) (rest : Run) → rest .taken ≤ n → continued s r rest .taken ≤ suc n
 most-by true n r rest l = omega arith
 most-by false n r rest l = omega arith
 
@@ -210,7 +210,7 @@ run-most zero w report = omega arith
 run-most (suc n) w report =
     most-by (stopsAt w report) n (turnOf w report) (runOf n (afterwards (turnOf w report)) report) (run-most n (afterwards (turnOf w report)) report)
 
-some-by : (s : Bool) (r : Ran) (rest : Run) → goesOn s r rest .taken ≡ 0 → ⊥
+some-by : (s : Bool) (r : Ran) (rest : Run) → continued s r rest .taken ≡ 0 → ⊥
 some-by true r rest e = omega arith
 some-by false r rest e = omega arith
 

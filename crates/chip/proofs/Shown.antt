@@ -6,7 +6,7 @@ use lib.Dec.{T, eqb}
 use lib.ListN.{replicate}
 use Rattle.memory.specs.Address.{place}
 use Rattle.memory.specs.Memory.{byteAt, putByte, bytesAt, putBytes, value, digits, fieldAt, wordAt, wordTo, apply}
-use Rattle.scb.specs.Words.{field, joined, anyOf, eventBits, statusWord}
+use Rattle.scb.specs.Words.{bitsAt, joined, anyOf, eventBits, statusWord}
 use Rattle.device.specs.Change.{initialisedAt, servedRu, withUnits, withCu, withRu}
 use Rattle.device.specs.Numbers.{actionOf}
 use Rattle.device.specs.State.{fresh, freshUnits}
@@ -50,18 +50,18 @@ held = ru.Held (record { 0 = 0x60 }) (record { length = 16; verdict = verdict.Go
 -- an edge is reported when an event is raised, again included: CX was set before
 pub edgeAgain : T (turnOf (world (acting 0x40) ru.Idle false) 0 .outcome .answer .edge
     && not (turnOf (world waiting ru.Idle false) 0 .outcome .answer .edge))
-unfolding byteAt putByte bytesAt putBytes value digits fieldAt place field joined anyOf eventBits statusWord actionOf act nextAfter end command-begin.begunBy command-begin.begin command-service.service statusTo concluded commandTurn turnOf
+unfolding byteAt putByte bytesAt putBytes value digits fieldAt place bitsAt joined anyOf eventBits statusWord actionOf act nextAfter end command-begin.begunBy command-begin.begin command-service.service statusTo concluded commandTurn turnOf
 edgeAgain = tt
 
 -- status is written as the last write: a block that lies over the SCB does not hide it
 pub statusLast : T (eqb (wordAt (turnOf (world (acting 0x30) ru.Idle false) 0 .memory) 0x30) 0x8200)
-unfolding byteAt putByte bytesAt putBytes value digits fieldAt place field joined anyOf eventBits statusWord act nextAfter end command-service.service statusTo concluded commandTurn turnOf
+unfolding byteAt putByte bytesAt putBytes value digits fieldAt place bitsAt joined anyOf eventBits statusWord act nextAfter end command-service.service statusTo concluded commandTurn turnOf
 statusLast = tt
 
 -- at every turn that raises an event or changes a unit's state: a begin turn does neither
 pub statusNotAlways : T (eqb (wordAt (turnOf (world waiting ru.Idle false) 0 .memory) 0x30) 0x1234
     && eqb (wordAt (turnOf (world waiting ru.Idle false) 0 .memory) 0x40) 0x4000)
-unfolding byteAt putByte bytesAt putBytes value digits fieldAt place field joined anyOf eventBits statusWord actionOf command-begin.begunBy command-begin.begin command-service.service statusTo concluded commandTurn turnOf
+unfolding byteAt putByte bytesAt putBytes value digits fieldAt place bitsAt joined anyOf eventBits statusWord actionOf command-begin.begunBy command-begin.begin command-service.service statusTo concluded commandTurn turnOf
 statusNotAlways = tt
 
 -- if both have work, the unit not served at the last working turn is served
@@ -70,5 +70,5 @@ served rulast = turnOf (world waiting held rulast) 0 .memory
 
 pub byTurns : T (eqb (wordAt (served true) 0x40) 0x4000 && eqb (wordAt (served true) 0x60) 0
     && eqb (wordAt (served false) 0x40) 0 && eqb (wordAt (served false) 0x60) 0x4000)
-unfolding byteAt putByte bytesAt putBytes value digits fieldAt place field joined anyOf eventBits statusWord actionOf command-begin.begunBy command-begin.begin command-service.service receive-begin.begunBy receive-begin.begin receive-service.service statusTo concluded commandTurn receiveTurn turnOf
+unfolding byteAt putByte bytesAt putBytes value digits fieldAt place bitsAt joined anyOf eventBits statusWord actionOf command-begin.begunBy command-begin.begin command-service.service receive-begin.begunBy receive-begin.begin receive-service.service statusTo concluded commandTurn receiveTurn turnOf
 byTurns = tt

@@ -31,7 +31,7 @@ use Rattle.command.specs.Service as command-service
 use Rattle.receive.specs.Part as receive
 use Rattle.receive.specs.Begin as receive-begin
 use Rattle.receive.specs.Buffer as receive-buffer
-use Rattle.receive.specs.End.{fateOf, settles, endAt, before, goesOn, close, lack}
+use Rattle.receive.specs.End.{fateOf, settles, endAt, before, proceeds, close, lack}
 use Rattle.receive.specs.Service as receive-service
 use Rattle.device.proofs.Laws.{held-ready}
 use Rattle.chip.specs.Turn.{servedBy, concluded, commandTurn, receiveTurn, turnBy, turnOf}
@@ -114,10 +114,10 @@ unfolding anyOf
 at-ready f next ws h = ready (ruState next) (not-left-ready (isStored f) (isReady (ruState next)) h)
 
 goes-ready : (x : Bool) (p : receive.Part) (s : Storing) (free : Offset) (f : Fate) (ws : List Write) (m : List ℕ)
-    → anyOf (goesOn x p s free f ws m .raised) ≡ false → ruState (goesOn x p s free f ws m .unit) ≡ rus.Ready
+    → anyOf (proceeds x p s free f ws m .raised) ≡ false → ruState (proceeds x p s free f ws m .unit) ≡ rus.Ready
 goes-ready true p s free f ws m h = at-ready f ru.NoResources ws h
 goes-ready false p s free f ws m h =
-    let link = offsetAt (apply ws m) (place (p .base) (s .fd) receive.linkAt) in
+    let link = offsetAt (apply ws m) (place (p .base) (s .fd) receive.fdLinkAt) in
     at-ready f (before (s .suspend || s .pausing) link) (ws ++ (wordTo (place (p .base) link receive.firstAt) (free .0) ∷ [])) h
 
 close-ready : (p : receive.Part) (s : Storing) (free : Offset) (full : Bool) (m : List ℕ)

@@ -45,15 +45,15 @@ lastTurn r = record { world = afterwards r; answer = r .outcome .answer; taken =
 abbrev pub oneMore : Run → Run
 oneMore r = record { world = r .world; answer = r .answer; taken = suc (r .taken) }
 
-abbrev pub goesOn : (stopped : Bool) → Ran → (rest : Run) → Run
-goesOn true r rest = lastTurn r
-goesOn false r rest = oneMore rest
+abbrev pub continued : (stopped : Bool) → Ran → (rest : Run) → Run
+continued true r rest = lastTurn r
+continued false r rest = oneMore rest
 
 -- at most as many turns as the budget; every turn has the same line report
 unfoldable pub runOf : (budget : ℕ) → World → (report : ℕ) → Run
 runOf zero w report = noTurn w
 runOf (suc n) w report =
-    let r = turnOf w report in goesOn (stopsAt w report) r (runOf n (afterwards r) report)
+    let r = turnOf w report in continued (stopsAt w report) r (runOf n (afterwards r) report)
 
 -- the rest of a run, for a loop that counts: so many turns having been taken before
 abbrev pub counting : ℕ → Run → Run

@@ -4,7 +4,7 @@ use mathlib.Core.Bool.{Bool, true, false}
 use mathlib.Core.List.{List}
 use Prim.Native.Nat.{ℕ, _≤_}
 use native.Mathlib.Omega.{arith}
-use Rattle.scb.specs.Words.{commandAt, resets}
+use Rattle.scb.specs.Words.{scbCommandAt, resets}
 use Rattle.memory.specs.Memory.{wordAt}
 use Rattle.device.specs.State.{cuState, isActive, isHolding}
 use Rattle.device.specs.declared.Device.{Device}
@@ -35,7 +35,7 @@ attention-silent-by : (i : Bool) (d : Device) (m : List ℕ) → Silent (attendi
 unfolding attending.initialise attending.attend
 attention-silent-by false d m = record { number = refl; length = refl }
 attention-silent-by true d m =
-    let command = wordAt m (ofScb (d .units) commandAt) in attend-silent-by (resets command) d command m
+    let command = wordAt m (ofScb (d .units) scbCommandAt) in attend-silent-by (resets command) d command m
 
 attention-silent : (w : World) → Silent (attentionOf w .outcome .answer)
 unfolding attentionOf attending.attention

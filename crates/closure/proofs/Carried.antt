@@ -26,7 +26,7 @@ use Rattle.chip.specs.Attention.{attentionOf}
 use Rattle.chip.specs.Arrival.{arrivalOf}
 use Rattle.chip.specs.Turn.{turnOf}
 use Rattle.chip.specs.Call.{Call, reset, attention, arrive, turn, ran}
-use Rattle.calls.specs.Calls.{Areas, Called, packed, isImage, refusalOf, keptBy, calledBy, attentionCall, arrivalCall, turnCall, resetCall}
+use Rattle.calls.specs.Calls.{Areas, Called, answerNumber, isImage, refusalOf, onBytes, calledBy, attentionCall, arrivalCall, turnCall, resetCall}
 use Rattle.calls.proofs.Laws.{accepted}
 use Rattle.traces.specs.Bytes.{called, number, sentLength, edge, isRefused}
 use Rattle.closure.specs.Sound.{Sound, Lent, Fit}
@@ -35,7 +35,7 @@ use Rattle.closure.specs.Carried.{AsLong, worldIn, Carried, Again, Parts
 use Rattle.closure.proofs.Closed.{closed, reset-closed}
 use Rattle.closure.proofs.Lengths.{lengths-kept}
 use Rattle.closure.proofs.Answers.{number-accepted, sent-most}
-use Rattle.closure.proofs.Refusals.{packed-number, packed-length, packed-edge, holds-of, right-lengths, table, untouched}
+use Rattle.closure.proofs.Refusals.{told-number, told-length, told-edge, holds-of, right-lengths, table, untouched}
 
 -- ---- a record that holds a state
 
@@ -86,25 +86,25 @@ not-refused c a k e = table c a k refusal.Accepted .0 (zero-number c a e)
 -- of the calls that take all four
 same-by : (a : Areas) (f : List ℕ) (go : World → Ran) (d : Device) → Holds (a .kept) d → Allowed (length (a .memory)) → AreasRight a
     → length f ≤ longest
-    → calledBy (refusalOf a f) go a ≡ keptBy (go (worldIn d a))
+    → calledBy (refusalOf a f) go a ≡ onBytes (go (worldIn d a))
 same-by a f go d h s r l =
     accepted a f go (d .units) (size-allowed (length (a .memory)) s) (right-lengths a (holds-length (a .kept) d h) r) (le-leb _ _ l)
     (holds-decoded (a .kept) d h)
-    ∙ ap (λ (x : Device). keptBy (go (worldIn x a))) (holds-back (a .kept) d h)
+    ∙ ap (λ (x : Device). onBytes (go (worldIn x a))) (holds-back (a .kept) d h)
 
 -- reset, whatever the record holds
-reset-same : (d : Device) (a : Areas) → length (a .kept) ≡ recordSize → called reset a ≡ keptBy (ran reset (worldIn d a))
+reset-same : (d : Device) (a : Areas) → length (a .kept) ≡ recordSize → called reset a ≡ onBytes (ran reset (worldIn d a))
 unfolding resetCall
 reset-same d a l = rw (eq-eqb (length (a .kept)) recordSize l)
 
-called-same : (c : Call) (a : Areas) (d : Device) → Holds (a .kept) d → When refusal.Accepted c a → called c a ≡ keptBy (ran c (worldIn d a))
+called-same : (c : Call) (a : Areas) (d : Device) → Holds (a .kept) d → When refusal.Accepted c a → called c a ≡ onBytes (ran c (worldIn d a))
 unfolding attentionCall arrivalCall turnCall
 called-same reset a d h x = reset-same d a (x .1 .0)
 called-same attention a d h x = same-by a [] attentionOf d h (x .0) (x .1 .1) (x .2)
 called-same (arrive f v) a d h x = same-by a f (λ w. arrivalOf w f v) d h (x .0) (x .1 .1) (x .2)
 called-same (turn report) a d h x = same-by a [] (λ w. turnOf w report) d h (x .0) (x .1 .1) (x .2)
 
-carried-by : (c : Call) (d : Device) (a : Areas) → Sound (afterwards (ran c (worldIn d a))) → called c a ≡ keptBy (ran c (worldIn d a))
+carried-by : (c : Call) (d : Device) (a : Areas) → Sound (afterwards (ran c (worldIn d a))) → called c a ≡ onBytes (ran c (worldIn d a))
     → Carried c d a
 carried-by c d a g e =
     let r = ran c (worldIn d a) in
@@ -165,7 +165,7 @@ again-sound attention a f l d h = closed attention (worldIn d a) f (lent-sound a
 again-sound (arrive x v) a f l d h = closed (arrive x v) (worldIn d a) f (lent-sound a d l h)
 again-sound (turn report) a f l d h = closed (turn report) (worldIn d a) f (lent-sound a d l h)
 
-kept-lent : (r : Ran) → Sound (afterwards r) → Lent (keptBy r .areas)
+kept-lent : (r : Ran) → Sound (afterwards r) → Lent (onBytes r .areas)
 kept-lent r s =
     record { memory = s .memory; holding = s .holding; outgoing = s .outgoing; kept = image-bytes (r .outcome .device) (s .wide) }
 
@@ -187,7 +187,7 @@ long-by false c a e f l =
     let g = accepted-again c a f l e in
     let s = lengths-kept c (worldIn (g .device) a) in
     let k = holds-length (called c a .areas .kept) _ (g .carried .holds) ∙ sym (length-kept c a (l .kept) e) in
-    let m : called c a .areas ≡ keptBy (ran c (worldIn (g .device) a)) .areas = ap (λ (x : Called). x .areas) (g .carried .same) in
+    let m : called c a .areas ≡ onBytes (ran c (worldIn (g .device) a)) .areas = ap (λ (x : Called). x .areas) (g .carried .same) in
     record {
       memory = ap (λ (x : Areas). length (x .memory)) m ∙ s .memory;
       holding = ap (λ (x : Areas). length (x .holding)) m ∙ s .holding;
@@ -205,12 +205,12 @@ pub answer-parts : (c : Call) (a : Areas) (d : Device) → Lent a → Holds (a .
 answer-parts c a d l h e =
     let x = ran c (worldIn d a) .outcome .answer in
     let m : x .length ≤ 2048 = sent-most c (worldIn d a) (lent-sound a d l h) in
-    let s : called c a .answer ≡ packed x = ap (λ (r : Called). r .answer) (called-same c a d h (not-refused c a (l .kept) e)) in
-    let k : sentLength (packed x) ≡ x .length = packed-length x (omega arith) in
+    let s : called c a .answer ≡ answerNumber x = ap (λ (r : Called). r .answer) (called-same c a d h (not-refused c a (l .kept) e)) in
+    let k : sentLength (answerNumber x) ≡ x .length = told-length x (omega arith) in
     rw s
     (record {
-      number = packed-number x ∙ ap refusalNumber (number-accepted c (worldIn d a));
+      number = told-number x ∙ ap refusalNumber (number-accepted c (worldIn d a));
       length = k;
       most = omega arith;
-      edge = packed-edge x (omega arith);
+      edge = told-edge x (omega arith);
     })

@@ -23,7 +23,7 @@ use Rattle.device.specs.declared.Cu.{Cu}
 use Rattle.device.specs.declared.Cu.the-variants as cu
 use Rattle.device.specs.declared.Settings.{Settings}
 use Rattle.device.specs.declared.Walk.{Walk}
-use Rattle.actions.specs.Block.{commandAt, linkAt, argumentAt, destinationAt, typeAt}
+use Rattle.actions.specs.Block.{blockCommandAt, blockLinkAt, argumentAt, destinationAt, typeAt}
 use Rattle.actions.specs.Setup.{Setup}
 use Rattle.actions.specs.Actions.{Acted, plainly, setting, clamped, byteOf, settingsBy, acceptable, groups, listing, act, isSent, sent}
 use Rattle.command.specs.Part.{Part, Service}
@@ -186,7 +186,7 @@ begin-good : (p : Part) (block : Offset) (m : List ℕ) → block .0 < 65536 →
     → ServiceGood (begin p block m)
 unfolding begin
 begin-good p block m h s o mb =
-    let word = wordAt m (place (p .base) block commandAt) in
+    let word = wordAt m (place (p .base) block blockCommandAt) in
     record {
       part = begun-good (eqb (cmd word) transmit) p (begunBy block word) word m (begun-block block word h) s o mb;
       writes = (digits-bytes 2 0x4000, tt);
@@ -246,7 +246,7 @@ next-good : (base : RealAddress) (b : Begun) (status : ℕ) (m : List ℕ) → B
 unfolding nextAfter
 next-good base b status m h =
     ended-good (b .el) (b .suspend || b .pausing) _
-    (field-bound (apply (statusTo base b status ∷ []) m) (place base (b .block) linkAt) 2
+    (field-bound (apply (statusTo base b status ∷ []) m) (place base (b .block) blockLinkAt) 2
     (apply-bytes (statusTo base b status ∷ []) m (digits-bytes 2 status, tt) h))
 
 end-good : (p : Part) (b : Begun) (a : Acted) (m : List ℕ) → ActedGood a → Bytes (p .outgoing) → Bytes m → ServiceGood (end p b a m)

@@ -11,7 +11,7 @@ use Rattle.memory.specs.Memory.{wordAt, apply}
 use Rattle.memory.specs.declared.Offset.{Offset}
 use Rattle.memory.specs.declared.RealAddress.{RealAddress}
 use Rattle.memory.proofs.Bytes.{Bytes, AllBytes, all-append, apply-bytes, field-bound, digits-bytes, bytes-cons, bytes-nil}
-use Rattle.scb.specs.Words.{cblAt, rfaAt, commandAt, cuc, ruc, resets}
+use Rattle.scb.specs.Words.{cblAt, rfaAt, scbCommandAt, cuc, ruc, resets}
 use Rattle.scb.specs.Control.{cuNext, ruNext}
 use Rattle.scb.specs.declared.CuState.{CuState}
 use Rattle.scb.specs.declared.CuState.the-variants as cus
@@ -303,7 +303,7 @@ attend-good-by false d command m h b = obey-good d command m h b
 attend-good : (d : Device) (m : List ℕ) → Running d → Bytes m → AttendedGood (attend d m)
 unfolding attend
 attend-good d m h b =
-    let command = wordAt m (ofScb (d .units) commandAt) in attend-good-by (resets command) d command m h b
+    let command = wordAt m (ofScb (d .units) scbCommandAt) in attend-good-by (resets command) d command m h b
 
 attention-good-by : (initialised : Bool) (d : Device) (m : List ℕ) → d .units .initialised ≡ initialised → inRange d ≡ true → Wide d → Bytes m
     → AttendedGood (attentionBy initialised d m)

@@ -22,7 +22,7 @@ use Rattle.device.specs.declared.Device.{Device}
 use Rattle.device.specs.declared.Units.{Units}
 use Rattle.device.specs.declared.Walk.{Walk}
 use Rattle.filter.specs.Match.{matches}
-use Rattle.actions.specs.Block.{commandAt}
+use Rattle.actions.specs.Block.{blockCommandAt}
 use Rattle.command.specs.Part as command
 use Rattle.command.specs.Begin as command-begin
 use Rattle.command.specs.Buffer as command-buffer
@@ -64,7 +64,7 @@ unfolding command-begin.begin command-buffer.buffer command-end.end
 service-length cu.Idle p m report = refl
 service-length (cu.Suspended o) p m report = refl
 service-length (cu.Waiting o) p m report =
-    let word = wordAt m (place (p .base) o commandAt) in
+    let word = wordAt m (place (p .base) o blockCommandAt) in
     begun-length (eqb (command-begin.cmd word) transmit) p (command-begin.begunBy o word) word m
 service-length (cu.Acting b a) p m report = refl
 service-length (cu.Sending b w) p m report =

@@ -24,10 +24,10 @@ use Rattle.device.specs.declared.Settings.{Settings}
 use Rattle.device.specs.declared.Storing.{Storing}
 use Rattle.device.specs.declared.Walk.{Walk}
 use Rattle.receive.specs.Arrival.{lengthOf, judged, counterFor, inReady, inNoResources, fateIn, fateBy, fateOf, unitBy, areaBy}
-use Rattle.receive.specs.Part.{Part, Service, controlAt, firstAt, linkAt}
+use Rattle.receive.specs.Part.{Part, Service, controlAt, firstAt, fdLinkAt}
 use Rattle.receive.specs.Begin.{begunBy, isBare, toFirst, begin}
 use Rattle.receive.specs.Buffer.{descriptorAt, past, count, isDone, afterBuffer, buffer}
-use Rattle.receive.specs.End.{frameStatus, bareMark, descriptorBy, settles, before, goesOn, close, lack, fateOf as endFate}
+use Rattle.receive.specs.End.{frameStatus, bareMark, descriptorBy, settles, before, proceeds, close, lack, fateOf as endFate}
 use Rattle.receive.specs.Service.{serviceBy}
 use Rattle.image.specs.Ranges.{frameFits}
 use Rattle.closure.proofs.Units.{RuGood, StoringGood, frame-size, frame-true, ru-none, ru-suspended, ru-ready, ru-held, ru-filling, ru-closing, ru-lacking, fd-ready, fd-held, held-frame, filling-storing, filling-left, filling-walk}
@@ -202,12 +202,12 @@ before-good true link h = ru-suspended link h
 before-good false link h = ru-ready link h
 
 goes-good : (exhausted : Bool) (p : Part) (s : Storing) (free : Offset) (f : Fate) (ws : List Write) (m : List ℕ) → AllBytes ws → Bytes m
-    → ServiceGood (goesOn exhausted p s free f ws m)
+    → ServiceGood (proceeds exhausted p s free f ws m)
 goes-good true p s free f ws m h mb = record { unit = ru-none; writes = h }
 goes-good false p s free f ws m h mb =
-    let link = offsetAt (apply ws m) (place (p .base) (s .fd) linkAt) in
+    let link = offsetAt (apply ws m) (place (p .base) (s .fd) fdLinkAt) in
     record {
-      unit = before-good (s .suspend || s .pausing) link (field-bound (apply ws m) (place (p .base) (s .fd) linkAt) 2 (apply-bytes ws m h mb));
+      unit = before-good (s .suspend || s .pausing) link (field-bound (apply ws m) (place (p .base) (s .fd) fdLinkAt) 2 (apply-bytes ws m h mb));
       writes = all-append ws (wordTo (place (p .base) link firstAt) (free .0) ∷ []) h (digits-bytes 2 (free .0), tt);
     }
 

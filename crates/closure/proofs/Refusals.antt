@@ -28,13 +28,13 @@ use Rattle.chip.specs.Attention.{attentionOf}
 use Rattle.chip.specs.Arrival.{arrivalOf}
 use Rattle.chip.specs.Turn.{turnOf}
 use Rattle.chip.specs.Call.{Call, reset, attention, arrive, turn}
-use Rattle.calls.specs.Calls.{Areas, Called, packed, areasRight, refusalOf, refusedAnswer, refused, keptBy, calledOn, calledBy, attentionCall, arrivalCall, turnCall, renewed, resetCall}
+use Rattle.calls.specs.Calls.{Areas, Called, answerNumber, areasRight, refusalOf, refusedAnswer, refused, onBytes, calledOn, calledBy, attentionCall, arrivalCall, turnCall, renewed, resetCall}
 use Rattle.calls.proofs.Laws.{bad-size, bad-area, too-long, no-image, accepted}
 use Rattle.traces.specs.Bytes.{renewedIn, called, number, sentLength, edge, isRefused}
 use Rattle.closure.specs.Refusals.{SizeRight, AreasRight, LengthsRight, FrameRight, Holds, RecordRight, Lowest, When, Untouched}
 use Rattle.closure.proofs.Answers.{number-accepted}
 
--- ---- a packed answer taken apart gives back its number, its length and its edge
+-- ---- an answer taken apart gives back its number, its length and its edge
 
 pub refusal-below : (r : Refusal) → refusalNumber r < 5
 refusal-below refusal.Accepted = omega arith
@@ -56,17 +56,17 @@ length-of r l e h k =
 edge-of : (r l e : ℕ) → r < 5 → l < 65536 → (r + l * 65536 + e * 4294967296) / 4294967296 ≡ e
 edge-of r l e h k = omega arith
 
-pub packed-number : (a : Answer) → number (packed a) ≡ refusalNumber (a .number)
-unfolding packed
-packed-number a = number-of (refusalNumber (a .number)) (a .length) (one (a .edge)) (refusal-below (a .number))
+pub told-number : (a : Answer) → number (answerNumber a) ≡ refusalNumber (a .number)
+unfolding answerNumber
+told-number a = number-of (refusalNumber (a .number)) (a .length) (one (a .edge)) (refusal-below (a .number))
 
-pub packed-length : (a : Answer) → a .length < 65536 → sentLength (packed a) ≡ a .length
-unfolding packed
-packed-length a h = length-of (refusalNumber (a .number)) (a .length) (one (a .edge)) (refusal-below (a .number)) h
+pub told-length : (a : Answer) → a .length < 65536 → sentLength (answerNumber a) ≡ a .length
+unfolding answerNumber
+told-length a h = length-of (refusalNumber (a .number)) (a .length) (one (a .edge)) (refusal-below (a .number)) h
 
-pub packed-edge : (a : Answer) → a .length < 65536 → edge (packed a) ≡ one (a .edge)
-unfolding packed
-packed-edge a h = edge-of (refusalNumber (a .number)) (a .length) (one (a .edge)) (refusal-below (a .number)) h
+pub told-edge : (a : Answer) → a .length < 65536 → edge (answerNumber a) ≡ one (a .edge)
+unfolding answerNumber
+told-edge a h = edge-of (refusalNumber (a .number)) (a .length) (one (a .edge)) (refusal-below (a .number)) h
 
 -- ---- the tests of the definitions are the table's conditions
 
@@ -165,10 +165,10 @@ module _ (S L F R : Type 0) where
 -- ---- what a call that takes all four gives
 
 refused-number : (r : Refusal) (a : Areas) → number (refused r a .answer) ≡ refusalNumber r
-refused-number r a = packed-number (refusedAnswer r)
+refused-number r a = told-number (refusedAnswer r)
 
-kept-number : (x : Ran) → x .outcome .answer .number ≡ refusal.Accepted → number (keptBy x .answer) ≡ 0
-kept-number x e = packed-number (x .outcome .answer) ∙ ap refusalNumber e
+kept-number : (x : Ran) → x .outcome .answer .number ≡ refusal.Accepted → number (onBytes x .answer) ≡ 0
+kept-number x e = told-number (x .outcome .answer) ∙ ap refusalNumber e
 
 abbrev GivenBy : Areas → List ℕ → Called → Type 0
 GivenBy a f x =
@@ -235,9 +235,9 @@ GivenAt r x = Given (Unit {0}) ((length r ≡ recordSize) × Unit {0}) (0 ≤ lo
 given-reset-by : (a : Areas) (x : Bool) → eqb (length (a .kept)) recordSize ≡ x → GivenAt (a .kept) (renewedIn a (renewed x (a .kept)))
 unfolding resetOf
 given-reset-by a true e =
-    record { which = refusal.Accepted; given = packed-number (resetOf .answer); line = (tt, (eqb-true _ _ e, tt), omega arith, tt) }
+    record { which = refusal.Accepted; given = told-number (resetOf .answer); line = (tt, (eqb-true _ _ e, tt), omega arith, tt) }
 given-reset-by a false e =
-    record { which = refusal.Area; given = packed-number (refusedAnswer refusal.Area); line = (tt, λ h. eqb-false _ _ e (h .0)) }
+    record { which = refusal.Area; given = told-number (refusedAnswer refusal.Area); line = (tt, λ h. eqb-false _ _ e (h .0)) }
 
 given-reset : (a : Areas) → GivenAt (a .kept) (renewedIn a (resetCall (a .kept)))
 unfolding resetCall
@@ -265,7 +265,7 @@ some-line c a k = let g = given c a k in (g .which, g .given)
 
 refused-untouched : (r : Refusal) (a : Areas) → Untouched a (refused r a)
 refused-untouched r a =
-    record { areas = refl; length = packed-length (refusedAnswer r) (omega arith); edge = packed-edge (refusedAnswer r) (omega arith) }
+    record { areas = refl; length = told-length (refusedAnswer r) (omega arith); edge = told-edge (refusedAnswer r) (omega arith) }
 
 not-zero : (x : ℕ) → x ≡ 0 → not (eqb x 0) ≡ true → ⊥
 not-zero x e h = false≢true (sym (ap not (eq-eqb x 0 e)) ∙ h)
@@ -274,7 +274,7 @@ module _ (a : Areas) (run : World → Ran) (n : Accepts run) where
   on-untouched : (x : Found) → isRefused (calledOn run a x) ≡ true → Untouched a (calledOn run a x)
   on-untouched (is.Units u) h =
       let w = worldOf (deviceAt (a .kept) u) (a .memory) (a .holding) (a .outgoing) in
-      absurd (not-zero (number (keptBy (run w) .answer)) (kept-number (run w) (n w)) h)
+      absurd (not-zero (number (onBytes (run w) .answer)) (kept-number (run w) (n w)) h)
   on-untouched is.Foreign h = refused-untouched refusal.Foreign a
 
   by-untouched : (r : Refusal) → isRefused (calledBy r run a) ≡ true → Untouched a (calledBy r run a)
@@ -286,7 +286,7 @@ module _ (a : Areas) (run : World → Ran) (n : Accepts run) where
 
 reset-untouched : (a : Areas) (x : Bool) → isRefused (renewedIn a (renewed x (a .kept))) ≡ true → Untouched a (renewedIn a (renewed x (a .kept)))
 unfolding resetOf
-reset-untouched a true h = absurd (not-zero (number (packed (resetOf .answer))) (packed-number (resetOf .answer)) h)
+reset-untouched a true h = absurd (not-zero (number (answerNumber (resetOf .answer))) (told-number (resetOf .answer)) h)
 reset-untouched a false h =
     let x = refused-untouched refusal.Area a in record { areas = refl; length = x .length; edge = x .edge }
 

@@ -10,7 +10,7 @@ use Rattle.image.specs.Image.{decodeOf, deviceAt}
 use Rattle.image.specs.Found as is
 use Rattle.chip.specs.World.{World, worldOf, afterwards, resetOf}
 use Rattle.chip.specs.Call.{Call, reset, ran}
-use Rattle.calls.specs.Calls.{Areas, areasOf, Called, packed}
+use Rattle.calls.specs.Calls.{Areas, areasOf, Called, answerNumber}
 use Rattle.traces.specs.Bytes.{called, isRefused}
 use Rattle.traces.specs.Event.{Event, call, host, step}
 use Rattle.closure.specs.Sound.{Sound, Lent, Fit}
@@ -26,11 +26,11 @@ pub shows-world : (a : Areas) (w : World) → Shows a w → worldIn (w .device) 
 shows-world a w s = rw (s .memory, s .holding, s .outgoing)
 
 pub carry-shown : (c : Call) (a : Areas) (w : World) → Fit c → Lent a → Shows a w → isRefused (called c a) ≡ false
-    → (Shows (called c a .areas) (afterwards (ran c w))) × (called c a .answer ≡ packed (ran c w .outcome .answer))
+    → (Shows (called c a .areas) (afterwards (ran c w))) × (called c a .answer ≡ answerNumber (ran c w .outcome .answer))
 carry-shown c a w f l s e =
     let x = carry c a (w .device) f l (s .kept) e in
     subst
-    (λ (v : World). Shows (called c a .areas) (afterwards (ran c v)) × (called c a .answer ≡ packed (ran c v .outcome .answer)))
+    (λ (v : World). Shows (called c a .areas) (afterwards (ran c v)) × (called c a .answer ≡ answerNumber (ran c v .outcome .answer)))
     (shows-world a w s) (
       record {
         memory = ap (λ (r : Called). r .areas .memory) (x .same);

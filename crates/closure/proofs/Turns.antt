@@ -25,12 +25,12 @@ use Rattle.image.specs.Found as is
 use Rattle.image.proofs.Exact.{one-state}
 use Rattle.chip.specs.World.{World, Ran, worldOf, afterwards}
 use Rattle.chip.specs.Turn.{turnOf}
-use Rattle.chip.specs.Run.{stopsAt, Run, lastTurn, oneMore, goesOn, runOf}
+use Rattle.chip.specs.Run.{stopsAt, Run, lastTurn, oneMore, continued, runOf}
 use Rattle.chip.specs.Call.{turn}
 use Rattle.chip.proofs.Moves.{unchanged-stops}
 use Rattle.chip.proofs.Run.{Cause, going-quiet, sent-stops, edge-stops, stops-cause}
 use Rattle.chip.proofs.Run as cause
-use Rattle.calls.specs.Calls.{Areas, areasOf, Called, packed, refusalOf, keptBy, decodedOn, unlessRefused, calledOn, calledBy, keptRun, turnCall, runCall}
+use Rattle.calls.specs.Calls.{Areas, areasOf, Called, answerNumber, refusalOf, onBytes, decodedOn, unlessRefused, calledOn, calledBy, runOnBytes, turnCall, runCall}
 use Rattle.calls.proofs.Laws as laws
 use Rattle.traces.specs.Bytes.{number, edge, isRefused}
 use Rattle.closure.specs.Sound.{Sound, Lent}
@@ -40,14 +40,14 @@ use Rattle.closure.specs.Runs.{Shows}
 use Rattle.closure.specs.Turns.{turnsOn, lastAnswer, turnsTaken, withoutTurns, Ends, sent, edged, workless, AsTurns}
 use Rattle.closure.proofs.Closed.{closed}
 use Rattle.closure.proofs.Answers.{number-accepted, sent-most}
-use Rattle.closure.proofs.Refusals.{refusal-below, packed-number, right-lengths, table, untouched}
+use Rattle.closure.proofs.Refusals.{refusal-below, told-number, right-lengths, table, untouched}
 use Rattle.closure.proofs.Carried.{holds-decoded, holds-back, holds-length, not-refused, lent-kept, areas-as-long, answer-parts}
 use Rattle.closure.proofs.Runs.{shows-world, carry-shown}
 
 -- ---- what a run answers on states
 
 number-by : (s : Bool) (r : Ran) (rest : Run) → r .outcome .answer .number ≡ refusal.Accepted → rest .answer .number ≡ refusal.Accepted
-    → goesOn s r rest .answer .number ≡ refusal.Accepted
+    → continued s r rest .answer .number ≡ refusal.Accepted
 number-by true r rest a b = a
 number-by false r rest a b = b
 
@@ -60,7 +60,7 @@ run-number (suc n) w report =
     (run-number n (afterwards (turnOf w report)) report)
 
 length-by : (s : Bool) (r : Ran) (rest : Run) → r .outcome .answer .length ≤ 2048 → rest .answer .length ≤ 2048
-    → goesOn s r rest .answer .length ≤ 2048
+    → continued s r rest .answer .length ≤ 2048
 length-by true r rest a b = a
 length-by false r rest a b = b
 
@@ -83,9 +83,9 @@ one-below : (b : Bool) → one b < 2
 one-below true = omega arith
 one-below false = omega arith
 
-packed-below : (x : Answer) → x .length ≤ 2048 → packed x < 281474976710656
-unfolding packed
-packed-below x l = omega (arith, one-below (x .edge), refusal-below (x .number))
+answerNumber-below : (x : Answer) → x .length ≤ 2048 → answerNumber x < 281474976710656
+unfolding answerNumber
+answerNumber-below x l = omega (arith, one-below (x .edge), refusal-below (x .number))
 
 count-of : (p t : ℕ) → p < 281474976710656 → turnsTaken (p + t * 281474976710656) ≡ t
 count-of p t l = omega arith
@@ -95,11 +95,11 @@ rest-of p t l = omega arith
 
 -- ---- refusals: those of a turn
 
-kept-number : (r : Run) → r .answer .number ≡ refusal.Accepted → number (keptRun r .answer) ≡ 0
-kept-number r e = low-part (packed (r .answer)) (r .taken) ∙ packed-number (r .answer) ∙ ap refusalNumber e
+kept-number : (r : Run) → r .answer .number ≡ refusal.Accepted → number (runOnBytes r .answer) ≡ 0
+kept-number r e = low-part (answerNumber (r .answer)) (r .taken) ∙ told-number (r .answer) ∙ ap refusalNumber e
 
-turned-number : (r : Ran) → r .outcome .answer .number ≡ refusal.Accepted → number (keptBy r .answer) ≡ 0
-turned-number r e = packed-number (r .outcome .answer) ∙ ap refusalNumber e
+turned-number : (r : Ran) → r .outcome .answer .number ≡ refusal.Accepted → number (onBytes r .answer) ≡ 0
+turned-number r e = told-number (r .outcome .answer) ∙ ap refusalNumber e
 
 -- a run and a turn, by what is refused and what is decoded
 data Like (x y : Called) : Type 0 where
@@ -107,13 +107,13 @@ data Like (x y : Called) : Type 0 where
   both-taken : number (x .answer) ≡ 0 → number (y .answer) ≡ 0 → Like x y
 
 module _ (a : Areas) (report budget : ℕ) where
-  like-on : (x : Found) → Like (decodedOn (λ w. keptRun (runOf budget w report)) a x) (calledOn (λ w. turnOf w report) a x)
+  like-on : (x : Found) → Like (decodedOn (λ w. runOnBytes (runOf budget w report)) a x) (calledOn (λ w. turnOf w report) a x)
   like-on (is.Units u) =
       let w = worldOf (deviceAt (a .kept) u) (a .memory) (a .holding) (a .outgoing) in
       both-taken (kept-number (runOf budget w report) (run-number budget w report)) (turned-number (turnOf w report) (number-accepted (turn report) w))
   like-on is.Foreign = both-refused refl
 
-  like-by : (r : Refusal) → Like (unlessRefused r (λ w. keptRun (runOf budget w report)) a) (calledBy r (λ w. turnOf w report) a)
+  like-by : (r : Refusal) → Like (unlessRefused r (λ w. runOnBytes (runOf budget w report)) a) (calledBy r (λ w. turnOf w report) a)
   like-by refusal.Accepted = like-on (decodeOf (a .kept))
   like-by refusal.Memory = both-refused refl
   like-by refusal.Area = both-refused refl
@@ -216,21 +216,21 @@ ends-stops a w report l s e (workless k) =
 
 -- what a run on the world comes to, beside the turns on the areas
 record Took (n : ℕ) (a : Areas) (report : ℕ) (r : Run) : Type 0 where
-  areas : keptRun r .areas ≡ turnsOn (r .taken) a report
-  answer : packed (r .answer) ≡ lastAnswer (r .taken) a report
+  areas : runOnBytes r .areas ≡ turnsOn (r .taken) a report
+  answer : answerNumber (r .answer) ≡ lastAnswer (r .taken) a report
   most : r .taken ≤ n
   going : (j : ℕ) → suc j < r .taken → Ends (turnsOn j a report) report → ⊥
   ended : (r .taken ≡ n) ⊎ ((j : ℕ) × (r .taken ≡ suc j) × Ends (turnsOn j a report) report)
 
-packed-quiet : packed (answered 0 false) ≡ 0
-unfolding packed
-packed-quiet = refl
+answerNumber-quiet : answerNumber (answered 0 false) ≡ 0
+unfolding answerNumber
+answerNumber-quiet = refl
 
 -- a turn before a run
 module _ (n : ℕ) (a : Areas) (w : World) (report : ℕ) (l : Lent a) (s : Shows a w) (e : isRefused (turnCall a report) ≡ false) where
   last-by : (k p : ℕ) → stopsAt w report ≡ false → p ≡ lastAnswer k (turnCall a report .areas) report → p ≡ lastAnswer (suc k) a report
   last-by zero p g q =
-      q ∙ sym (carry-shown (turn report) a w tt l s e .1 ∙ ap packed (going-quiet w report g) ∙ packed-quiet)
+      q ∙ sym (carry-shown (turn report) a w tt l s e .1 ∙ ap answerNumber (going-quiet w report g) ∙ answerNumber-quiet)
   last-by (suc k) p g q = q
 
   going-by : (r : Run) → stopsAt w report ≡ false → ((j : ℕ) → suc j < r .taken → Ends (turnsOn j (turnCall a report .areas) report) report → ⊥)
@@ -244,7 +244,7 @@ module _ (n : ℕ) (a : Areas) (w : World) (report : ℕ) (l : Lent a) (s : Show
       let r = runOf n (afterwards (turnOf w report)) report in
       record {
         areas = t .areas;
-        answer = last-by (r .taken) (packed (r .answer)) g (t .answer);
+        answer = last-by (r .taken) (answerNumber (r .answer)) g (t .answer);
         most = omega (arith, t .most);
         going = going-by r g (t .going);
         ended = ⊎-elim (λ (x : r .taken ≡ n). inl (ap suc x))
@@ -263,7 +263,7 @@ module _ (n : ℕ) (a : Areas) (w : World) (report : ℕ) (l : Lent a) (s : Show
       }
 
   took-by : (x : Bool) → stopsAt w report ≡ x → Took n (turnCall a report .areas) report (runOf n (afterwards (turnOf w report)) report)
-      → Took (suc n) a report (goesOn x (turnOf w report) (runOf n (afterwards (turnOf w report)) report))
+      → Took (suc n) a report (continued x (turnOf w report) (runOf n (afterwards (turnOf w report)) report))
   took-by true g t = took-last g
   took-by false g t = took-more g t
 
@@ -273,7 +273,7 @@ unfolding runOf
 took zero a w report l s e =
     record {
       areas = shown-areas a w s;
-      answer = packed-quiet;
+      answer = answerNumber-quiet;
       most = omega arith;
       going = λ j b x. omega (arith, b);
       ended = inl refl;
@@ -286,17 +286,17 @@ took (suc n) a w report l s e =
 -- ---- a run on the areas
 
 run-same : (a : Areas) (d : Device) (report budget : ℕ) → Holds (a .kept) d → Allowed (length (a .memory)) → AreasRight a
-    → runCall a report budget ≡ keptRun (runOf budget (worldIn d a) report)
+    → runCall a report budget ≡ runOnBytes (runOf budget (worldIn d a) report)
 run-same a d report budget h s r =
     laws.run-kept a report budget (d .units) (size-allowed (length (a .memory)) s) (right-lengths a (holds-length (a .kept) d h) r)
     (holds-decoded (a .kept) d h)
-    ∙ ap (λ (x : Device). keptRun (runOf budget (worldIn x a) report)) (holds-back (a .kept) d h)
+    ∙ ap (λ (x : Device). runOnBytes (runOf budget (worldIn x a) report)) (holds-back (a .kept) d h)
 
-as-turns : (a : Areas) (report budget : ℕ) (r : Run) → Took budget a report r → r .answer .length ≤ 2048 → AsTurns a report budget (keptRun r)
+as-turns : (a : Areas) (report budget : ℕ) (r : Run) → Took budget a report r → r .answer .length ≤ 2048 → AsTurns a report budget (runOnBytes r)
 as-turns a report budget r t l =
-    let b = packed-below (r .answer) l in
-    let k : turnsTaken (keptRun r .answer) ≡ r .taken = count-of (packed (r .answer)) (r .taken) b in
-    let p : withoutTurns (keptRun r .answer) ≡ packed (r .answer) = rest-of (packed (r .answer)) (r .taken) b in
+    let b = answerNumber-below (r .answer) l in
+    let k : turnsTaken (runOnBytes r .answer) ≡ r .taken = count-of (answerNumber (r .answer)) (r .taken) b in
+    let p : withoutTurns (runOnBytes r .answer) ≡ answerNumber (r .answer) = rest-of (answerNumber (r .answer)) (r .taken) b in
     record {
       areas = t .areas ∙ ap (λ (n : ℕ). turnsOn n a report) (sym k);
       answer = p ∙ t .answer ∙ ap (λ (n : ℕ). lastAnswer n a report) (sym k);
@@ -374,7 +374,7 @@ run-accepted a report budget e = run-refused-as a report budget ∙ e
 
 -- ---- what a run leaves is accepted again
 
-closed-by : (x : Bool) (r : Ran) (rest : Run) → Sound (afterwards r) → Sound (rest .world) → Sound (goesOn x r rest .world)
+closed-by : (x : Bool) (r : Ran) (rest : Run) → Sound (afterwards r) → Sound (rest .world) → Sound (continued x r rest .world)
 closed-by true r rest s t = s
 closed-by false r rest s t = t
 

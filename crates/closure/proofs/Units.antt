@@ -21,9 +21,9 @@ use Rattle.device.specs.declared.Storing.{Storing}
 use Rattle.device.specs.declared.Verdict.{Verdict}
 use Rattle.device.specs.declared.Verdict.the-variants as verdict
 use Rattle.device.specs.declared.Walk.{Walk}
-use Rattle.phases.specs.Words.{cuWord, ruWord, WordWide}
+use Rattle.phases.specs.Phases.{cuWord, ruWord, WordWide}
 use Rattle.phases.proofs.Units.{both}
-use Rattle.image.specs.Ranges.{sized, goesOn, cuFits, frameFits, ruFits}
+use Rattle.image.specs.Ranges.{sized, hasNext, cuFits, frameFits, ruFits}
 
 -- each unit's range, and the widths of its words
 pub record CuGood (u : Cu) : Type 0 where
@@ -90,7 +90,7 @@ pub record WalkGood (w : Walk) : Type 0 where
   pub least : 14 ≤ w .filled
   pub most : w .filled ≤ 2048
 
-goes-true : (w : Walk) → WalkGood w → goesOn w ≡ true
+goes-true : (w : Walk) → WalkGood w → hasNext w ≡ true
 goes-true w h = rw (le-leb (w .used) 63 (h .used), h .some)
 
 pub cu-sending : (b : Begun) (w : Walk) → b .block .0 < 65536 → WalkGood w → CuGood (cu.Sending b w)
@@ -135,7 +135,7 @@ at-sending b w h = h .wide .at
 pub sending-walk : (b : Begun) (w : Walk) → CuGood (cu.Sending b w) → WalkGood w
 unfolding cuFits cuWord
 sending-walk b w h =
-    let x = both (goesOn w) (sized (w .filled)) (h .fits) in
+    let x = both (hasNext w) (sized (w .filled)) (h .fits) in
     let y = both (leb (w .used) 63) (not (isNone (w .next))) (x .0) in
     let z = sized-of (w .filled) (x .1) in
     record { next = h .wide .next; used = leb-true _ _ (y .0); some = not-true _ (y .1); least = z .0; most = z .1 }
@@ -229,20 +229,20 @@ unfolding ruFits ruWord
 filling-storing s w h =
     let x = both _ (ltb (w .filled) (s .frame .length)) (h .fits) in
     let y = both _ (leb 14 (w .filled)) (x .0) in
-    let z = both (frameFits (s .frame)) (goesOn w) (y .0) in
+    let z = both (frameFits (s .frame)) (hasNext w) (y .0) in
     record { fd = h .wide .at; frame = z .0 }
 
 pub filling-left : (s : Storing) (w : Walk) → RuGood (ru.Filling s w) → w .filled < s .frame .length
 unfolding ruFits
 filling-left s w h =
-    ltb-true _ _ (both (frameFits (s .frame) && goesOn w && leb 14 (w .filled)) (ltb (w .filled) (s .frame .length)) (h .fits) .1)
+    ltb-true _ _ (both (frameFits (s .frame) && hasNext w && leb 14 (w .filled)) (ltb (w .filled) (s .frame .length)) (h .fits) .1)
 
 pub filling-walk : (s : Storing) (w : Walk) → RuGood (ru.Filling s w) → WalkGood w
 unfolding ruFits ruWord
 filling-walk s w h =
     let x = both _ (ltb (w .filled) (s .frame .length)) (h .fits) in
     let y = both _ (leb 14 (w .filled)) (x .0) in
-    let z = both (frameFits (s .frame)) (goesOn w) (y .0) in
+    let z = both (frameFits (s .frame)) (hasNext w) (y .0) in
     let v = both (leb (w .used) 63) (not (isNone (w .next))) (z .1) in
     let l : w .filled < s .frame .length = ltb-true _ _ (x .1) in
     let q = frame-size (s .frame) (z .0) in

@@ -11,7 +11,7 @@ use Rattle.memory.proofs.Bytes.{Bytes}
 use Rattle.device.specs.State.{fresh}
 use Rattle.device.specs.declared.Refusal.{Refusal}
 use Rattle.device.specs.declared.Refusal.the-variants as refusal
-use Rattle.words.specs.Places.{bytesFrom, field}
+use Rattle.numerals.specs.Places.{bytesFrom, field}
 use Rattle.image.specs.Image.{imageOf, decodeOf, shaped, headShaped}
 use Rattle.image.specs.Found as is
 use Rattle.image.proofs.Exact.{fresh-range, fresh-wide, image-bytes}

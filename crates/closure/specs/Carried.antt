@@ -9,7 +9,7 @@ use Rattle.image.specs.Image.{decodeOf, deviceAt}
 use Rattle.image.specs.Found as is
 use Rattle.chip.specs.World.{World, worldOf}
 use Rattle.chip.specs.Call.{Call, ran}
-use Rattle.calls.specs.Calls.{Areas, keptBy}
+use Rattle.calls.specs.Calls.{Areas, onBytes}
 use Rattle.traces.specs.Bytes.{called, number, sentLength, edge}
 use Rattle.closure.specs.Refusals.{TakesAll, Holds}
 
@@ -27,7 +27,7 @@ worldIn d a = worldOf d (a .memory) (a .holding) (a .outgoing)
 -- a call on areas does what it does on the state d: answer, areas and record; and the record that it leaves is accepted again, as the state
 -- that the call leaves
 pub record Carried (c : Call) (d : Device) (a : Areas) : Type 0 where
-  pub same : called c a ≡ keptBy (ran c (worldIn d a))
+  pub same : called c a ≡ onBytes (ran c (worldIn d a))
   pub holds : Holds (called c a .areas .kept) (ran c (worldIn d a) .outcome .device)
   pub decoded : decodeOf (called c a .areas .kept) ≡ is.Units (ran c (worldIn d a) .outcome .device .units)
   pub back : deviceAt (called c a .areas .kept) (ran c (worldIn d a) .outcome .device .units) ≡ ran c (worldIn d a) .outcome .device

@@ -6,7 +6,7 @@ use Prim.Native.Nat.{ℕ}
 use Rattle.memory.proofs.Bytes.{Bytes}
 use Rattle.chip.specs.World.{World}
 use Rattle.chip.specs.Call.{ran}
-use Rattle.calls.specs.Calls.{Areas, areasOf, packed}
+use Rattle.calls.specs.Calls.{Areas, areasOf, answerNumber}
 use Rattle.traces.specs.Bytes.{called, isRefused}
 use Rattle.traces.specs.Event.{Event, call, host, step}
 use Rattle.closure.specs.Sound.{Fit}
@@ -52,7 +52,7 @@ answersOn [] a = []
 answersOn (e ∷ es) a = unlessRefused (skips e a) (answerOn e a (answersOn es (stepOn e a))) (answersOn es (stepOn e a))
 
 abbrev pub answerOf : Event → World → List ℕ → List ℕ
-answerOf (call c) w rest = packed (ran c w .outcome .answer) ∷ rest
+answerOf (call c) w rest = answerNumber (ran c w .outcome .answer) ∷ rest
 answerOf (host m h out) w rest = rest
 
 abbrev pub answersOf : List Event → World → List ℕ

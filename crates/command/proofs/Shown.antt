@@ -6,7 +6,7 @@ use lib.Dec.{T, eqb}
 use lib.ListN.{replicate, getD}
 use Rattle.memory.specs.Address.{place}
 use Rattle.memory.specs.Memory.{byteAt, putByte, bytesAt, putBytes, value, digits, fieldAt, wordAt, Write, wordTo, apply}
-use Rattle.scb.specs.Words.{field}
+use Rattle.scb.specs.Words.{bitsAt}
 use Rattle.device.specs.Numbers.{actionOf, actionNumber}
 use Rattle.device.specs.State.{freshSettings}
 use Rattle.device.specs.declared.Action.the-variants as action
@@ -54,7 +54,7 @@ begun word = served (cu.Waiting (record { 0 = 0x40 })) (wordTo 0x52 word ∷ wor
 
 -- write status 4000h, at begin already
 pub busyAtBegin : T (eqb (wordAt (apply (begun 0 .writes) (given [])) 0x50) 0x4000)
-unfolding byteAt putByte bytesAt putBytes value digits fieldAt place field actionOf begunBy begin service
+unfolding byteAt putByte bytesAt putBytes value digits fieldAt place bitsAt actionOf begunBy begin service
 busyAtBegin = tt
 
 -- 2-0 CMD, whatever stands above it; Transmit: +6 FFFFh is no buffer, and the end is next
@@ -69,7 +69,7 @@ command (cu.Failing b) = 4
 
 pub cmdOfThreeBits : T (eqb (command (begun 0x0008 .part .unit)) 0 && eqb (command (begun 0x000D .part .unit)) 5
     && eqb (phase (begun 0x000C .part .unit)) 5)
-unfolding byteAt putByte bytesAt putBytes value digits fieldAt place field actionOf begunBy headerOf begin service
+unfolding byteAt putByte bytesAt putBytes value digits fieldAt place bitsAt actionOf begunBy headerOf begin service
 cmdOfThreeBits = tt
 
 -- 15 EL, 14 S, 13 I
@@ -78,7 +78,7 @@ flags word = begunBy (record { 0 = 0x40 }) word
 
 pub flagsInTheirBits : T (flags 0x8000 .el && not (flags 0x6000 .el) && flags 0x4000 .suspend && not (flags 0xA000 .suspend)
     && flags 0x2000 .interrupt && not (flags 0xC000 .interrupt))
-unfolding field begunBy
+unfolding bitsAt begunBy
 flagsInTheirBits = tt
 
 -- Frame: destination, own address, type; the header goes to the outgoing area at begin
@@ -88,7 +88,7 @@ header =
     (wordTo 0x52 4 ∷ wordTo 0x56 0xFFFF ∷ wordTo 0x58 0x2211 ∷ wordTo 0x5C 0x4433 ∷ wordTo 0x5E 0x0008 ∷ []) .part .outgoing
 
 pub headerInOrder : T (eqb (getD header 0 0) 0x11 && eqb (getD header 5 0) 0x44 && eqb (getD header 6 0) 0x66 && eqb (getD header 12 0) 0x08)
-unfolding byteAt putByte bytesAt putBytes value digits fieldAt place field actionOf begunBy headerOf begin service
+unfolding byteAt putByte bytesAt putBytes value digits fieldAt place bitsAt actionOf begunBy headerOf begin service
 headerInOrder = tt
 
 -- ---- buffer
@@ -102,27 +102,27 @@ sending used filled first next =
 -- with no EOF in 64 descriptors the end turn is next, with nothing sent; the 63rd has a next, and EOF in the 64th is in time
 pub sixtyFour : T (eqb (phase (sending 62 14 2 0x98 .part .unit)) 4 && eqb (phase (sending 63 14 2 0x98 .part .unit)) 6
     && eqb (phase (sending 63 14 0x8002 0x98 .part .unit)) 5)
-unfolding byteAt putByte bytesAt putBytes value digits fieldAt place field begunBy descriptorAt buffer service
+unfolding byteAt putByte bytesAt putBytes value digits fieldAt place bitsAt begunBy descriptorAt buffer service
 sixtyFour = tt
 
 -- a next offset FFFFh before EOF is no end of the data; with EOF it is not looked at
 pub onesBeforeEof : T (eqb (phase (sending 0 14 2 0xFFFF .part .unit)) 6 && eqb (phase (sending 0 14 0x8002 0xFFFF .part .unit)) 5)
-unfolding byteAt putByte bytesAt putBytes value digits fieldAt place field begunBy descriptorAt buffer service
+unfolding byteAt putByte bytesAt putBytes value digits fieldAt place bitsAt begunBy descriptorAt buffer service
 onesBeforeEof = tt
 
 -- 2,034 data bytes pass, 2,035 don't
 pub longestFrame : T (eqb (phase (sending 0 2046 0x8002 0 .part .unit)) 5 && eqb (phase (sending 0 2046 0x8003 0 .part .unit)) 6)
-unfolding byteAt putByte bytesAt putBytes value digits fieldAt place field begunBy descriptorAt buffer service
+unfolding byteAt putByte bytesAt putBytes value digits fieldAt place bitsAt begunBy descriptorAt buffer service
 longestFrame = tt
 
 -- a buffer that would pass 2,048 bytes: none of it copied
 pub noneOfItCopied : T (eqb (getD (sending 0 2046 0x8003 0 .part .outgoing) 2046 0) 0)
-unfolding byteAt putByte bytesAt putBytes value digits fieldAt place field begunBy descriptorAt buffer service
+unfolding byteAt putByte bytesAt putBytes value digits fieldAt place bitsAt begunBy descriptorAt buffer service
 noneOfItCopied = tt
 
 -- 13-0 count: bit 14 is none of it
 pub countOf14Bits : T (eqb (getD (sending 0 14 0xC002 0 .part .outgoing) 14 0) 0x11)
-unfolding byteAt putByte bytesAt putBytes value digits fieldAt place field begunBy descriptorAt buffer service
+unfolding byteAt putByte bytesAt putBytes value digits fieldAt place bitsAt begunBy descriptorAt buffer service
 countOf14Bits = tt
 
 -- ---- end
@@ -137,13 +137,13 @@ ended word pausing =
 -- EL makes CU Idle, else S or a waiting SUSPEND makes it Suspended. EL wins over S
 pub elOverS : T (eqb (phase (ended 0xC000 false .part .unit)) 0 && eqb (phase (ended 0x4000 false .part .unit)) 1
     && eqb (phase (ended 0 true .part .unit)) 1 && eqb (phase (ended 0 false .part .unit)) 2)
-unfolding byteAt putByte bytesAt putBytes value digits fieldAt place field begunBy act nextAfter end service
+unfolding byteAt putByte bytesAt putBytes value digits fieldAt place bitsAt begunBy act nextAfter end service
 elOverS = tt
 
 -- I raises CX, and nothing else does; leaving Active raises CNA, to Suspended too
 pub raised : T (ended 0x2000 false .raised .cx && not (ended 0x8000 false .raised .cx) && not (ended 0x4000 true .raised .cx)
     && not (ended 0x2000 false .raised .cna) && ended 0x4000 false .raised .cna && ended 0x8000 false .raised .cna)
-unfolding byteAt putByte bytesAt putBytes value digits fieldAt place field begunBy act nextAfter end service
+unfolding byteAt putByte bytesAt putBytes value digits fieldAt place bitsAt begunBy act nextAfter end service
 raised = tt
 
 -- the length sent is that of header and data: 14, and 2 more behind a buffer of two bytes
@@ -157,11 +157,11 @@ whole (cu.Ending b n) = served (cu.Ending b n) [] .length
 whole (cu.Failing b) = 0
 
 pub sentWhole : T (eqb (whole (begun 0x0004 .part .unit)) 14 && eqb (whole (sending 0 14 0x8002 0 .part .unit)) 16)
-unfolding byteAt putByte bytesAt putBytes value digits fieldAt place field actionOf begunBy headerOf begin descriptorAt buffer reported isSent sent nextAfter end service
+unfolding byteAt putByte bytesAt putBytes value digits fieldAt place bitsAt actionOf begunBy headerOf begin descriptorAt buffer reported isSent sent nextAfter end service
 sentWhole = tt
 
 -- with no end of the data found: 8100h, nothing sent
 pub nothingSent : T (eqb (wordAt (apply (served (cu.Failing (flags 0)) [] .writes) (given [])) 0x50) 0x8100
     && eqb (served (cu.Failing (flags 0)) [] .length) 0)
-unfolding byteAt putByte bytesAt putBytes value digits fieldAt place field begunBy reported isSent sent nextAfter end service
+unfolding byteAt putByte bytesAt putBytes value digits fieldAt place bitsAt begunBy reported isSent sent nextAfter end service
 nothingSent = tt

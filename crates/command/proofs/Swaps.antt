@@ -7,7 +7,7 @@ use lib.Dec.{T, eqb}
 use lib.ListN.{replicate}
 use Rattle.memory.specs.Address.{place}
 use Rattle.memory.specs.Memory.{byteAt, putByte, bytesAt, putBytes, value, digits, fieldAt, wordAt, wordTo, apply}
-use Rattle.scb.specs.Words.{field}
+use Rattle.scb.specs.Words.{bitsAt}
 use Rattle.device.specs.Limits.{header}
 use Rattle.device.specs.State.{freshSettings}
 use Rattle.device.specs.declared.Action.the-variants as action
@@ -37,7 +37,7 @@ block = record { block = record { 0 = 0x40 }; el = false; suspend = false; inter
 -- Adding the base to a buffer's real address: the descriptor at offset 90h points to C0h, where 2211h stands; at D0h stands 4433h
 pub baseNotAdded : T (eqb (wordAt (service (part (cu.Sending block (record { next = record { 0 = 0x90 }; used = 0; filled = header })))
     (apply (wordTo 0xA0 0x8002 ∷ wordTo 0xA4 0xC0 ∷ wordTo 0xC0 0x2211 ∷ wordTo 0xD0 0x4433 ∷ []) (replicate 256 0)) 0 .part .outgoing) header) 0x2211)
-unfolding byteAt putByte bytesAt putBytes value digits fieldAt place field descriptorAt buffer service
+unfolding byteAt putByte bytesAt putBytes value digits fieldAt place bitsAt descriptorAt buffer service
 baseNotAdded = tt
 
 -- where a unit will go on
@@ -56,10 +56,10 @@ ended link = service (part (cu.Acting block action.Nop)) (apply (wordTo 0x54 lin
 
 -- Taking a link at begin: what a begun command carries has no link, and the one that stands in the block at the end is taken
 pub linkAtEnd : T (goesTo (ended 0x58) 0x58)
-unfolding byteAt putByte bytesAt putBytes value digits fieldAt place field act nextAfter end service
+unfolding byteAt putByte bytesAt putBytes value digits fieldAt place bitsAt act nextAfter end service
 linkAtEnd = tt
 
 -- Treating FFFFh in a command link as an end: only EL ends
 pub onesAreALink : T (goesTo (ended 0xFFFF) 0xFFFF)
-unfolding byteAt putByte bytesAt putBytes value digits fieldAt place field act nextAfter end service
+unfolding byteAt putByte bytesAt putBytes value digits fieldAt place bitsAt act nextAfter end service
 onesAreALink = tt

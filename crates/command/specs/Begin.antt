@@ -9,18 +9,18 @@ use Rattle.memory.specs.Memory.{wordAt, bytesAt, wordTo}
 use Rattle.memory.specs.Address.{place, offsetAt, isNone}
 use Rattle.memory.specs.declared.Offset.{Offset}
 use Rattle.memory.specs.declared.RealAddress.{RealAddress}
-use Rattle.scb.specs.Words.{field, bit}
+use Rattle.scb.specs.Words.{bitsAt, bit}
 use Rattle.device.specs.Limits.{addressLength, typeLength, header}
 use Rattle.device.specs.Numbers.{transmit, actionOf}
 use Rattle.device.specs.declared.Begun.{Begun}
 use Rattle.device.specs.declared.Cu.{Cu}
 use Rattle.device.specs.declared.Cu.the-variants as cu
 use Rattle.command.specs.Part.{Part, Service, withUnit, withOutgoing, quietly}
-use Rattle.actions.specs.Block.{statusAt, commandAt, argumentAt, destinationAt, typeAt}
+use Rattle.actions.specs.Block.{blockStatusAt, blockCommandAt, argumentAt, destinationAt, typeAt}
 
 -- +2 command: 15 EL, 14 S, 13 I, 2-0 CMD
 abbrev pub cmd : ℕ → ℕ
-cmd word = field word 0 3
+cmd word = bitsAt word 0 3
 
 -- the command word holds to the end; no SUSPEND waits yet
 unfoldable pub begunBy : Offset → ℕ → Begun
@@ -46,5 +46,5 @@ toBegun false p b word m = withUnit p (cu.Acting b (actionOf (cmd word)))
 
 unfoldable pub begin : Part → Offset → List ℕ → Service
 begin p block m =
-    let word = wordAt m (place (p .base) block commandAt) in
-    quietly (toBegun (eqb (cmd word) transmit) p (begunBy block word) word m) (wordTo (place (p .base) block statusAt) 0x4000 ∷ [])
+    let word = wordAt m (place (p .base) block blockCommandAt) in
+    quietly (toBegun (eqb (cmd word) transmit) p (begunBy block word) word m) (wordTo (place (p .base) block blockStatusAt) 0x4000 ∷ [])

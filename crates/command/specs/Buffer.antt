@@ -8,7 +8,7 @@ use Rattle.memory.specs.Memory.{wordAt, bytesAt}
 use Rattle.memory.specs.Address.{place, offsetAt, addressAt, isNone}
 use Rattle.memory.specs.declared.Offset.{Offset}
 use Rattle.memory.specs.declared.RealAddress.{RealAddress}
-use Rattle.scb.specs.Words.{field, bit}
+use Rattle.scb.specs.Words.{bitsAt, bit}
 use Rattle.device.specs.Limits.{longest, mostBuffers}
 use Rattle.device.specs.declared.Begun.{Begun}
 use Rattle.device.specs.declared.Cu.{Cu}
@@ -23,7 +23,7 @@ descriptorAt base o m =
     let word = wordAt m (place base o 0) in
     record {
       eof = bit word 15;
-      count = field word 0 14;
+      count = bitsAt word 0 14;
       next = offsetAt m (place base o 2);
       buffer = addressAt m (place base o 4);
     }

@@ -13,7 +13,7 @@ use Rattle.device.specs.declared.Begun.{Begun}
 use Rattle.device.specs.declared.Cu.{Cu}
 use Rattle.device.specs.declared.Cu.the-variants as cu
 use Rattle.command.specs.Part.{Part, Service}
-use Rattle.actions.specs.Block.{statusAt, linkAt}
+use Rattle.actions.specs.Block.{blockStatusAt, blockLinkAt}
 use Rattle.actions.specs.Actions.{Acted}
 
 -- EL wins over S
@@ -28,7 +28,7 @@ raisedBy b next = record { cx = b .interrupt; fr = false; cna = not (isActive (c
 
 -- the status goes to the block, after the action's writes
 abbrev pub statusTo : RealAddress → Begun → ℕ → Write
-statusTo base b status = wordTo (place base (b .block) statusAt) status
+statusTo base b status = wordTo (place base (b .block) blockStatusAt) status
 
 abbrev pub results : Part → Begun → Acted → List Write
 results p b a = a .writes ++ (statusTo (p .base) b (a .status) ∷ [])
@@ -44,7 +44,7 @@ endAt p b a next =
 -- the link is read now: after the action and the status
 unfoldable pub nextAfter : RealAddress → Begun → ℕ → List ℕ → Cu
 nextAfter base b status m =
-    afterEnd (b .el) (b .suspend || b .pausing) (offsetAt (apply (statusTo base b status ∷ []) m) (place base (b .block) linkAt))
+    afterEnd (b .el) (b .suspend || b .pausing) (offsetAt (apply (statusTo base b status ∷ []) m) (place base (b .block) blockLinkAt))
 
 unfoldable pub end : Part → Begun → Acted → List ℕ → Service
 end p b a m = endAt p b a (nextAfter (p .base) b (a .status) (apply (a .writes) m))

@@ -1,5 +1,5 @@
 // No code but the type below: the definitions of the command unit's service, which begins a command, takes a buffer of a Transmit, or ends a
-// command. What C runs is kept_command, which is held to them.
+// command. What C runs is code_command, which is held to them.
 use memory::Offset;
 use memory::RealAddress;
 

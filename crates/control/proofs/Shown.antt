@@ -7,7 +7,7 @@ use lib.ListN.{replicate}
 use Rattle.memory.specs.Address.{place}
 use Rattle.memory.specs.Memory.{byteAt, putByte, bytesAt, putBytes, value, digits, fieldAt, wordAt, wordTo, apply}
 use Rattle.scb.specs.Control.{cuNext, ruNext}
-use Rattle.scb.specs.Words.{field}
+use Rattle.scb.specs.Words.{bitsAt}
 use Rattle.device.specs.Change.{withCu, withRu}
 use Rattle.device.specs.State.{freshUnits}
 use Rattle.device.specs.declared.Action.the-variants as action
@@ -78,18 +78,18 @@ cuGoes unit o = eqb (cuPhase unit) 2 && eqb (cuAt unit) o
 -- 1 START: Idle, Suspended to Active, at CBL offset; 2 RESUME: Suspended to Active, where it was. An Active unit goes on where it is
 pub cuStarts : T (cuGoes (cuDoes 1 cu.Idle .unit) 0x40 && cuGoes (cuDoes 1 paused .unit) 0x40 && cuGoes (cuDoes 2 paused .unit) 0x60
     && cuGoes (cuDoes 1 next .unit) 0x60)
-unfolding byteAt putByte bytesAt putBytes value digits fieldAt place cuNext field cuFirst obeyCuc
+unfolding byteAt putByte bytesAt putBytes value digits fieldAt place cuNext bitsAt cuFirst obeyCuc
 cuStarts = tt
 
 -- 3 SUSPEND: at the end of a begun command, else at once
 pub cuSuspends : T (eqb (cuPhase (cuDoes 3 acting .unit)) 3 && waits (cuDoes 3 acting .unit)
     && eqb (cuPhase (cuDoes 3 next .unit)) 1 && eqb (cuAt (cuDoes 3 next .unit)) 0x60)
-unfolding byteAt putByte bytesAt putBytes value digits fieldAt place cuNext field cuFirst obeyCuc
+unfolding byteAt putByte bytesAt putBytes value digits fieldAt place cuNext bitsAt cuFirst obeyCuc
 cuSuspends = tt
 
 -- leaving Active raises CNA: an ABORT of a unit that is not Active leaves nothing
 pub cuLeaves : T (cuDoes 4 acting .left && cuDoes 3 next .left && not (cuDoes 3 acting .left) && not (cuDoes 4 paused .left))
-unfolding byteAt putByte bytesAt putBytes value digits fieldAt place cuNext field cuFirst obeyCuc
+unfolding byteAt putByte bytesAt putBytes value digits fieldAt place cuNext bitsAt cuFirst obeyCuc
 cuLeaves = tt
 
 -- CU abort of a begun command writes its status 9000h, and of one not begun nothing
@@ -97,7 +97,7 @@ abbrev block : Cu → ℕ
 block unit = wordAt (apply (cuDoes 4 unit .writes) memory) 0x60
 
 pub cuAborts : T (eqb (block acting) 0x9000 && eqb (block next) 0x4000)
-unfolding byteAt putByte bytesAt putBytes value digits fieldAt place cuNext field cuFirst obeyCuc
+unfolding byteAt putByte bytesAt putBytes value digits fieldAt place cuNext bitsAt cuFirst obeyCuc
 cuAborts = tt
 
 -- ---- the receive unit
@@ -143,7 +143,7 @@ ruGoes unit o = eqb (ruPhase unit) 3 && eqb (ruAt unit) o
 -- 1 START: Idle, Suspended, No Resources to Ready, at RFA offset; 2 RESUME: Suspended to Ready, where it was
 pub ruStarts : T (ruGoes (ruDoes 1 ru.Idle .unit) 0x50 && ruGoes (ruDoes 1 ru.NoResources .unit) 0x50
     && ruGoes (ruDoes 1 (ru.Suspended (record { 0 = 0x70 })) .unit) 0x50 && ruGoes (ruDoes 2 (ru.Suspended (record { 0 = 0x70 })) .unit) 0x70)
-unfolding byteAt putByte bytesAt putBytes value digits fieldAt place ruNext field ruFirst obeyRuc
+unfolding byteAt putByte bytesAt putBytes value digits fieldAt place ruNext bitsAt ruFirst obeyRuc
 ruStarts = tt
 
 -- a SUSPEND waits for the end of the held frame
@@ -161,7 +161,7 @@ ruWaits (ru.Lacking s) = s .pausing
 pub ruSuspends : T (eqb (ruPhase (ruDoes 3 held .unit)) 4 && ruWaits (ruDoes 3 held .unit) && not (ruDoes 3 held .left)
     && eqb (ruPhase (ruDoes 3 lacking .unit)) 7 && ruWaits (ruDoes 3 lacking .unit)
     && eqb (ruPhase (ruDoes 3 (ru.Ready (record { 0 = 0x70 })) .unit)) 1)
-unfolding byteAt putByte bytesAt putBytes value digits fieldAt place ruNext field ruFirst obeyRuc
+unfolding byteAt putByte bytesAt putBytes value digits fieldAt place ruNext bitsAt ruFirst obeyRuc
 ruSuspends = tt
 
 -- RU abort drops a held frame and writes 0000h to its frame descriptor if begun
@@ -169,5 +169,5 @@ abbrev descriptor : Ru → ℕ
 descriptor unit = wordAt (apply (ruDoes 4 unit .writes) memory) 0x70
 
 pub ruAborts : T (eqb (ruPhase (ruDoes 4 held .unit)) 0 && ruDoes 4 held .left && eqb (descriptor held) 0x4000 && eqb (descriptor lacking) 0)
-unfolding byteAt putByte bytesAt putBytes value digits fieldAt place ruNext field ruFirst obeyRuc
+unfolding byteAt putByte bytesAt putBytes value digits fieldAt place ruNext bitsAt ruFirst obeyRuc
 ruAborts = tt

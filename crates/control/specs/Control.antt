@@ -61,7 +61,7 @@ resumesAt (cu.Failing b) = b .block
 
 -- CU abort of a begun command writes its status 9000h
 abbrev pub abortedBlock : RealAddress → Offset → List Write
-abortedBlock base o = wordTo (place base o block.statusAt) 0x9000 ∷ []
+abortedBlock base o = wordTo (place base o block.blockStatusAt) 0x9000 ∷ []
 
 abbrev pub abortedCu : RealAddress → Cu → List Write
 abortedCu base cu.Idle = []
@@ -121,7 +121,7 @@ readyAt (ru.Lacking s) = s .fd
 
 -- RU abort drops a held frame uncounted and writes 0000h to its frame descriptor if begun
 abbrev pub abortedDescriptor : RealAddress → Offset → List Write
-abortedDescriptor base o = wordTo (place base o descriptor.statusAt) 0x0000 ∷ []
+abortedDescriptor base o = wordTo (place base o descriptor.fdStatusAt) 0x0000 ∷ []
 
 abbrev pub abortedRu : RealAddress → Ru → List Write
 abortedRu base ru.Idle = []

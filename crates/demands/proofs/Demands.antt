@@ -51,10 +51,10 @@ use Rattle.lists.specs.Runs as list-runs
 use Rattle.lists.proofs.Whole as whole
 use Rattle.lists.proofs.Carry as carry
 use Rattle.lists.proofs.Runs as runs-done
-use Rattle.progress.specs.Machine.{Kept, run}
+use Rattle.progress.specs.Machine.{Undisturbed, run}
 use Rattle.worked.proofs.Exact as list-exact
 use Rattle.held.specs.Held as held
-use Rattle.held.specs.Kept as kept
+use Rattle.held.specs.OnRecords as kept
 use Rattle.held.specs.Runs as held-runs
 use Rattle.held.proofs.Held as held-frames
 use Rattle.held.proofs.Exact as held-exact
@@ -182,7 +182,7 @@ pub a-list-is-done-on-bytes : (bs : List ℕ) (ls : List Lending) (a : Areas) (d
     → Listed (d .units .base) (step (call attention) (worldIn d a) .memory) bs
     → AllLend carry.carries ls (called attention a .areas) → AllCalmly ls (called attention a .areas)
     → NoClash (length (a .memory)) (d .units .base) (step (call attention) (worldIn d a) .memory) bs
-    → Kept (machine Calm) (bytesOf (step (call attention) (worldIn d a)) bs) (eventsOf ls) (step (call attention) (worldIn d a))
+    → Undisturbed (machine Calm) (bytesOf (step (call attention) (worldIn d a)) bs) (eventsOf ls) (step (call attention) (worldIn d a))
     → 132 * length bs ≤ turnsOf ls
     → Done Calm bs (eventsOf ls) (step (call attention) (worldIn d a))
     × Shows carry.carries (left ls (called attention a .areas)) (run (machine Calm) (eventsOf ls) (step (call attention) (worldIn d a)))
@@ -194,7 +194,7 @@ pub a-list-is-done-by-runs : (bs : List ℕ) (ds : List Drive) (a : Areas) (d : 
     → Listed (d .units .base) (step (call attention) (worldIn d a) .memory) bs
     → list-runs.AllDrive carry.carries ds (called attention a .areas)
     → NoClash (length (a .memory)) (d .units .base) (step (call attention) (worldIn d a) .memory) bs
-    → Kept (machine Calm) (bytesOf (step (call attention) (worldIn d a)) bs) (eventsOf (unrolled ds)) (step (call attention) (worldIn d a))
+    → Undisturbed (machine Calm) (bytesOf (step (call attention) (worldIn d a)) bs) (eventsOf (unrolled ds)) (step (call attention) (worldIn d a))
     → 132 * length bs ≤ list-runs.turnsDriven ds
     → Done Calm bs (eventsOf (unrolled ds)) (step (call attention) (worldIn d a))
     × Shows carry.carries (list-runs.leftBehind ds (called attention a .areas))

@@ -12,7 +12,7 @@ use Rattle.memory.specs.declared.Offset.{Offset}
 use Rattle.memory.specs.declared.RealAddress.{RealAddress}
 use Rattle.memory.proofs.Fields.{Apart}
 use Rattle.memory.proofs.Places.{place-up, place-down}
-use Rattle.scb.specs.Words.{statusAt}
+use Rattle.scb.specs.Words.{scbStatusAt}
 use Rattle.device.specs.Limits.{header}
 use Rattle.device.specs.declared.Ru.the-variants as ru
 use Rattle.device.specs.declared.Storing.{Storing}
@@ -113,7 +113,7 @@ onward-less false w s rest p = p
 onward-less true w s rest p = less (size w) (front w s (piece (inFrame w s 6) 2 ∷ [])) (piece (nextFirst w s) 2) rest p
 
 lacking-all : (w : World) (s : Storing) → Clear w s
-    → NoOverlap (size w) (front w s (piece (inFrame w s 6) 2 ∷ piece (inScb w 12) 2 ∷ piece (inScb w statusAt) 2 ∷ []))
+    → NoOverlap (size w) (front w s (piece (inFrame w s 6) 2 ∷ piece (inScb w 12) 2 ∷ piece (inScb w scbStatusAt) 2 ∷ []))
 lacking-all w s c = (
   (frame-up w s 0 2 8 14 c tt tt, (frame-up w s 6 2 8 14 c tt tt, (across w s 8 14 12 2 c tt tt, (across w s 8 14 0 2 c tt tt, tt)))),
   (
@@ -123,7 +123,7 @@ lacking-all w s c = (
 )
 
 closing-all : (w : World) (s : Storing) → Clear w s → NextClear w s
-    → NoOverlap (size w) (front w s (piece (inFrame w s 6) 2 ∷ piece (nextFirst w s) 2 ∷ piece (inScb w statusAt) 2 ∷ piece (inScb w 8) 8 ∷ []))
+    → NoOverlap (size w) (front w s (piece (inFrame w s 6) 2 ∷ piece (nextFirst w s) 2 ∷ piece (inScb w scbStatusAt) 2 ∷ piece (inScb w 8) 8 ∷ []))
 closing-all w s c k = (
   (
     frame-up w s 0 2 8 14 c tt tt,
@@ -139,7 +139,7 @@ closing-all w s c k = (
 )
 
 lacking-counters : (w : World) (s : Storing) → Clear w s
-    → NoOverlap (size w) (front w s (piece (inFrame w s 6) 2 ∷ piece (inScb w statusAt) 2 ∷ piece (inScb w 8) 8 ∷ []))
+    → NoOverlap (size w) (front w s (piece (inFrame w s 6) 2 ∷ piece (inScb w scbStatusAt) 2 ∷ piece (inScb w 8) 8 ∷ []))
 lacking-counters w s c = (
   (frame-up w s 0 2 8 14 c tt tt, (frame-up w s 6 2 8 14 c tt tt, (across w s 8 14 0 2 c tt tt, (across w s 8 14 8 8 c tt tt, tt)))),
   (
@@ -150,9 +150,9 @@ lacking-counters w s c = (
 
 -- a good frame
 lacking-by : (saved : Bool) (w : World) (s : Storing) → Clear w s → NoOverlap (size w) (lackingPieces saved w s)
-lacking-by true w s c = bare-less (isBare (s .frame)) w s (piece (inScb w 12) 2 ∷ piece (inScb w statusAt) 2 ∷ []) (lacking-all w s c)
+lacking-by true w s c = bare-less (isBare (s .frame)) w s (piece (inScb w 12) 2 ∷ piece (inScb w scbStatusAt) 2 ∷ []) (lacking-all w s c)
 lacking-by false w s c =
-    less (size w) (piece (inFrame w s 0) 2 ∷ []) (piece (inFrame w s 6) 2) (piece (inScb w 12) 2 ∷ piece (inScb w statusAt) 2 ∷ [])
+    less (size w) (piece (inFrame w s 0) 2 ∷ []) (piece (inFrame w s 6) 2) (piece (inScb w 12) 2 ∷ piece (inScb w scbStatusAt) 2 ∷ [])
     (lacking-all w s c .1)
 
 pub lacking-clear : (w : World) (s : Storing) → Clear w s → NoOverlap (size w) (pieces (ru.Lacking s) w)
@@ -161,18 +161,18 @@ lacking-clear w s c = lacking-by (s .frame .savebad) w s c
 pub closing-clear : (w : World) (s : Storing) (free : Offset) (full : Bool) → Clear w s → NextClear w s
     → NoOverlap (size w) (pieces (ru.Closing s free full) w)
 closing-clear w s free full c k =
-    let ps = front w s (piece (inFrame w s 6) 2 ∷ piece (nextFirst w s) 2 ∷ piece (inScb w statusAt) 2 ∷ []) in
+    let ps = front w s (piece (inFrame w s 6) 2 ∷ piece (nextFirst w s) 2 ∷ piece (inScb w scbStatusAt) 2 ∷ []) in
     let all = less (size w) ps (piece (inScb w 8) 8) [] (closing-all w s c k) in
-    bare-less (isBare (s .frame)) w s (onwardPiece (s .el || full) w s ++ piece (inScb w statusAt) 2 ∷ [])
-    (onward-less (s .el || full) w s (piece (inScb w statusAt) 2 ∷ []) all)
+    bare-less (isBare (s .frame)) w s (onwardPiece (s .el || full) w s ++ piece (inScb w scbStatusAt) 2 ∷ [])
+    (onward-less (s .el || full) w s (piece (inScb w scbStatusAt) 2 ∷ []) all)
 
 -- a bad one
 pub lacking-clear-bad : (w : World) (s : Storing) → Clear w s → NoOverlap (size w) (badPieces (ru.Lacking s) w)
 lacking-clear-bad w s c =
-    bare-less (isBare (s .frame)) w s (piece (inScb w statusAt) 2 ∷ piece (inScb w 8) 8 ∷ []) (lacking-counters w s c)
+    bare-less (isBare (s .frame)) w s (piece (inScb w scbStatusAt) 2 ∷ piece (inScb w 8) 8 ∷ []) (lacking-counters w s c)
 
 pub closing-clear-bad : (w : World) (s : Storing) (free : Offset) (full : Bool) → Clear w s → NextClear w s
     → NoOverlap (size w) (badPieces (ru.Closing s free full) w)
 closing-clear-bad w s free full c k =
-    bare-less (isBare (s .frame)) w s (onwardPiece (s .el || full) w s ++ piece (inScb w statusAt) 2 ∷ piece (inScb w 8) 8 ∷ [])
-    (onward-less (s .el || full) w s (piece (inScb w statusAt) 2 ∷ piece (inScb w 8) 8 ∷ []) (closing-all w s c k))
+    bare-less (isBare (s .frame)) w s (onwardPiece (s .el || full) w s ++ piece (inScb w scbStatusAt) 2 ∷ piece (inScb w 8) 8 ∷ [])
+    (onward-less (s .el || full) w s (piece (inScb w scbStatusAt) 2 ∷ piece (inScb w 8) 8 ∷ []) (closing-all w s c k))

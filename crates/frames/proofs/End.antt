@@ -6,7 +6,7 @@ use Prim.Native.Nat.{ℕ}
 use Rattle.memory.specs.Address.{offsetAt}
 use Rattle.memory.specs.Memory.{Write, countTo, apply}
 use Rattle.memory.specs.declared.Offset.{Offset}
-use Rattle.scb.specs.Words.{anyOf, bit, field}
+use Rattle.scb.specs.Words.{anyOf, bit, bitsAt}
 use Rattle.device.specs.Answers.{counterOf, counts, isStored}
 use Rattle.device.specs.State.{isGood}
 use Rattle.device.specs.declared.Fate.{Fate}
@@ -17,7 +17,7 @@ use Rattle.device.specs.declared.Storing.{Storing}
 use Rattle.device.specs.declared.Verdict.{Verdict}
 use Rattle.device.specs.declared.Verdict.the-variants as verdict
 use Rattle.receive.specs.Part as receive
-use Rattle.receive.specs.End.{fateBy, fateOf, frameStatus, descriptorBy, settles, endAt, before, goesOn, close, lack}
+use Rattle.receive.specs.End.{fateBy, fateOf, frameStatus, descriptorBy, settles, endAt, before, proceeds, close, lack}
 use Rattle.attention.specs.Status.{statusTo}
 use Rattle.chip.specs.Turn.{written, concluded, receiveUnits}
 use Rattle.chip.specs.World.{World, Ran, writing}
@@ -37,7 +37,7 @@ turned w s =
 -- ---- the status word
 
 bit-15 : (lacking short : Bool) (v : Verdict) (f : Frame) → f .verdict ≡ v → f .short ≡ short → bit (frameStatus lacking f) 15 ≡ true
-unfolding frameStatus field
+unfolding frameStatus bitsAt
 bit-15 true true verdict.Good f a b = rw (a, b)
 bit-15 true true verdict.Crc f a b = rw (a, b)
 bit-15 true true verdict.Misaligned f a b = rw (a, b)
@@ -52,7 +52,7 @@ bit-15 false false verdict.Crc f a b = rw (a, b)
 bit-15 false false verdict.Misaligned f a b = rw (a, b)
 
 bit-9 : (lacking short : Bool) (v : Verdict) (f : Frame) → f .verdict ≡ v → f .short ≡ short → bit (frameStatus lacking f) 9 ≡ lacking
-unfolding frameStatus field
+unfolding frameStatus bitsAt
 bit-9 true true verdict.Good f a b = rw (a, b)
 bit-9 true true verdict.Crc f a b = rw (a, b)
 bit-9 true true verdict.Misaligned f a b = rw (a, b)
@@ -89,10 +89,10 @@ unfolding endBy counts
 stored-writes lacking w s = described-alone lacking w s
 
 close-is : (w : World) (s : Storing) (free : Offset) (full : Bool)
-    → goesOn (s .el || full) (part w) s free fate.Stored (described false w s) (w .memory) ≡ close (part w) s free full (w .memory)
+    → proceeds (s .el || full) (part w) s free fate.Stored (described false w s) (w .memory) ≡ close (part w) s free full (w .memory)
 unfolding close settles endBy
 close-is w s free full =
-    ap (λ (ws : List Write). goesOn (s .el || full) (part w) s free fate.Stored ws (w .memory)) (sym (stored-writes false w s))
+    ap (λ (ws : List Write). proceeds (s .el || full) (part w) s free fate.Stored ws (w .memory)) (sym (stored-writes false w s))
 
 or-true : (b : Bool) → (b || true) ≡ true
 or-true true = refl
@@ -111,8 +111,8 @@ closed-by : (x : Bool) (w : World) (s : Storing) (free : Offset)
     → Stored false s
     (bareTo w s
     ++ (onwardBy x w s free (apply (described false w s) (w .memory))
-    ++ statusAfter w (turned w (goesOn x (part w) s free fate.Stored (described false w s) (w .memory)))))
-    w (turned w (goesOn x (part w) s free fate.Stored (described false w s) (w .memory)))
+    ++ statusAfter w (turned w (proceeds x (part w) s free fate.Stored (described false w s) (w .memory)))))
+    w (turned w (proceeds x (part w) s free fate.Stored (described false w s) (w .memory)))
 unfolding turned concluded anyOf statusTo
 closed-by true w s free =
     record {
@@ -128,7 +128,7 @@ closed-by false w s free =
       memory =
           ap (λ (ws : List Write). apply ws (w .memory))
           (append-assoc (described false w s) (onwardBy false w s free (apply (described false w s) (w .memory)))
-          (statusAfter w (turned w (goesOn false (part w) s free fate.Stored (described false w s) (w .memory)))));
+          (statusAfter w (turned w (proceeds false (part w) s free fate.Stored (described false w s) (w .memory)))));
       complete = complete false (s .frame);
       lacks = lacks false (s .frame);
       fr = or-true (w .device .units .events .fr);
@@ -137,7 +137,7 @@ closed-by false w s free =
     }
 
 stored-fate : (x : Bool) (w : World) (s : Storing) (free : Offset) (ws : List Write)
-    → turned w (goesOn x (part w) s free fate.Stored ws (w .memory)) .outcome .fate ≡ fate.Stored
+    → turned w (proceeds x (part w) s free fate.Stored ws (w .memory)) .outcome .fate ≡ fate.Stored
 unfolding turned concluded
 stored-fate true w s free ws = refl
 stored-fate false w s free ws = refl

@@ -9,7 +9,7 @@ use lib.ListN.{length}
 use Rattle.memory.specs.Memory.{Write, wordTo, apply}
 use Rattle.memory.specs.declared.Offset.{Offset}
 use Rattle.scb.specs.Control.{ruNext}
-use Rattle.scb.specs.Words.{commandAt, resets, ruc, cuNumber, ruNumber, eventBits}
+use Rattle.scb.specs.Words.{scbCommandAt, resets, ruc, cuNumber, ruNumber, eventBits}
 use Rattle.scb.specs.declared.RuState.{RuState}
 use Rattle.scb.specs.declared.RuState.the-variants as rus
 use Rattle.device.specs.Answers.{isHeld}
@@ -23,7 +23,7 @@ use Rattle.device.specs.declared.Ru.the-variants as ru
 use Rattle.device.specs.declared.Storing.{Storing}
 use Rattle.device.specs.declared.Units.{Units}
 use Rattle.device.specs.declared.Walk.{Walk}
-use Rattle.image.specs.Ranges.{inRange, sized, goesOn, cuFits, initialisedOrFresh, unitsFresh, unitsIdle, settingsFresh, addressesFresh, unitsFit, ruFits, frameFits}
+use Rattle.image.specs.Ranges.{inRange, sized, hasNext, cuFits, initialisedOrFresh, unitsFresh, unitsIdle, settingsFresh, addressesFresh, unitsFit, ruFits, frameFits}
 use Rattle.phases.proofs.Units.{both as parts}
 use Rattle.receive.specs.Arrival as arrivals
 use Rattle.receive.specs.Part as receive
@@ -115,9 +115,9 @@ unit-saved (ru.Held fd g p) f h r = frame-saved f (ap frameFits (sym (same-frame
 unit-saved (ru.Filling s w) f h r =
     frame-saved f
     (ap frameFits (sym (same-frame f (s .frame) h))
-    ∙ parts (frameFits (s .frame)) (goesOn w)
-    (parts (frameFits (s .frame) && goesOn w) (leb header (w .filled))
-    (parts (frameFits (s .frame) && goesOn w && leb header (w .filled)) (ltb (w .filled) (s .frame .length)) r .0)
+    ∙ parts (frameFits (s .frame)) (hasNext w)
+    (parts (frameFits (s .frame) && hasNext w) (leb header (w .filled))
+    (parts (frameFits (s .frame) && hasNext w && leb header (w .filled)) (ltb (w .filled) (s .frame .length)) r .0)
     .0)
     .0)
 unit-saved (ru.Closing s free full) f h r =
@@ -189,7 +189,7 @@ reset-fresh : (w : World) → attended w (attentions.resetBy (w .device)) .outco
 unfolding attended attentions.resetBy
 reset-fresh w = refl
 
-reset-memory : (w : World) → attended w (attentions.resetBy (w .device)) .memory ≡ apply (wordTo (inScb w commandAt) 0x0000 ∷ []) (w .memory)
+reset-memory : (w : World) → attended w (attentions.resetBy (w .device)) .memory ≡ apply (wordTo (inScb w scbCommandAt) 0x0000 ∷ []) (w .memory)
 unfolding attended attentions.resetBy
 reset-memory w = refl
 

@@ -11,7 +11,7 @@ use Rattle.memory.proofs.Fields.{Apart, AllApart, apply-other, bytes-same, leng
 use Rattle.memory.proofs.Laws.{apply-append, length-apply, length-putBytes}
 use Rattle.memory.proofs.Power.{allowed}
 use Rattle.memory.specs.declared.Offset.{Offset}
-use Rattle.scb.specs.Words.{bit, statusAt}
+use Rattle.scb.specs.Words.{bit, scbStatusAt}
 use Rattle.device.specs.Limits.{header, areaSize}
 use Rattle.device.specs.State.{isGood}
 use Rattle.device.specs.declared.Frame.{Frame}
@@ -175,9 +175,9 @@ header-piece : (w : World) (s : Storing) → length (w .holding) ≡ areaSize �
 unfolding pieceOf
 header-piece w s h = ap (piece (inFrame w s 8)) (length-take-le header (w .holding) (omega arith))
 
-status-piece : (w : World) (r : Ran) → piecesOf (statusAfter w r) ≡ piece (inScb w statusAt) 2 ∷ []
+status-piece : (w : World) (r : Ran) → piecesOf (statusAfter w r) ≡ piece (inScb w scbStatusAt) 2 ∷ []
 unfolding piecesOf
-status-piece w r = ap (λ (p : Piece). p ∷ []) (word-piece (inScb w statusAt) _)
+status-piece w r = ap (λ (p : Piece). p ∷ []) (word-piece (inScb w scbStatusAt) _)
 
 front2 : {a b c d : Piece} {ps qs : List Piece} → a ≡ c → b ≡ d → ps ≡ qs → a ∷ b ∷ ps ≡ c ∷ d ∷ qs
 front2 x y z = ap₂ (λ (p : Piece) (l : List Piece). p ∷ l) x (ap₂ (λ (p : Piece) (l : List Piece). p ∷ l) y z)
@@ -198,13 +198,13 @@ ending-pieces false w s status rest ps h e = front2 (header-piece w s h) (word-p
 
 onward-pieces : (x : Bool) (w : World) (r : Ran) (s : Storing) (free : Offset)
     → piecesOf (onwardBy x w s free (apply (described false w s) (w .memory)) ++ statusAfter w r)
-    ≡ onwardPiece x w s ++ piece (inScb w statusAt) 2 ∷ []
+    ≡ onwardPiece x w s ++ piece (inScb w scbStatusAt) 2 ∷ []
 unfolding piecesOf
 onward-pieces true w r s free = status-piece w r
 onward-pieces false w r s free = ap₂ (λ (a : Piece) (l : List Piece). a ∷ l) (word-piece (nextFirst w s) (free .0)) (status-piece w r)
 
 count-pieces : (w : World) (r : Ran) (v : ℕ)
-    → piecesOf (wordTo (inScb w 12) v ∷ statusAfter w r) ≡ piece (inScb w 12) 2 ∷ piece (inScb w statusAt) 2 ∷ []
+    → piecesOf (wordTo (inScb w 12) v ∷ statusAfter w r) ≡ piece (inScb w 12) 2 ∷ piece (inScb w scbStatusAt) 2 ∷ []
 unfolding piecesOf
 count-pieces w r v = ap₂ (λ (a : Piece) (l : List Piece). a ∷ l) (word-piece (inScb w 12) v) (status-piece w r)
 
@@ -223,7 +223,7 @@ closing-separate n w r s free full h p =
     (subst (NoOverlap n)
     (sym
     (ending-pieces (isBare (s .frame)) w s (frameStatus false (s .frame)) (onward w s free full ++ statusAfter w r)
-    (onwardPiece (s .el || full) w s ++ piece (inScb w statusAt) 2 ∷ []) h (onward-pieces (s .el || full) w r s free)))
+    (onwardPiece (s .el || full) w s ++ piece (inScb w scbStatusAt) 2 ∷ []) h (onward-pieces (s .el || full) w r s free)))
     p)
 
 both-separate : (n : ℕ) (w : World) (r : Ran) (s : Storing) (v : ℕ) → length (w .holding) ≡ areaSize → NoOverlap n (lackingPieces true w s)
@@ -233,7 +233,7 @@ both-separate n w r s v h p =
     (subst (NoOverlap n)
     (sym
     (ending-pieces (isBare (s .frame)) w s (frameStatus true (s .frame)) (wordTo (inScb w 12) v ∷ statusAfter w r)
-    (piece (inScb w 12) 2 ∷ piece (inScb w statusAt) 2 ∷ []) h (count-pieces w r v)))
+    (piece (inScb w 12) 2 ∷ piece (inScb w scbStatusAt) 2 ∷ []) h (count-pieces w r v)))
     p)
 
 counted-separate : (n : ℕ) (w : World) (r : Ran) (s : Storing) (v : ℕ) → NoOverlap n (lackingPieces false w s)
@@ -301,16 +301,16 @@ but-last n [] c h = tt
 but-last n (p ∷ ps) c h = (away-but n ps c p (h .0), but-last n ps c (h .1))
 
 closing-counters : (b x : Bool) (w : World) (s : Storing)
-    → barePiece b w s ++ (onwardPiece x w s ++ piece (inScb w statusAt) 2 ∷ piece (inScb w 8) 8 ∷ [])
-    ≡ barePiece b w s ++ (onwardPiece x w s ++ piece (inScb w statusAt) 2 ∷ []) ++ piece (inScb w 8) 8 ∷ []
+    → barePiece b w s ++ (onwardPiece x w s ++ piece (inScb w scbStatusAt) 2 ∷ piece (inScb w 8) 8 ∷ [])
+    ≡ barePiece b w s ++ (onwardPiece x w s ++ piece (inScb w scbStatusAt) 2 ∷ []) ++ piece (inScb w 8) 8 ∷ []
 closing-counters true true w s = refl
 closing-counters true false w s = refl
 closing-counters false true w s = refl
 closing-counters false false w s = refl
 
 lacking-counters : (b : Bool) (w : World) (s : Storing)
-    → barePiece b w s ++ (piece (inScb w statusAt) 2 ∷ piece (inScb w 8) 8 ∷ [])
-    ≡ barePiece b w s ++ (piece (inScb w statusAt) 2 ∷ []) ++ piece (inScb w 8) 8 ∷ []
+    → barePiece b w s ++ (piece (inScb w scbStatusAt) 2 ∷ piece (inScb w 8) 8 ∷ [])
+    ≡ barePiece b w s ++ (piece (inScb w scbStatusAt) 2 ∷ []) ++ piece (inScb w 8) 8 ∷ []
 lacking-counters true w s = refl
 lacking-counters false w s = refl
 
@@ -352,14 +352,14 @@ bad-exit-of c w f h l p (held.stored s free full n e q x k) =
     exit.stored s free full n e q x
     (saved-stands false s _ w (ran c w) h l
     (with-counters (length (w .memory)) w s (frameStatus false (s .frame)) (onward w s free full ++ statusAfter w (ran c w))
-    (onwardPiece y w s ++ piece (inScb w statusAt) 2 ∷ []) h (onward-pieces y w (ran c w) s free)
+    (onwardPiece y w s ++ piece (inScb w scbStatusAt) 2 ∷ []) h (onward-pieces y w (ran c w) s free)
     (subst (Behind w s) (closing-counters (isBare (s .frame)) y w s) o))
     k)
 bad-exit-of c w f h l p (held.lacking s n e q x k) =
     let o = subst (λ (u : Ru). NoOverlap (length (w .memory)) (badPieces u w)) e p in
     exit.lacking s n e q x
     (saved-stands true s _ w (ran c w) h l
-    (with-counters (length (w .memory)) w s (frameStatus true (s .frame)) (statusAfter w (ran c w)) (piece (inScb w statusAt) 2 ∷ []) h
+    (with-counters (length (w .memory)) w s (frameStatus true (s .frame)) (statusAfter w (ran c w)) (piece (inScb w scbStatusAt) 2 ∷ []) h
     (status-piece w (ran c w)) (subst (Behind w s) (lacking-counters (isBare (s .frame)) w s) o))
     k)
 bad-exit-of c w f h l p (held.lost a k) = exit.lost a k

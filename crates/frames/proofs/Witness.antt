@@ -8,7 +8,7 @@ use lib.ListN.{replicate}
 use Rattle.memory.specs.Address.{place, beyond}
 use Rattle.memory.specs.Memory.{byteAt, putByte, bytesAt, putBytes, value, digits, fieldAt, wordTo, apply}
 use Rattle.scb.specs.Control.{cuNext, ruNext}
-use Rattle.scb.specs.Words.{noEvents, field, joined, acknowledged, anyOf, eventBits, statusWord}
+use Rattle.scb.specs.Words.{noEvents, bitsAt, joined, acknowledged, anyOf, eventBits, statusWord}
 use Rattle.device.specs.Answers.{counts}
 use Rattle.device.specs.Numbers.{actionOf, verdictOf}
 use Rattle.device.specs.State.{fresh}
@@ -105,7 +105,7 @@ pub start : World
 start = worldOf (ready false) zeros zeros zeros
 
 pub story : Story
-unfolding start byteAt putByte bytesAt putBytes value digits fieldAt place beyond cuNext ruNext field joined acknowledged anyOf eventBits statusWord counts actionOf verdictOf agree isListed matches lengthOf judged fateOf arrival receive-begin.begunBy receive-begin.begin receive-buffer.descriptorAt receive-buffer.buffer frameStatus settles close lack receive-service.service statusTo resetOf attentions.iscpOf attentions.initialise attentions.resetBy cuFirst obeyCuc ruFirst obeyRuc attentions.unitsAfter attentions.obey attentions.attend attentions.attention attentionOf arrivals.arrival arrivals.arrivalOf concluded commandTurn receiveTurn turnOf
+unfolding start byteAt putByte bytesAt putBytes value digits fieldAt place beyond cuNext ruNext bitsAt joined acknowledged anyOf eventBits statusWord counts actionOf verdictOf agree isListed matches lengthOf judged fateOf arrival receive-begin.begunBy receive-begin.begin receive-buffer.descriptorAt receive-buffer.buffer frameStatus settles close lack receive-service.service statusTo resetOf attentions.iscpOf attentions.initialise attentions.resetBy cuFirst obeyCuc ruFirst obeyRuc attentions.unitsAfter attentions.obey attentions.attend attentions.attention attentionOf arrivals.arrival arrivals.arrivalOf concluded commandTurn receiveTurn turnOf
 story =
     record {
       held = map (λ (n : Noted). n .number) (beginnings trace (opening start));

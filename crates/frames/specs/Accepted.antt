@@ -5,7 +5,7 @@ use mathlib.Core.List.{List}
 use Prim.Native.Nat.{ℕ}
 use Rattle.image.specs.Ranges.{inRange}
 use Rattle.chip.specs.World.{World, Ran}
-use Rattle.calls.specs.Calls.{Areas, refusalOf, keptBy, calledBy}
+use Rattle.calls.specs.Calls.{Areas, refusalOf, onBytes, calledBy}
 use Rattle.frames.specs.Arrival.{Lent}
 
 -- the areas are a world's: its record is the image of a state in range, the lengths are right, and the call leaves what it leaves of that world
@@ -16,4 +16,4 @@ pub record Runs (a : Areas) (f : List ℕ) : Type 0 where
   pub outgoing : world .outgoing ≡ a .outgoing
   pub range : inRange (world .device) ≡ true
   pub lent : Lent world f
-  pub runs : (run : World → Ran) → calledBy (refusalOf a f) run a ≡ keptBy (run world)
+  pub runs : (run : World → Ran) → calledBy (refusalOf a f) run a ≡ onBytes (run world)

@@ -9,7 +9,7 @@ use lib.ListN.{take}
 use Rattle.memory.specs.Address.{place, offsetAt}
 use Rattle.memory.specs.Memory.{Write, bytesTo, wordTo, wordAt, countTo, apply}
 use Rattle.memory.specs.declared.Offset.{Offset}
-use Rattle.scb.specs.Words.{bit, statusAt, commandAt, statusWord, resets, ruc}
+use Rattle.scb.specs.Words.{bit, scbStatusAt, scbCommandAt, statusWord, resets, ruc}
 use Rattle.device.specs.Limits.{header}
 use Rattle.device.specs.State.{cuState, ruState, isActive, isHolding, fresh}
 use Rattle.device.specs.declared.Fate.{Fate}
@@ -59,7 +59,7 @@ ofHeld fate.Reset = true
 
 -- the SCB's command word, as an attention reads it
 abbrev pub commandOf : World → ℕ
-commandOf w = wordAt (w .memory) (inScb w commandAt)
+commandOf w = wordAt (w .memory) (inScb w scbCommandAt)
 
 -- 01, "The SCB": the reset call, a resetting attention, or an RU abort
 abbrev pub loses : Call → World → Bool
@@ -138,7 +138,7 @@ onward w s free full = onwardBy (s .el || full) w s free (apply (described false
 -- the SCB status, as the record has it after the call
 abbrev pub statusAfter : World → Ran → List Write
 statusAfter w r =
-    let u = r .outcome .device .units in wordTo (inScb w statusAt) (statusWord (u .events) (cuState (u .cu)) (ruState (u .ru))) ∷ []
+    let u = r .outcome .device .units in wordTo (inScb w scbStatusAt) (statusWord (u .events) (cuState (u .cu)) (ruState (u .ru))) ∷ []
 
 -- ---- stored, counted
 
@@ -166,7 +166,7 @@ pub data Lost (w : World) : Call → Type 0 where
   by-reset : ran reset w .outcome .device ≡ fresh → ran reset w .memory ≡ w .memory → Lost w reset
   -- write command 0 and become as after reset, nothing else
   by-resetting : resets (commandOf w) ≡ true → ran attention w .outcome .fate ≡ fate.Reset → ran attention w .outcome .device ≡ fresh
-      → ran attention w .memory ≡ apply (wordTo (inScb w commandAt) 0x0000 ∷ []) (w .memory)
+      → ran attention w .memory ≡ apply (wordTo (inScb w scbCommandAt) 0x0000 ∷ []) (w .memory)
       → Lost w attention
   -- dropped uncounted: what CUC writes, 0000h to its frame descriptor if begun, then status and command
   by-abort : resets (commandOf w) ≡ false → ruc (commandOf w) ≡ 4 → ran attention w .outcome .fate ≡ fate.Aborted

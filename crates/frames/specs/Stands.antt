@@ -8,7 +8,7 @@ use Rattle.memory.specs.Address.{place, offsetAt}
 use Rattle.memory.specs.Memory.{Write, wordAt, bytesAt, apply}
 use Rattle.memory.specs.declared.Offset.{Offset}
 use Rattle.memory.proofs.Fields.{Apart, AllApart}
-use Rattle.scb.specs.Words.{bit, statusAt}
+use Rattle.scb.specs.Words.{bit, scbStatusAt}
 use Rattle.device.specs.Limits.{header}
 use Rattle.device.specs.declared.Fate.the-variants as fate
 use Rattle.device.specs.declared.Frame.{Frame}
@@ -79,8 +79,8 @@ storedPieces w s rest = piece (inFrame w s 8) header ∷ piece (inFrame w s 0) 2
 
 -- out of buffers: kept, or status 0000h alone; either way RSCERRS, then the SCB status
 abbrev pub lackingPieces : (saved : Bool) → World → Storing → List Piece
-lackingPieces true w s = storedPieces w s (piece (inScb w 12) 2 ∷ piece (inScb w statusAt) 2 ∷ [])
-lackingPieces false w s = piece (inFrame w s 0) 2 ∷ piece (inScb w 12) 2 ∷ piece (inScb w statusAt) 2 ∷ []
+lackingPieces true w s = storedPieces w s (piece (inScb w 12) 2 ∷ piece (inScb w scbStatusAt) 2 ∷ [])
+lackingPieces false w s = piece (inFrame w s 0) 2 ∷ piece (inScb w 12) 2 ∷ piece (inScb w scbStatusAt) 2 ∷ []
 
 -- all that an end turn of a good frame writes
 abbrev pub pieces : Ru → World → List Piece
@@ -90,7 +90,7 @@ pieces (ru.Suspended fd) w = []
 pieces (ru.Ready fd) w = []
 pieces (ru.Held fd f p) w = []
 pieces (ru.Filling s k) w = []
-pieces (ru.Closing s free full) w = storedPieces w s (onwardPiece (s .el || full) w s ++ piece (inScb w statusAt) 2 ∷ [])
+pieces (ru.Closing s free full) w = storedPieces w s (onwardPiece (s .el || full) w s ++ piece (inScb w scbStatusAt) 2 ∷ [])
 pieces (ru.Lacking s) w = lackingPieces (s .frame .savebad) w s
 
 -- what becomes of a good frame, as facts about memory at exit
@@ -124,8 +124,8 @@ badPieces (ru.Ready fd) w = []
 badPieces (ru.Held fd f p) w = []
 badPieces (ru.Filling s k) w = []
 badPieces (ru.Closing s free full) w =
-    storedPieces w s (onwardPiece (s .el || full) w s ++ piece (inScb w statusAt) 2 ∷ piece (inScb w 8) 8 ∷ [])
-badPieces (ru.Lacking s) w = storedPieces w s (piece (inScb w statusAt) 2 ∷ piece (inScb w 8) 8 ∷ [])
+    storedPieces w s (onwardPiece (s .el || full) w s ++ piece (inScb w scbStatusAt) 2 ∷ piece (inScb w 8) 8 ∷ [])
+badPieces (ru.Lacking s) w = storedPieces w s (piece (inScb w scbStatusAt) 2 ∷ piece (inScb w 8) 8 ∷ [])
 
 -- header bytes and status stand, bit 9 is set exactly if out of buffers, FR is set in the record, and the counters are as at entry
 pub record SavedStands (lacking : Bool) (s : Storing) (w : World) (r : Ran) : Type 0 where

@@ -4,10 +4,10 @@ use Rattle.chip.specs.Call.{Call, reset, attention, arrive, turn}
 use Rattle.image.specs.Image.{imageOf}
 use Rattle.closure.specs.Sound.{Fit}
 use Rattle.closure.proofs.Closed.{closed}
-use Rattle.held.specs.Kept.{frameBytes, Settled, Within}
+use Rattle.held.specs.OnRecords.{frameBytes, Settled, Within}
 use Rattle.held.proofs.Exact.{frame}
-use Rattle.held.proofs.Kept.{Closed}
-use Rattle.held.proofs.Kept as kept
+use Rattle.held.proofs.OnRecords.{Closed}
+use Rattle.held.proofs.OnRecords as kept
 use Rattle.held.proofs.Lending as lending
 
 fit : (c : Call) → frameBytes c → Fit c

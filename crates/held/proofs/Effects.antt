@@ -15,10 +15,10 @@ use Rattle.device.specs.declared.Ru.{Ru}
 use Rattle.device.specs.declared.Ru.the-variants as ru
 use Rattle.device.specs.declared.Storing.{Storing}
 use Rattle.device.specs.declared.Units.{Units}
-use Rattle.receive.specs.Part.{Part, Service, partOf, linkAt, firstAt}
+use Rattle.receive.specs.Part.{Part, Service, partOf, fdLinkAt, firstAt}
 use Rattle.receive.specs.Begin.{begin}
 use Rattle.receive.specs.Buffer.{buffer}
-use Rattle.receive.specs.End.{fateOf, settles, goesOn, close, lack}
+use Rattle.receive.specs.End.{fateOf, settles, proceeds, close, lack}
 use Rattle.receive.specs.Service.{serviceBy, service}
 use Rattle.chip.specs.World.{World}
 use Rattle.chip.specs.Turn.{statusBy, raisedIn, concluded, receiveUnits, receiveTurn, turnOf}
@@ -26,13 +26,13 @@ use Rattle.traces.specs.Event.{Event, step}
 use Rattle.progress.specs.Holder.{run}
 use Rattle.closure.specs.Driven.{Lending}
 use Rattle.held.specs.Held.{frameOf, frameIn, isSettled, Settled}
-use Rattle.held.specs.Kept.{frameKept, worldIn}
-use Rattle.held.specs.Kept as kept
+use Rattle.held.specs.OnRecords.{frameKept, worldIn}
+use Rattle.held.specs.OnRecords as kept
 use Rattle.held.specs.Effects.{Written}
 use Rattle.held.proofs.Service.{isFate}
 use Rattle.held.proofs.Turn.{isReceiving, turn-received}
 use Rattle.held.proofs.Held.{holding, passing, nothing, held-last}
-use Rattle.held.proofs.Kept.{units-in, kept-last}
+use Rattle.held.proofs.OnRecords.{units-in, kept-last}
 
 -- ---- one service
 
@@ -47,11 +47,11 @@ record Ends (u : Ru) (p : Part) (m : List ℕ) (s : Service) : Type 0 where
   told : s .raised .fr ≡ isStored (s .fate)
 
 goes-on : (x : Bool) (p : Part) (s : Storing) (free : Offset) (full : Bool) (m : List ℕ)
-    → Ends (ru.Closing s free full) p m (goesOn x p s free (fateOf false (s .frame)) (settles false p s m) m)
+    → Ends (ru.Closing s free full) p m (proceeds x p s free (fateOf false (s .frame)) (settles false p s m) m)
 goes-on true p s free full m =
     record { storing = s; own = refl; lacking = false; fate = refl; rest = []; writes = sym (append-nil _); told = refl }
 goes-on false p s free full m =
-    let link = offsetAt (apply (settles false p s m) m) (place (p .base) (s .fd) linkAt) in
+    let link = offsetAt (apply (settles false p s m) m) (place (p .base) (s .fd) fdLinkAt) in
     record {
       storing = s;
       own = refl;

@@ -17,8 +17,8 @@ use Rattle.device.specs.State.{isActive, cuState, isHolding}
 use Rattle.device.specs.declared.Answer.{Answer}
 use Rattle.device.specs.declared.Device.{Device}
 use Rattle.device.specs.declared.Refusal.the-variants as refusal
-use Rattle.words.specs.Places as places
-use Rattle.phases.specs.Words.{cuWord, ruWord}
+use Rattle.numerals.specs.Places as places
+use Rattle.phases.specs.Phases.{cuWord, ruWord}
 use Rattle.image.specs.Image.{imageOf, headShaped, shaped, decodeFull, decodeOf}
 use Rattle.image.specs.Ranges.{cuFits, frameFits, ruFits, unitsFit, initialisedOrFresh, inRange, Wide}
 use Rattle.image.specs.Found.{Found}
@@ -28,16 +28,16 @@ use Rattle.chip.specs.Call.{reset, attention, turn}
 use Rattle.chip.specs.Cases.{Word, _is_, put, passes}
 use Rattle.chip.specs.Turn.{servedBy, concluded, commandTurn, receiveTurn, turnBy, turnOf}
 use Rattle.chip.specs.World.{World, worldOf}
-use Rattle.calls.specs.Calls.{Areas, areasOf, Called, packed, areasRight, refusalOf, keptBy, attentionCall, turnCall, resetCall}
+use Rattle.calls.specs.Calls.{Areas, areasOf, Called, answerNumber, areasRight, refusalOf, keptBy, attentionCall, turnCall, resetCall}
 use Rattle.calls.proofs.Laws.{accepted}
 use Rattle.traces.specs.Event.{call, isTurn}
 use Rattle.traces.specs.Bytes.{called, number, isRefused}
 use Rattle.progress.specs.Machine.{bit}
 use Rattle.closure.specs.Driven.{Lending, lending}
 use Rattle.held.specs.Held.{frameOf, isSettled, fateAt}
-use Rattle.held.specs.Kept.{unitsBy, frameKept, isAccepted, worldIn, keptAfter, stepKept, turnsIn, Fair, AllFair, Settled, Within}
+use Rattle.held.specs.OnRecords.{unitsBy, frameKept, isAccepted, worldIn, keptAfter, stepKept, turnsIn, Fair, AllFair, Settled, Within}
 use Rattle.held.proofs.Exact.{words, given, begun, frame, its-frame, and-left, and-right, not-settled}
-use Rattle.held.proofs.Kept.{Closed, held-frame}
+use Rattle.held.proofs.OnRecords.{Closed, held-frame}
 
 -- ---- what is lent
 
@@ -141,8 +141,8 @@ unfolding turnOf
 turn-accepted w report =
     turn-number (isActive (cuState (w .device .units .cu))) (isHolding (w .device .units .ru)) (w .device .units .rulast) w report
 
-number-zero : (a : Answer) → a .number ≡ refusal.Accepted → number (packed a) ≡ 0
-unfolding packed
+number-zero : (a : Answer) → a .number ≡ refusal.Accepted → number (answerNumber a) ≡ 0
+unfolding answerNumber
 number-zero a e = rw e (omega arith)
 
 lengths : (h : List ℕ) (m : List ℕ) (d : Device) → length h ≡ areaSize → Wide d → areasRight (lentOn m h d) ≡ true
@@ -307,15 +307,15 @@ turns-refused : (l : Lending) (ls : List Lending) → isAccepted l ≡ false →
 turns-refused l ls e = ap (λ (b : Bool). bit (b && isTurn (call (l .made))) + turnsIn ls) e ∙ omega arith
 
 no-memory : isAccepted attended ≡ false
-unfolding attentionCall refusalOf sizeAllowed packed
+unfolding attentionCall refusalOf sizeAllowed answerNumber
 no-memory = refl
 
 no-record : isAccepted renewed ≡ false
-unfolding resetCall packed
+unfolding resetCall answerNumber
 no-record = refl
 
 no-image : isAccepted turned ≡ false
-unfolding memory passes sizeAllowed ones turnCall refusalOf areasRight packed decodeOf decodeFull shaped headShaped places.field places.bytesFrom
+unfolding memory passes sizeAllowed ones turnCall refusalOf areasRight answerNumber decodeOf decodeFull shaped headShaped places.field places.bytesFrom
 no-image = refl
 
 among-fair : (ls : List Lending) (r : List ℕ) → AllFair ls r → AllFair (refusals ls) r

@@ -3,7 +3,7 @@ pub mod Service
 pub mod Turn
 pub mod Held
 pub mod Exact
-pub mod Kept
+pub mod OnRecords
 pub mod Effects
 pub mod Lending
 pub mod Calls

@@ -13,7 +13,7 @@ use Rattle.closure.proofs.Carried.{lent-kept}
 use Rattle.closure.proofs.Turns.{run-accepted, run-is-turns, taken-accepted, turn-again}
 use Rattle.progress.specs.Machine.{bit}
 use Rattle.closure.specs.Driven.{Lending, lending, Drive, calls, runs, takenIn, turnsFrom, unrolled}
-use Rattle.held.specs.Kept.{isTaken, stepKept, turnsIn, AreBytes, Fair, AllFair}
+use Rattle.held.specs.OnRecords.{isTaken, stepKept, turnsIn, AreBytes, Fair, AllFair}
 use Rattle.held.specs.Runs.{keptBy, keptOne, turnsDriven, RunFair, AllDrive, Within}
 use Rattle.held.proofs.Calls.{held-frame}
 

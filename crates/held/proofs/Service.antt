@@ -21,7 +21,7 @@ use Rattle.device.specs.declared.Walk.{Walk}
 use Rattle.receive.specs.Part.{Part, firstAt, controlAt}
 use Rattle.receive.specs.Begin.{begunBy, isBare, toFirst, begin}
 use Rattle.receive.specs.Buffer.{descriptorAt, past, isDone, afterBuffer, buffer}
-use Rattle.receive.specs.End.{fateBy, settles, before, goesOn, close, lack}
+use Rattle.receive.specs.End.{fateBy, settles, before, proceeds, close, lack}
 use Rattle.receive.specs.Service.{serviceBy}
 use Rattle.held.specs.Held.{frameOf, isToHold, isSettled}
 
@@ -117,7 +117,7 @@ before-free true o = refl
 before-free false o = refl
 
 closed : (exhausted : Bool) (x : Option Frame) (p : Part) (s : Storing) (free : Offset) (ws : List Write) (m : List ℕ)
-    → Serving x 1 (goesOn exhausted p s free fate.Stored ws m .unit) (goesOn exhausted p s free fate.Stored ws m .fate)
+    → Serving x 1 (proceeds exhausted p s free fate.Stored ws m .unit) (proceeds exhausted p s free fate.Stored ws m .fate)
 closed true x p s free ws m = ended refl (λ f e t. refl) refl
 closed false x p s free ws m = ended refl (λ f e t. refl) (rw before-free)
 

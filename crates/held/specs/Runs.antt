@@ -8,7 +8,7 @@ use Rattle.chip.specs.Call.{turn}
 use Rattle.calls.specs.Calls.{Areas, runCall}
 use Rattle.closure.specs.Driven.{lending, Drive, calls, runs, takenIn, unrolled}
 use Rattle.progress.specs.Machine.{bit}
-use Rattle.held.specs.Kept.{frameKept, stepKept, isTaken, Fair, Settled}
+use Rattle.held.specs.OnRecords.{frameKept, stepKept, isTaken, Fair, Settled}
 
 -- the record that the host keeps: a run that took no turn leaves it, as a refused call does
 abbrev pub keptBy : (taken : ℕ) → (before after : List ℕ) → List ℕ

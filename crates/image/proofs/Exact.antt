@@ -27,17 +27,17 @@ use Rattle.device.specs.declared.Ru.the-variants as ru
 use Rattle.device.specs.declared.Settings.{Settings}
 use Rattle.device.specs.declared.Units.{Units}
 use Rattle.actions.specs.Setup.{setupOf}
-use Rattle.words.specs.Places.{bytesFrom, field}
-use Rattle.words.proofs.Laws.{field-below, piece, fit, digits-zero, from-append, from-bytes, from-cons, length-from, whole, first-of, second-of, one as field-one}
-use Rattle.phases.specs.Words.{flagsOf as bitsOf, odd, numberOf, cuTag, cuWord, cuShaped, ruTag, ruWord, ruShaped, FillingWide}
+use Rattle.numerals.specs.Places.{bytesFrom, field}
+use Rattle.numerals.proofs.Laws.{field-below, piece, fit, digits-zero, from-append, from-bytes, from-cons, length-from, whole, first-of, second-of, one as field-one}
+use Rattle.phases.specs.Phases.{flagsOf as bitsOf, odd, numberOf, cuTag, cuWord, cuShaped, ruTag, ruWord, ruShaped, FillingWide}
 use Rattle.phases.proofs.Units.{both, never, one-below, flag1, flag2, flag3, flag4, bits3, number-below, wide-of, cu-shaped, cu-same, rest-below, ru-shaped, ru-same, Same, RuSame}
-use Rattle.kept.specs.Kept.{flagsBy, flagsOf, statusOf, keptOf, flagsIn, cuTagIn, ruTagIn, UnitsWide, KeptIs}
-use Rattle.kept.specs.SetUp.{settingsByte, setupBytes}
-use Rattle.kept.specs.declared.Kept.{Kept}
-use Rattle.kept.proofs.Laws.{cu-tag-below, ru-tag-below, flags-below, scb-is, base-is, cu-is, ru-is, cu-of, ru-of, events-is, initialised-is, rulast-is}
+use Rattle.packed.specs.Packed.{flagsBy, flagsOf, statusOf, packedOf, flagsIn, cuTagIn, ruTagIn, UnitsWide, PackedIs}
+use Rattle.packed.specs.SetUp.{settingsByte, setupBytes}
+use Rattle.packed.specs.declared.Packed.{Packed}
+use Rattle.packed.proofs.Laws.{cu-tag-below, ru-tag-below, flags-below, scb-is, base-is, cu-is, ru-is, cu-of, ru-of, events-is, initialised-is, rulast-is}
 use Rattle.image.specs.Ranges.{settingsFresh, unitsIdle, addressesFresh, sized, unitsFit, cuFits, frameFits, ruFits, unitsFresh, initialisedOrFresh, inRange, Wide}
 use Rattle.image.specs.Found as is
-use Rattle.image.specs.Image.{front, unitBytes, imageOf, keptAt, eventsOf, settingsOf, unitsBy, unitsAt, deviceFrom, deviceAt, statusIs, headShaped, unitsShaped, spareZero, shaped, rangeFrom, decodeFull, decodeOf}
+use Rattle.image.specs.Image.{front, unitBytes, imageOf, packedAt, eventsOf, settingsOf, unitsBy, unitsAt, deviceFrom, deviceAt, statusIs, headShaped, unitsShaped, spareZero, shaped, rangeFrom, decodeFull, decodeOf}
 use Rattle.image.proofs.Steps.{full-taken, full-out, full-other, decode-full, device-full, length-units, length-image}
 
 -- ---- the events and the settings in their bits
@@ -126,7 +126,7 @@ module _ (d : Device) where
   unfolding imageOf unitBytes front digits field bytesFrom value
   at0 = omega arith
 
-  at5 : field (imageOf d) 5 8 ≡ value (digits 8 (keptOf (d .units) .status))
+  at5 : field (imageOf d) 5 8 ≡ value (digits 8 (packedOf (d .units) .status))
   unfolding imageOf unitBytes front digits field bytesFrom
   at5 = refl
 
@@ -134,22 +134,22 @@ module _ (d : Device) where
   unfolding imageOf unitBytes front digits field bytesFrom value
   at13 = refl
 
-  at16 : field (imageOf d) 16 8 ≡ value (digits 8 (keptOf (d .units) .cu))
+  at16 : field (imageOf d) 16 8 ≡ value (digits 8 (packedOf (d .units) .cu))
   unfolding imageOf unitBytes front digits field bytesFrom
   at16 = refl
 
-  at24 : field (imageOf d) 24 8 ≡ value (digits 8 (keptOf (d .units) .ru))
+  at24 : field (imageOf d) 24 8 ≡ value (digits 8 (packedOf (d .units) .ru))
   unfolding imageOf unitBytes front digits field bytesFrom
   at24 = refl
 
-  at32 : field (imageOf d) 32 8 ≡ value (digits 8 (keptOf (d .units) .rest))
+  at32 : field (imageOf d) 32 8 ≡ value (digits 8 (packedOf (d .units) .rest))
   unfolding imageOf unitBytes front digits field bytesFrom
   at32 = refl
 
   -- from byte 40 on: spare, and from byte 152 on the setup
   behind : (at n : ℕ) → bytesFrom (imageOf d) (40 + at) n ≡ bytesFrom (replicate 112 0 ++ setupBytes (setupOf d)) at n
   unfolding imageOf
-  behind at n = rw (length-units (keptOf (d .units))) at (second-of (unitBytes (keptOf (d .units))) (replicate 112 0 ++ setupBytes (setupOf d)) at n)
+  behind at n = rw (length-units (packedOf (d .units))) at (second-of (unitBytes (packedOf (d .units))) (replicate 112 0 ++ setupBytes (setupOf d)) at n)
 
   spare-back : bytesFrom (imageOf d) 40 112 ≡ replicate 112 0
   spare-back = behind 0 112 ∙ first-of (replicate 112 0) (setupBytes (setupOf d))
@@ -238,7 +238,7 @@ module _ (u : Units) (h : UnitsWide u) where
       )
 
 -- the numbers of a state lead back to it
-pub units-by : (u : Units) (k : Kept) → KeptIs u k → unitsBy k (u .settings) ≡ u
+pub units-by : (u : Units) (k : Packed) → PackedIs u k → unitsBy k (u .settings) ≡ u
 unfolding unitsBy
 units-by u k h =
     rw (
@@ -263,8 +263,8 @@ module _ (d : Device) (h : Wide d) (e : unitsFit (d .units) ≡ true) where
         filling-wide = filling-wide (d .units .ru) (fit-ru (d .units) e);
       }
 
-  kept-back : keptAt (imageOf d) ≡ keptOf (d .units)
-  unfolding keptAt keptOf
+  kept-back : packedAt (imageOf d) ≡ packedOf (d .units)
+  unfolding packedAt packedOf
   kept-back =
       rw (
         at5 d ∙ fit 8 _ (status-tests (d .units) wide-units .3),
@@ -274,15 +274,15 @@ module _ (d : Device) (h : Wide d) (e : unitsFit (d .units) ≡ true) where
       )
 
   -- the numbers that stand in it are the state's
-  pub kept-is : KeptIs (d .units) (keptAt (imageOf d))
+  pub kept-is : PackedIs (d .units) (packedAt (imageOf d))
   kept-is = record { same = kept-back; wide = wide-units }
 
   pub units-back : unitsAt (imageOf d) ≡ d .units
   unfolding unitsAt
-  units-back = rw (at152 d, at153 d, settings-back (d .units .settings)) (units-by (d .units) (keptAt (imageOf d)) kept-is)
+  units-back = rw (at152 d, at153 d, settings-back (d .units .settings)) (units-by (d .units) (packedAt (imageOf d)) kept-is)
 
   is5 : field (imageOf d) 5 8 ≡ statusOf (d .units)
-  unfolding keptOf
+  unfolding packedOf
   is5 = at5 d ∙ fit 8 _ (status-tests (d .units) wide-units .3)
 
   head-true : headShaped (imageOf d) ≡ true
@@ -302,8 +302,8 @@ module _ (d : Device) (h : Wide d) (e : unitsFit (d .units) ≡ true) where
   units-true : unitsShaped (imageOf d) ≡ true
   unfolding unitsShaped
   units-true =
-      let c = cu-is (d .units) (keptAt (imageOf d)) kept-is in
-      let v = ru-is (d .units) (keptAt (imageOf d)) kept-is in
+      let c = cu-is (d .units) (packedAt (imageOf d)) kept-is in
+      let v = ru-is (d .units) (packedAt (imageOf d)) kept-is in
       rw (
         c .tag-is,
         c .word-is,
@@ -343,7 +343,7 @@ device-back d h = sym (device-full (imageOf d) (d .units) (length-image d (h .ow
 -- ---- what is decoded is the image of its state
 
 -- an image and a record, in the same pieces
-flat : (k : Kept) (u : Units) (own listed : List ℕ)
+flat : (k : Packed) (u : Units) (own listed : List ℕ)
     → unitBytes k ++ (replicate 112 0 ++ setupBytes (record { settings = u .settings; own = own; listed = listed }))
     ≡ digits 5 0x0001544742
     ++ (digits 8 (k .status)
@@ -415,48 +415,48 @@ module _ (r : List ℕ) (e : shaped r ≡ true) where
   unfolding headShaped
   settings-test = ltb-true _ _ (both (eqb (field r 0 8 % 1099511627776) 0x0001544742 && statusIs (field r 5 8)) (ltb (field r 152 1) 8) head-is .1)
 
-  pub cu-shape : cuShaped (cuTagIn (keptAt r)) (keptAt r .cu) ≡ true
+  pub cu-shape : cuShaped (cuTagIn (packedAt r)) (packedAt r .cu) ≡ true
   unfolding unitsShaped
-  cu-shape = both (cuShaped (cuTagIn (keptAt r)) (keptAt r .cu)) (ruShaped (ruTagIn (keptAt r)) (keptAt r .ru) (keptAt r .rest)) units-are .0
+  cu-shape = both (cuShaped (cuTagIn (packedAt r)) (packedAt r .cu)) (ruShaped (ruTagIn (packedAt r)) (packedAt r .ru) (packedAt r .rest)) units-are .0
 
-  pub ru-shape : ruShaped (ruTagIn (keptAt r)) (keptAt r .ru) (keptAt r .rest) ≡ true
+  pub ru-shape : ruShaped (ruTagIn (packedAt r)) (packedAt r .ru) (packedAt r .rest) ≡ true
   unfolding unitsShaped
-  ru-shape = both (cuShaped (cuTagIn (keptAt r)) (keptAt r .cu)) (ruShaped (ruTagIn (keptAt r)) (keptAt r .ru) (keptAt r .rest)) units-are .1
+  ru-shape = both (cuShaped (cuTagIn (packedAt r)) (packedAt r .cu)) (ruShaped (ruTagIn (packedAt r)) (packedAt r .ru) (packedAt r .rest)) units-are .1
 
-  cu-same-at : Same (cuTagIn (keptAt r)) (keptAt r .cu) (cuTag (unitsAt r .cu)) (cuWord (unitsAt r .cu))
+  cu-same-at : Same (cuTagIn (packedAt r)) (packedAt r .cu) (cuTag (unitsAt r .cu)) (cuWord (unitsAt r .cu))
   unfolding unitsAt unitsBy
-  cu-same-at = cu-same (cuTagIn (keptAt r)) (keptAt r .cu) cu-shape
+  cu-same-at = cu-same (cuTagIn (packedAt r)) (packedAt r .cu) cu-shape
 
-  ru-same-at : RuSame (ruTagIn (keptAt r)) (keptAt r .ru) (keptAt r .rest) (unitsAt r .ru) × (numberOf (ruWord (unitsAt r .ru)) ≡ keptAt r .ru)
+  ru-same-at : RuSame (ruTagIn (packedAt r)) (packedAt r .ru) (packedAt r .rest) (unitsAt r .ru) × (numberOf (ruWord (unitsAt r .ru)) ≡ packedAt r .ru)
   unfolding unitsAt unitsBy
-  ru-same-at = ru-same (ruTagIn (keptAt r)) (keptAt r .ru) (keptAt r .rest) ru-shape
+  ru-same-at = ru-same (ruTagIn (packedAt r)) (packedAt r .ru) (packedAt r .rest) ru-shape
 
-  flags-are : flagsOf (unitsAt r) ≡ flagsIn (keptAt r)
+  flags-are : flagsOf (unitsAt r) ≡ flagsIn (packedAt r)
   unfolding unitsAt unitsBy
-  flags-are = flags-same (keptAt r .status / 4096 % 4) (keptAt r .status / 16 % 16) (omega arith) (omega arith)
+  flags-are = flags-same (packedAt r .status / 4096 % 4) (packedAt r .status / 16 % 16) (omega arith) (omega arith)
 
-  scb-at : unitsAt r .scb .0 ≡ keptAt r .status / 16777216 % 65536
+  scb-at : unitsAt r .scb .0 ≡ packedAt r .status / 16777216 % 65536
   unfolding unitsAt unitsBy
   scb-at = refl
 
-  base-at : unitsAt r .base .0 ≡ keptAt r .status / 1099511627776
+  base-at : unitsAt r .base .0 ≡ packedAt r .status / 1099511627776
   unfolding unitsAt unitsBy
   base-at = refl
 
-  pub status-same : statusOf (unitsAt r) ≡ keptAt r .status
-  unfolding keptAt
+  pub status-same : statusOf (unitsAt r) ≡ packedAt r .status
+  unfolding packedAt
   status-same =
-      let s = keptAt r .status in
+      let s = packedAt r .status in
       let t = both _ (eqb (s / 16384 % 4) 0) status-test in
       let v = both (eqb (s % 16) 0) (eqb (s / 2048 % 2) 0) (t .0) in
-      let f : flagsIn (keptAt r) / 16 ≡ s / 16 % 16 = omega arith in
-      let g : flagsIn (keptAt r) % 4 ≡ s / 4096 % 4 = omega arith in
+      let f : flagsIn (packedAt r) / 16 ≡ s / 16 % 16 = omega arith in
+      let g : flagsIn (packedAt r) % 4 ≡ s / 4096 % 4 = omega arith in
       rw (flags-are, cu-same-at .tag-same, ru-same-at .0 .tag-same, scb-at, base-at, f, g)
       (status-parts s (eqb-true _ _ (v .0)) (eqb-true _ _ (v .1)) (eqb-true _ _ (t .1)))
 
   -- the numbers of what is read are those that stand there
-  pub kept-same : keptOf (unitsAt r) ≡ keptAt r
-  unfolding keptOf
+  pub kept-same : packedOf (unitsAt r) ≡ packedAt r
+  unfolding packedOf
   kept-same = rw (status-same, cu-same-at .number-same, ru-same-at .1, ru-same-at .0 .rest-same)
 
 module _ (r : List ℕ) (l : length r ≡ 256) (b : Bytes r) (e : shaped r ≡ true) where
@@ -486,13 +486,13 @@ module _ (r : List ℕ) (l : length r ≡ 256) (b : Bytes r) (e : shaped r ≡ t
 
   -- a record that is shaped is the image of what it is read as
   exact-from : r ≡ imageOf (deviceFrom r (unitsAt r))
-  unfolding deviceFrom imageOf keptAt
+  unfolding deviceFrom imageOf packedAt
   exact-from =
       sym (rw l at (whole r))
       ∙ cut r
       ∙ rw (
         kept-same r e,
-        flat (keptAt r) (unitsAt r) (bytesFrom r 154 6) (bytesFrom r 160 96),
+        flat (packedAt r) (unitsAt r) (bytesFrom r 154 6) (bytesFrom r 160 96),
         settings-are,
         minimum-is,
         front-is,
@@ -505,7 +505,7 @@ module _ (r : List ℕ) (l : length r ≡ 256) (b : Bytes r) (e : shaped r ≡ t
       )
 
   wide-from : Wide (deviceFrom r (unitsAt r))
-  unfolding deviceFrom unitsAt unitsBy keptAt
+  unfolding deviceFrom unitsAt unitsBy packedAt
   wide-from =
       record {
         scb = omega arith;
@@ -570,7 +570,7 @@ one-state d e h p k q same =
 
 -- what stands in byte 5: the events, CX the highest bit, and nothing else
 pub events-at : (d : Device) → getD (imageOf d) 5 0 ≡ 16 * eventBits (d .units .events)
-unfolding imageOf unitBytes front digits keptOf
+unfolding imageOf unitBytes front digits packedOf
 events-at d =
     let u = d .units in
     let f : flagsOf u / 16 ≡ eventBits (u .events) = omega (arith, one-below (u .initialised), one-below (u .rulast)) in
@@ -688,7 +688,7 @@ spelt n v ys q = append-bytes (digits n v) ys (digits-bytes n v) q
 pub image-bytes : (d : Device) → Wide d → Bytes (imageOf d)
 unfolding imageOf
 image-bytes d h =
-    let k = keptOf (d .units) in
+    let k = packedOf (d .units) in
     rw (flat k (d .units) (d .own) (d .listed))
     (spelt 5 0x0001544742 _ (spelt 8 (k .status) _ (append-bytes (replicate 3 0) _ (record { each = all-below 0 3 (omega arith) })
     (spelt 8 (k .cu) _ (spelt 8 (k .ru) _ (spelt 8 (k .rest) _

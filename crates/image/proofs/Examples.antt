@@ -11,16 +11,16 @@ use Rattle.device.specs.declared.Device.{Device}
 use Rattle.device.specs.declared.Ru.the-variants as ru
 use Rattle.device.specs.declared.Units.{Units}
 use Rattle.device.specs.declared.Verdict.the-variants as verdict
-use Rattle.phases.specs.Words.{numberOf, cuWord, ruWord, ruRest}
-use Rattle.kept.specs.Kept.{keptOf}
-use Rattle.kept.specs.SetUp.{setupBytes}
+use Rattle.phases.specs.Phases.{numberOf, cuWord, ruWord, ruRest}
+use Rattle.packed.specs.Packed.{packedOf}
+use Rattle.packed.specs.SetUp.{setupBytes}
 use Rattle.image.specs.Ranges.{unitsFit, cuFits, frameFits, ruFits, initialisedOrFresh, inRange}
 use Rattle.image.specs.Image.{front, unitBytes, imageOf}
 
 -- ---- the fresh record
 
 pub fresh-record : imageOf fresh ≡ 0x42 ∷ 0x47 ∷ 0x54 ∷ 0x01 ∷ replicate 149 0 ++ (0x40 ∷ replicate 6 0xFF ++ replicate 96 0)
-unfolding imageOf unitBytes front setupBytes keptOf digits eventBits joined numberOf cuWord ruWord ruRest
+unfolding imageOf unitBytes front setupBytes packedOf digits eventBits joined numberOf cuWord ruWord ruRest
 fresh-record = refl
 
 -- ---- a record at work: a Transmit at its descriptors, and a bad frame that is being saved
@@ -63,7 +63,7 @@ pub working-record : imageOf working
     ∷ 0x22 ∷ 0x00 ∷ 0x01 ∷ 0x00 ∷ 0x00 ∷ 0x00 ∷ 0x00 ∷ 0x00
     ∷ replicate 112 0
     ++ (0x01 ∷ 0x40 ∷ 0x02 ∷ 0x07 ∷ 0x01 ∷ 0x00 ∷ 0x00 ∷ 0x2A ∷ 0x01 ∷ 0x00 ∷ 0x5E ∷ 0x00 ∷ 0x00 ∷ 0x01 ∷ replicate 90 0)
-unfolding imageOf unitBytes front setupBytes keptOf digits eventBits joined numberOf cuWord ruWord ruRest
+unfolding imageOf unitBytes front setupBytes packedOf digits eventBits joined numberOf cuWord ruWord ruRest
 working-record = refl
 
 pub working-range : inRange working ≡ true

@@ -11,13 +11,13 @@ use Rattle.memory.proofs.Bytes.{Bytes}
 use Rattle.device.specs.declared.Device.{Device}
 use Rattle.device.specs.declared.Units.{Units}
 use Rattle.actions.specs.Setup.{Setup, setupOf}
-use Rattle.kept.specs.Kept.{keptOf, KeptIs}
-use Rattle.kept.specs.SetUp.{setupBytes, SetIs}
-use Rattle.kept.specs.declared.Kept.{Kept}
+use Rattle.packed.specs.Packed.{packedOf, PackedIs}
+use Rattle.packed.specs.SetUp.{setupBytes, SetIs}
+use Rattle.packed.specs.declared.Packed.{Packed}
 use Rattle.image.specs.Ranges.{Wide}
 use Rattle.image.specs.Found.{Found}
 use Rattle.image.specs.Found as is
-use Rattle.image.specs.Image.{front, unitBytes, imageOf, deviceFrom, deviceAt, decodeOf, decodedBy, putKept}
+use Rattle.image.specs.Image.{front, unitBytes, imageOf, deviceFrom, deviceAt, decodeOf, decodedBy, putPacked}
 use Rattle.image.specs.declared.Decoded.{Decoded}
 use Rattle.image.specs.declared.Decoded.the-variants as code
 use Rattle.image.proofs.Exact.{Image, exact, wide-units, fits}
@@ -25,12 +25,12 @@ use Rattle.image.proofs.Exact.{Image, exact, wide-units, fits}
 -- ---- what is decoded
 
 -- a state was found, and these are its numbers
-pub record FoundAs (f : Found) (k : Kept) : Type 0 where
+pub record FoundAs (f : Found) (k : Packed) : Type 0 where
   pub units : Units
   pub found : f ≡ is.Units units
-  pub numbers : k ≡ keptOf units
+  pub numbers : k ≡ packedOf units
 
-abbrev numbersIn : Decoded → Kept → Kept
+abbrev numbersIn : Decoded → Packed → Packed
 numbersIn (code.Units k) other = k
 numbersIn code.Foreign other = other
 
@@ -38,7 +38,7 @@ abbrev isForeign : Decoded → ℕ
 isForeign (code.Units k) = 0
 isForeign code.Foreign = 1
 
-pub found-units : (f : Found) (k : Kept) → decodedBy f ≡ code.Units k → FoundAs f k
+pub found-units : (f : Found) (k : Packed) → decodedBy f ≡ code.Units k → FoundAs f k
 found-units (is.Units u) k e = record { units = u; found = refl; numbers = sym (ap (λ (x : Decoded). numbersIn x k) e) }
 found-units is.Foreign k e = let z : _≡_ {A = ℕ} 1 0 = ap isForeign e in absurd (omega arith)
 
@@ -50,7 +50,7 @@ found-foreign is.Foreign e = refl
 
 module _ (d : Device) where
   -- the front, the numbers and the spare bytes
-  pub first-part : take 152 (imageOf d) ≡ unitBytes (keptOf (d .units)) ++ replicate 112 0
+  pub first-part : take 152 (imageOf d) ≡ unitBytes (packedOf (d .units)) ++ replicate 112 0
   unfolding imageOf unitBytes front digits
   first-part = refl
 
@@ -68,7 +68,7 @@ module _ (r : List ℕ) (u : Units) (l : length r ≡ 256) (b : Bytes r) (e : de
   pub its-image : Image r u
   its-image = exact r l b u e
 
-  pub its-numbers : (k : Kept) → k ≡ keptOf u → KeptIs u k
+  pub its-numbers : (k : Packed) → k ≡ packedOf u → PackedIs u k
   unfolding deviceAt deviceFrom
   its-numbers k q = record { same = q; wide = wide-units (deviceAt r u) (its-image .wide) (fits (deviceAt r u) (its-image .wide) (its-image .range)) }
 
@@ -78,13 +78,13 @@ module _ (r : List ℕ) (u : Units) (l : length r ≡ 256) (b : Bytes r) (e : de
 -- ---- what is put back
 
 -- numbers that go to an image
-pub units-put : (d : Device) (k : Kept) → putKept (imageOf d) k ≡ unitBytes k ++ (replicate 112 0 ++ setupBytes (setupOf d))
+pub units-put : (d : Device) (k : Packed) → putPacked (imageOf d) k ≡ unitBytes k ++ (replicate 112 0 ++ setupBytes (setupOf d))
 unfolding imageOf unitBytes front digits
 units-put d k = refl
 
-module _ (d : Device) (u : Units) (k : Kept) (s : Setup) (h : KeptIs u k) (same : u .settings ≡ s .settings) where
+module _ (d : Device) (u : Units) (k : Packed) (s : Setup) (h : PackedIs u k) (same : u .settings ≡ s .settings) where
   -- with the numbers of some units and the bytes of a setup, it is the image of the device that has both
-  pub parts-put : take 152 (putKept (imageOf d) k) ++ setupBytes s ≡ imageOf (record { units = u; own = s .own; listed = s .listed })
+  pub parts-put : take 152 (putPacked (imageOf d) k) ++ setupBytes s ≡ imageOf (record { units = u; own = s .own; listed = s .listed })
   unfolding imageOf unitBytes front digits
   parts-put = rw (h .same, ← same)
 

@@ -13,18 +13,18 @@ use Rattle.device.specs.State.{fresh}
 use Rattle.device.specs.declared.Device.{Device}
 use Rattle.device.specs.declared.Units.{Units}
 use Rattle.actions.specs.Setup.{Setup, setupOf}
-use Rattle.words.specs.Places.{bytesFrom}
-use Rattle.words.proofs.Laws.{sets-whole}
-use Rattle.phases.specs.Words.{numberOf, cuWord, ruWord, ruRest}
-use Rattle.kept.specs.Kept.{keptOf}
-use Rattle.kept.specs.SetUp.{setupBytes}
-use Rattle.kept.specs.declared.Kept.{Kept}
+use Rattle.numerals.specs.Places.{bytesFrom}
+use Rattle.numerals.proofs.Laws.{sets-whole}
+use Rattle.phases.specs.Phases.{numberOf, cuWord, ruWord, ruRest}
+use Rattle.packed.specs.Packed.{packedOf}
+use Rattle.packed.specs.SetUp.{setupBytes}
+use Rattle.packed.specs.declared.Packed.{Packed}
 use Rattle.image.specs.Found as is
-use Rattle.image.specs.Image.{front, unitBytes, imageOf, unitsAt, deviceFrom, deviceAt, shaped, rangeFrom, decodeFull, decodeOf, stored, putKept, storedUnits}
+use Rattle.image.specs.Image.{front, unitBytes, imageOf, unitsAt, deviceFrom, deviceAt, shaped, rangeFrom, decodeFull, decodeOf, stored, putPacked, storedUnits}
 
 -- ---- an image has 256 bytes
 
-pub length-units : (k : Kept) → length (unitBytes k) ≡ 40
+pub length-units : (k : Packed) → length (unitBytes k) ≡ 40
 unfolding unitBytes front digits
 length-units k = refl
 
@@ -36,14 +36,14 @@ length-setup s p q =
 
 pub length-image : (d : Device) → length (d .own) ≡ 6 → length (d .listed) ≡ 96 → length (imageOf d) ≡ 256
 unfolding imageOf
-length-image d p q = simp length-append (omega (arith, length-units (keptOf (d .units)), length-setup (setupOf d) p q))
+length-image d p q = simp length-append (omega (arith, length-units (packedOf (d .units)), length-setup (setupOf d) p q))
 
 -- ---- the stores of a record
 
 -- the fresh image, over zeros
 fresh-over : sets (sets (sets (sets (sets (replicate 256 0) 0 (digits 3 0x544742)) 3 (digits 2 1)) 153 (digits 1 64)) 154 (digits 3 0xFFFFFF)) 157 (digits 3 0xFFFFFF)
     ≡ imageOf fresh
-unfolding imageOf unitBytes front setupBytes keptOf eventBits joined numberOf cuWord ruWord ruRest digits
+unfolding imageOf unitBytes front setupBytes packedOf eventBits joined numberOf cuWord ruWord ruRest digits
 fresh-over = refl
 
 pub fresh-stores : (r : List ℕ) → length r ≡ 256
@@ -60,11 +60,11 @@ pub stored-other : (r : List ℕ) (d : Device) → (length r ≡ 256 → ⊥) �
 unfolding stored
 stored-other r d h = rw (ne-eqb (length r) 256 h)
 
-pub units-stored : (r : List ℕ) (k : Kept) → length r ≡ 256 → storedUnits r k ≡ putKept r k
+pub units-stored : (r : List ℕ) (k : Packed) → length r ≡ 256 → storedUnits r k ≡ putPacked r k
 unfolding storedUnits
 units-stored r k h = rw (eq-eqb (length r) 256 h)
 
-pub units-other : (r : List ℕ) (k : Kept) → (length r ≡ 256 → ⊥) → storedUnits r k ≡ r
+pub units-other : (r : List ℕ) (k : Packed) → (length r ≡ 256 → ⊥) → storedUnits r k ≡ r
 unfolding storedUnits
 units-other r k h = rw (ne-eqb (length r) 256 h)
 

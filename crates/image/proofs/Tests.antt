@@ -11,14 +11,14 @@ use Rattle.memory.specs.Memory.{value}
 use Rattle.scb.specs.Words.{joined, eventBits}
 use Rattle.device.specs.State.{freshUnits}
 use Rattle.device.specs.declared.Units.{Units}
-use Rattle.words.specs.Places.{bytesFrom, field}
-use Rattle.phases.specs.Words.{odd, wordOf, cuOf, cuShaped, ruOf, ruShaped}
+use Rattle.numerals.specs.Places.{bytesFrom, field}
+use Rattle.phases.specs.Phases.{odd, wordOf, cuOf, cuShaped, ruOf, ruShaped}
 use Rattle.phases.proofs.Units.{both}
-use Rattle.kept.specs.Kept.{statusOf, cuTagIn, ruTagIn}
-use Rattle.kept.specs.SetUp.{settingsByte}
+use Rattle.packed.specs.Packed.{statusOf, cuTagIn, ruTagIn}
+use Rattle.packed.specs.SetUp.{settingsByte}
 use Rattle.image.specs.Ranges.{cuFits, ruFits, unitsFit, unitsFresh, addressesFresh, initialisedOrFresh, inRange}
 use Rattle.image.specs.Found as is
-use Rattle.image.specs.Image.{keptAt, unitsBy, unitsAt, deviceFrom, frontIs, statusIs, headShaped, unitsShaped, spareZero, shaped, rangeFrom, imaged, decodeFull, decodeOf, decodedBy}
+use Rattle.image.specs.Image.{packedAt, unitsBy, unitsAt, deviceFrom, frontIs, statusIs, headShaped, unitsShaped, spareZero, shaped, rangeFrom, imaged, decodeFull, decodeOf, decodedBy}
 use Rattle.image.specs.Numbers.{cuIs, ruIs, wordsAre, freshAt, tested}
 use Rattle.image.specs.declared.Decoded.the-variants as code
 use Rattle.image.proofs.Steps.{decode-full, decode-other, full-taken}
@@ -39,7 +39,7 @@ or-else false x f h = h refl
 
 module _ (r : List ℕ) where
   initialised-at : unitsAt r .initialised ≡ odd (field r 5 8 / 4096)
-  unfolding unitsAt unitsBy keptAt
+  unfolding unitsAt unitsBy packedAt
   initialised-at = mark (field r 5 8)
 
   settings-are : shaped r ≡ true → settingsByte (unitsAt r .settings) ≡ field r 152 1
@@ -52,7 +52,7 @@ module _ (r : List ℕ) where
 
   -- before the first attention: the state is fresh exactly if the bytes are
   fresh-state : unitsAt r .initialised ≡ false → shaped r ≡ true → (unitsFresh (unitsAt r) && addressesFresh (deviceFrom r (unitsAt r))) ≡ true → freshAt r ≡ true
-  unfolding freshAt deviceFrom field keptAt eventBits joined
+  unfolding freshAt deviceFrom field packedAt eventBits joined
   fresh-state i h e =
       let x = both (unitsFresh (unitsAt r)) (addressesFresh (deviceFrom r (unitsAt r))) e in
       let y = both (eqb (value (bytesFrom r 154 6)) 0xFFFFFFFFFFFF) (eqb (value (bytesFrom r 160 96)) 0) (x .1) in
@@ -71,7 +71,7 @@ module _ (r : List ℕ) where
   listed-is h = h
 
   fresh-bytes : freshAt r ≡ true → (unitsFresh (unitsAt r) && addressesFresh (deviceFrom r (unitsAt r))) ≡ true
-  unfolding freshAt unitsFresh unitsAt unitsBy keptAt deviceFrom cuOf ruOf eventBits joined
+  unfolding freshAt unitsFresh unitsAt unitsBy packedAt deviceFrom cuOf ruOf eventBits joined
   fresh-bytes e =
       let v = both _ (eqb (field r 160 96) 0) e in
       let w = both _ (eqb (field r 154 6) 0xFFFFFFFFFFFF) (v .0) in
@@ -89,15 +89,15 @@ module _ (r : List ℕ) where
       ∙ ap (λ (x : Bool). x || freshAt r) initialised-at
 
   -- the units fit if their numbers do: the base has no more than 24 bits
-  fit-same : field r 5 8 < 18446744073709551616 → cuFits (cuOf (cuTagIn (keptAt r)) (wordOf (keptAt r .cu))) ≡ true
-      → ruFits (ruOf (ruTagIn (keptAt r)) (wordOf (keptAt r .ru)) (keptAt r .rest)) ≡ true → unitsFit (unitsAt r) ≡ true
-  unfolding unitsFit unitsAt unitsBy keptAt
+  fit-same : field r 5 8 < 18446744073709551616 → cuFits (cuOf (cuTagIn (packedAt r)) (wordOf (packedAt r .cu))) ≡ true
+      → ruFits (ruOf (ruTagIn (packedAt r)) (wordOf (packedAt r .ru)) (packedAt r .rest)) ≡ true → unitsFit (unitsAt r) ≡ true
+  unfolding unitsFit unitsAt unitsBy packedAt
   fit-same w c v = rw (lt-ltb (field r 5 8 / 1099511627776) 16777216 (omega arith), c, v)
 
-  shape : frontIs (field r 0 8) ≡ true → statusIs (keptAt r .status) ≡ true → ltb (field r 152 1) 8 ≡ true
-      → cuShaped (cuTagIn (keptAt r)) (keptAt r .cu) ≡ true → ruShaped (ruTagIn (keptAt r)) (keptAt r .ru) (keptAt r .rest) ≡ true
+  shape : frontIs (field r 0 8) ≡ true → statusIs (packedAt r .status) ≡ true → ltb (field r 152 1) 8 ≡ true
+      → cuShaped (cuTagIn (packedAt r)) (packedAt r .cu) ≡ true → ruShaped (ruTagIn (packedAt r)) (packedAt r .ru) (packedAt r .rest) ≡ true
       → spareZero r ≡ true → shaped r ≡ true
-  unfolding shaped headShaped unitsShaped keptAt
+  unfolding shaped headShaped unitsShaped packedAt
   shape p q o c v z = rw (p, q, o, c, v, z)
 
   at-device : unitsFit (unitsAt r) ≡ true → unitsFit (deviceFrom r (unitsAt r) .units) ≡ true
@@ -108,7 +108,7 @@ module _ (r : List ℕ) where
   pub tested-shaped : tested r ≡ true → field r 5 8 < 18446744073709551616 → imaged r ≡ true
   unfolding tested wordsAre cuIs ruIs rangeFrom inRange
   tested-shaped e w =
-      let k = keptAt r in
+      let k = packedAt r in
       let a = both (wordsAre (field r 0 8) k) _ e in
       let b = both (frontIs (field r 0 8) && statusIs (k .status)) _ (a .0) in
       let f = both (frontIs (field r 0 8)) (statusIs (k .status)) (b .0) in
@@ -126,19 +126,19 @@ module _ (r : List ℕ) where
   at-units h = h
 
   parts : unitsFit (unitsAt r) ≡ true
-      → (cuFits (cuOf (cuTagIn (keptAt r)) (wordOf (keptAt r .cu))) ≡ true) × (ruFits (ruOf (ruTagIn (keptAt r)) (wordOf (keptAt r .ru)) (keptAt r .rest)) ≡ true)
+      → (cuFits (cuOf (cuTagIn (packedAt r)) (wordOf (packedAt r .cu))) ≡ true) × (ruFits (ruOf (ruTagIn (packedAt r)) (wordOf (packedAt r .ru)) (packedAt r .rest)) ≡ true)
   unfolding unitsFit unitsAt unitsBy
   parts h =
-      let k = keptAt r in
+      let k = packedAt r in
       let x = both (ltb (k .status / 1099511627776) 16777216 && cuFits (cuOf (cuTagIn k) (wordOf (k .cu)))) (ruFits (ruOf (ruTagIn k) (wordOf (k .ru)) (k .rest))) h in
       (both (ltb (k .status / 1099511627776) 16777216) (cuFits (cuOf (cuTagIn k) (wordOf (k .cu)))) (x .0) .1, x .1)
 
   pieces : shaped r ≡ true
-      → (frontIs (field r 0 8) ≡ true) × (statusIs (keptAt r .status) ≡ true) × (cuShaped (cuTagIn (keptAt r)) (keptAt r .cu) ≡ true)
-      × (ruShaped (ruTagIn (keptAt r)) (keptAt r .ru) (keptAt r .rest) ≡ true) × (spareZero r ≡ true) × (ltb (field r 152 1) 8 ≡ true)
-  unfolding shaped headShaped unitsShaped keptAt
+      → (frontIs (field r 0 8) ≡ true) × (statusIs (packedAt r .status) ≡ true) × (cuShaped (cuTagIn (packedAt r)) (packedAt r .cu) ≡ true)
+      × (ruShaped (ruTagIn (packedAt r)) (packedAt r .ru) (packedAt r .rest) ≡ true) × (spareZero r ≡ true) × (ltb (field r 152 1) 8 ≡ true)
+  unfolding shaped headShaped unitsShaped packedAt
   pieces h =
-      let k = keptAt r in
+      let k = packedAt r in
       let x = both (headShaped r && unitsShaped r) (spareZero r) h in
       let y = both (headShaped r) (unitsShaped r) (x .0) in
       let z = both (frontIs (field r 0 8) && statusIs (k .status)) (ltb (field r 152 1) 8) (y .0) in
@@ -160,11 +160,11 @@ module _ (r : List ℕ) where
 
   -- what each branch of the code's test comes to
   module _ (w : field r 5 8 < 18446744073709551616) where
-    pub image-words : wordsAre (field r 0 8) (keptAt r) ≡ false → false ≡ imaged r
+    pub image-words : wordsAre (field r 0 8) (packedAt r) ≡ false → false ≡ imaged r
     unfolding tested
     image-words a = rw a at (tested-is w)
 
-    module _ (a : wordsAre (field r 0 8) (keptAt r) ≡ true) where
+    module _ (a : wordsAre (field r 0 8) (packedAt r) ≡ true) where
       pub image-spare : (spareZero r && ltb (field r 152 1) 8) ≡ false → false ≡ imaged r
       unfolding tested
       image-spare b = rw (a, b) at (tested-is w)
@@ -179,7 +179,7 @@ module _ (r : List ℕ) where
 
   -- ---- what is decoded
 
-  pub decoded-units : length r ≡ 256 → imaged r ≡ true → code.Units (keptAt r) ≡ decodedBy (decodeOf r)
+  pub decoded-units : length r ≡ 256 → imaged r ≡ true → code.Units (packedAt r) ≡ decodedBy (decodeOf r)
   decoded-units l e =
       let t = both (shaped r) (rangeFrom r (unitsAt r)) e in
       let q : decodeOf r ≡ is.Units (unitsAt r) = sym (decode-full r l) ∙ sym (full-taken r (t .0) (t .1)) in

@@ -10,11 +10,11 @@ use lib.Dec.{eqb, leb, ltb}
 use Rattle.memory.proofs.Laws.{below-or-not}
 use Rattle.device.specs.Numbers.{verdictOf}
 use Rattle.device.specs.State.{goodBy}
-use Rattle.phases.specs.Words.{odd, wordOf, cuOf, cuMost, cuKind, cuShaped, frameOf, ruOf, ruMost, ruFlags, restMost, ruShaped}
+use Rattle.phases.specs.Phases.{odd, wordOf, cuOf, cuMost, cuKind, cuShaped, frameOf, ruOf, ruMost, ruFlags, restMost, ruShaped}
 use Rattle.phases.proofs.Units.{both}
-use Rattle.words.proofs.Laws.{or-zero}
+use Rattle.numerals.proofs.Laws.{or-zero}
 use Rattle.image.specs.Ranges.{cuFits, ruFits, frameFits}
-use Rattle.image.specs.Numbers.{flagsIn, kindIn, sizeIn, sizedIn, goesOnIn, actingIs, sendingIs, endingIs, begunIs, frameIs, heldIs, fillingIs, closingIs, lackingIs, holdingIs, cuIs, ruIs}
+use Rattle.image.specs.Numbers.{flagsIn, kindIn, sizeIn, sizedIn, hasNextIn, actingIs, sendingIs, endingIs, begunIs, frameIs, heldIs, fillingIs, closingIs, lackingIs, holdingIs, cuIs, ruIs}
 
 -- ---- tests
 
@@ -73,8 +73,8 @@ module _ (n : ℕ) where
   unfolding sendingIs cuIs cuShaped cuMost cuKind cuFits cuOf wordOf
   cu-sending h =
       rw (le-leb n 0xFFFFFFFFFFFFFFFF (omega arith))
-      (and-and (ltb (flagsIn n) 16) (goesOnIn n (kindIn n)) (sizedIn n)
-      ∙ ap (λ (x : Bool). x && (goesOnIn n (kindIn n) && sizedIn n)) (sym (and-true (ltb (flagsIn n) 16))))
+      (and-and (ltb (flagsIn n) 16) (hasNextIn n (kindIn n)) (sizedIn n)
+      ∙ ap (λ (x : Bool). x && (hasNextIn n (kindIn n) && sizedIn n)) (sym (and-true (ltb (flagsIn n) 16))))
 
   cu-ending : endingIs n ≡ cuIs 5 n
   unfolding endingIs cuIs cuShaped cuMost cuKind cuFits cuOf wordOf
@@ -262,7 +262,7 @@ module _ (n rest : ℕ) (h : n < 18446744073709551616) where
       (λ e.
       let v = both _ (ltb (rest % 65536) (sizeIn n)) e in
       let w = both _ (leb 14 (rest % 65536)) (v .0) in
-      let x = both _ (goesOnIn n (rest / 65536)) (w .0) in
+      let x = both _ (hasNextIn n (rest / 65536)) (w .0) in
       let y = both (leb rest 0xFFFFFF) (frameIs n 32) (x .0) in
       let f = frame-facts n 32 (y .1) in
       let m : rest ≤ 0xFFFFFF = leb-true _ _ (y .0) in
@@ -275,8 +275,8 @@ module _ (n rest : ℕ) (h : n < 18446744073709551616) where
       let u : rest / 65536 % 256 ≡ rest / 65536 = omega arith in
       let v = both _ (ltb (rest % 65536) (sizeIn n)) (f .fits) in
       let w = both _ (leb 14 (rest % 65536)) (v .0) in
-      let x = both (frameFits (frameOf (wordOf n))) (goesOnIn n (rest / 65536 % 256)) (w .0) in
-      let g : goesOnIn n (rest / 65536) ≡ true = rw (← u) (x .1) in
+      let x = both (frameFits (frameOf (wordOf n))) (hasNextIn n (rest / 65536 % 256)) (w .0) in
+      let g : hasNextIn n (rest / 65536) ≡ true = rw (← u) (x .1) in
       rw (le-leb rest 0xFFFFFF m, frame-true n 32 (f .flags) (f .kind) (x .0), g, w .1, v .1))
 
   closing-same : closingIs n rest ≡ ruIs 6 n rest

@@ -14,11 +14,11 @@ use Rattle.device.specs.declared.Ru.{Ru}
 use Rattle.device.specs.declared.Settings.{Settings}
 use Rattle.device.specs.declared.Units.{Units}
 use Rattle.actions.specs.Setup.{setupOf}
-use Rattle.words.specs.Places.{bytesFrom, field}
-use Rattle.phases.specs.Words.{odd, wordOf, cuOf, cuShaped, ruOf, ruShaped}
-use Rattle.kept.specs.Kept.{keptOf, baseIn, scbIn, flagsIn, cuTagIn, ruTagIn}
-use Rattle.kept.specs.SetUp.{setupBytes}
-use Rattle.kept.specs.declared.Kept.{Kept}
+use Rattle.numerals.specs.Places.{bytesFrom, field}
+use Rattle.phases.specs.Phases.{odd, wordOf, cuOf, cuShaped, ruOf, ruShaped}
+use Rattle.packed.specs.Packed.{packedOf, baseIn, scbIn, flagsIn, cuTagIn, ruTagIn}
+use Rattle.packed.specs.SetUp.{setupBytes}
+use Rattle.packed.specs.declared.Packed.{Packed}
 use Rattle.image.specs.Ranges.{inRange}
 use Rattle.image.specs.Found.{Found}
 use Rattle.image.specs.Found as is
@@ -32,18 +32,18 @@ unfoldable pub front : List ℕ
 front = digits 3 0x544742 ++ digits 2 1
 
 -- bytes 0-39: the status from byte 5, three spare bytes, the command unit's word, the receive unit's two
-unfoldable pub unitBytes : Kept → List ℕ
+unfoldable pub unitBytes : Packed → List ℕ
 unitBytes k = front ++ (digits 8 (k .status) ++ (replicate 3 0 ++ (digits 8 (k .cu) ++ (digits 8 (k .ru) ++ digits 8 (k .rest)))))
 
 -- all 256: bytes 40-151 are spare, the last 104 are the setup
 unfoldable pub imageOf : Device → List ℕ
-imageOf d = unitBytes (keptOf (d .units)) ++ (replicate 112 0 ++ setupBytes (setupOf d))
+imageOf d = unitBytes (packedOf (d .units)) ++ (replicate 112 0 ++ setupBytes (setupOf d))
 
 -- ---- the state of an image
 
 -- the four numbers as they stand in a record
-unfoldable pub keptAt : List ℕ → Kept
-keptAt r = record { status = field r 5 8; cu = field r 16 8; ru = field r 24 8; rest = field r 32 8 }
+unfoldable pub packedAt : List ℕ → Packed
+packedAt r = record { status = field r 5 8; cu = field r 16 8; ru = field r 24 8; rest = field r 32 8 }
 
 -- the events and the settings in their bits
 abbrev pub eventsOf : ℕ → Events
@@ -53,13 +53,13 @@ abbrev pub settingsOf : ℕ → ℕ → Settings
 settingsOf s minimum = record { savebad = odd s; promiscuous = odd (s / 2); nobroadcast = odd (s / 4); minimum = minimum }
 
 -- the units of their numbers
-abbrev pub cuBy : Kept → Cu
+abbrev pub cuBy : Packed → Cu
 cuBy k = cuOf (cuTagIn k) (wordOf (k .cu))
 
-abbrev pub ruBy : Kept → Ru
+abbrev pub ruBy : Packed → Ru
 ruBy k = ruOf (ruTagIn k) (wordOf (k .ru)) (k .rest)
 
-unfoldable pub unitsBy : Kept → Settings → Units
+unfoldable pub unitsBy : Packed → Settings → Units
 unitsBy k s =
     record {
       initialised = odd (flagsIn k);
@@ -78,7 +78,7 @@ settingsAt r = settingsOf (field r 152 1) (field r 153 1)
 
 -- the units as they stand in a record
 unfoldable pub unitsAt : List ℕ → Units
-unitsAt r = unitsBy (keptAt r) (settingsAt r)
+unitsAt r = unitsBy (packedAt r) (settingsAt r)
 
 -- units with the addresses of a record: bytes 154-159 the own, bytes 160-255 the listed
 unfoldable pub deviceFrom : List ℕ → Units → Device
@@ -103,11 +103,11 @@ unfoldable pub headShaped : List ℕ → Bool
 headShaped r = frontIs (field r 0 8) && statusIs (field r 5 8) && ltb (field r 152 1) 8
 
 -- each unit's tag and words are those of a unit
-abbrev pub wordsShaped : Kept → Bool
+abbrev pub wordsShaped : Packed → Bool
 wordsShaped k = cuShaped (cuTagIn k) (k .cu) && ruShaped (ruTagIn k) (k .ru) (k .rest)
 
 unfoldable pub unitsShaped : List ℕ → Bool
-unitsShaped r = wordsShaped (keptAt r)
+unitsShaped r = wordsShaped (packedAt r)
 
 -- bytes 13-15 and 40-151 are zero
 unfoldable pub spareZero : List ℕ → Bool
@@ -134,7 +134,7 @@ decodeOf r = cond (eqb (length r) recordSize) (decodeFull r) is.Foreign
 
 -- what the code answers: the numbers of the state found
 abbrev pub decodedBy : Found → Decoded
-decodedBy (is.Units u) = code.Units (keptOf u)
+decodedBy (is.Units u) = code.Units (packedOf u)
 decodedBy is.Foreign = code.Foreign
 
 -- ---- writing back; a record of another length stays
@@ -144,8 +144,8 @@ unfoldable pub stored : List ℕ → Device → List ℕ
 stored r d = cond (eqb (length r) recordSize) (imageOf d) r
 
 -- the four numbers alone
-abbrev pub putKept : List ℕ → Kept → List ℕ
-putKept r k = sets (sets (sets (sets r 5 (digits 8 (k .status))) 16 (digits 8 (k .cu))) 24 (digits 8 (k .ru))) 32 (digits 8 (k .rest))
+abbrev pub putPacked : List ℕ → Packed → List ℕ
+putPacked r k = sets (sets (sets (sets r 5 (digits 8 (k .status))) 16 (digits 8 (k .cu))) 24 (digits 8 (k .ru))) 32 (digits 8 (k .rest))
 
-unfoldable pub storedUnits : List ℕ → Kept → List ℕ
-storedUnits r k = cond (eqb (length r) recordSize) (putKept r k) r
+unfoldable pub storedUnits : List ℕ → Packed → List ℕ
+storedUnits r k = cond (eqb (length r) recordSize) (putPacked r k) r

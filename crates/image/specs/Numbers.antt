@@ -4,12 +4,12 @@ use mathlib.Core.Bool.{Bool, false, not, cond, _&&_, _||_}
 use mathlib.Core.List.{List}
 use Prim.Native.Nat.{ℕ, _/_, _%_}
 use lib.Dec.{eqb, leb, ltb}
-use Rattle.words.specs.Places.{field}
-use Rattle.phases.specs.Words.{odd, wordOf, cuOf, cuShaped, ruOf, ruShaped}
-use Rattle.kept.specs.Kept.{cuTagIn, ruTagIn}
-use Rattle.kept.specs.declared.Kept.{Kept}
+use Rattle.numerals.specs.Places.{field}
+use Rattle.phases.specs.Phases.{odd, wordOf, cuOf, cuShaped, ruOf, ruShaped}
+use Rattle.packed.specs.Packed.{cuTagIn, ruTagIn}
+use Rattle.packed.specs.declared.Packed.{Packed}
 use Rattle.image.specs.Ranges.{cuFits, ruFits}
-use Rattle.image.specs.Image.{frontIs, statusIs, spareZero, keptAt}
+use Rattle.image.specs.Image.{frontIs, statusIs, spareZero, packedAt}
 
 -- ---- the fields of a unit's word
 
@@ -27,8 +27,8 @@ abbrev pub sizedIn : ℕ → Bool
 sizedIn n = leb 14 (sizeIn n) && leb (sizeIn n) 2048
 
 -- a walk goes on: fewer than 64 descriptors are used, and there is a next one
-abbrev pub goesOnIn : ℕ → ℕ → Bool
-goesOnIn n used = leb used 63 && not (eqb (n / 281474976710656) 0xFFFF)
+abbrev pub hasNextIn : ℕ → ℕ → Bool
+hasNextIn n used = leb used 63 && not (eqb (n / 281474976710656) 0xFFFF)
 
 -- ---- the command unit, by its tag
 
@@ -36,7 +36,7 @@ unfoldable pub actingIs : ℕ → Bool
 actingIs n = leb n 0x7FFFFFF && ltb (flagsIn n) 16 && not (eqb (kindIn n) 4)
 
 unfoldable pub sendingIs : ℕ → Bool
-sendingIs n = ltb (flagsIn n) 16 && goesOnIn n (kindIn n) && sizedIn n
+sendingIs n = ltb (flagsIn n) 16 && hasNextIn n (kindIn n) && sizedIn n
 
 unfoldable pub endingIs : ℕ → Bool
 endingIs n = leb n 0xFFFFFFFFFFFF && ltb (flagsIn n) 16 && eqb (kindIn n) 0 && sizedIn n
@@ -62,7 +62,7 @@ unfoldable pub fillingIs : ℕ → ℕ → Bool
 fillingIs n rest =
     leb rest 0xFFFFFF
     && frameIs n 32
-    && goesOnIn n (rest / 65536)
+    && hasNextIn n (rest / 65536)
     && leb 14 (rest % 65536)
     && ltb (rest % 65536) (sizeIn n)
 
@@ -90,7 +90,7 @@ unfoldable pub ruIs : ℕ → ℕ → ℕ → Bool
 ruIs t n rest = ruShaped t n rest && ruFits (ruOf t (wordOf n) rest)
 
 -- a front and four numbers are those of units in range
-unfoldable pub wordsAre : ℕ → Kept → Bool
+unfoldable pub wordsAre : ℕ → Packed → Bool
 wordsAre front k = (frontIs front && statusIs (k .status)) && (cuIs (cuTagIn k) (k .cu) && ruIs (ruTagIn k) (k .ru) (k .rest))
 
 -- all is as after reset: no bit of the status, minimum length 64, own address six FFh, no address listed
@@ -104,4 +104,4 @@ freshAt r =
 
 -- all of them
 unfoldable pub tested : List ℕ → Bool
-tested r = wordsAre (field r 0 8) (keptAt r) && ((spareZero r && ltb (field r 152 1) 8) && (odd (field r 5 8 / 4096) || freshAt r))
+tested r = wordsAre (field r 0 8) (packedAt r) && ((spareZero r && ltb (field r 152 1) 8) && (odd (field r 5 8 / 4096) || freshAt r))

@@ -19,19 +19,19 @@ use Rattle.device.specs.declared.Settings.{Settings}
 use Rattle.device.specs.declared.Storing.{Storing}
 use Rattle.device.specs.declared.Units.{Units}
 use Rattle.device.specs.declared.Walk.{Walk}
-use Rattle.phases.specs.Words.{cuWord, ruWord, WordWide}
+use Rattle.phases.specs.Phases.{cuWord, ruWord, WordWide}
 
 -- a frame has 14 to 2,048 bytes
 abbrev pub sized : ℕ → Bool
 sized n = leb header n && leb n longest
 
 -- a walk goes on: fewer than 64 descriptors are used, and there is a next one
-abbrev pub goesOn : Walk → Bool
-goesOn w = leb (w .used) 63 && not (isNone (w .next))
+abbrev pub hasNext : Walk → Bool
+hasNext w = leb (w .used) 63 && not (isNone (w .next))
 
 -- a Transmit at its descriptors has its header and no more than a frame in the outgoing area
 abbrev pub sendingFits : Walk → Bool
-sendingFits w = goesOn w && sized (w .filled)
+sendingFits w = hasNext w && sized (w .filled)
 
 -- the command unit is in range
 unfoldable pub cuFits : Cu → Bool
@@ -49,7 +49,7 @@ frameFits f = sized (f .length) && (isGood f || f .savebad)
 
 -- what is being filled has data left
 abbrev pub fillingFits : Storing → Walk → Bool
-fillingFits s w = frameFits (s .frame) && goesOn w && leb header (w .filled) && ltb (w .filled) (s .frame .length)
+fillingFits s w = frameFits (s .frame) && hasNext w && leb header (w .filled) && ltb (w .filled) (s .frame .length)
 
 -- a frame without data fills no buffer, so the last one used cannot have had EL
 abbrev pub closingFits : Storing → Bool → Bool

@@ -1,17 +1,17 @@
 // The 256 bytes of the device record: which bytes are the image of a state in range, the numbers of that state, and writing them back.
 // With `phases` and `kept`, the only room that knows the layout. `is_image` asks for 256 bytes; the others take a slice of every length.
-use kept::Kept;
+use packed::Packed;
 ghost use mathlib.Core.Bool.{cond};
 ghost use mathlib.Core.Path.{_≡_};
 ghost use lib.ListN.{length};
 ghost use Rattle.device.specs.State as device;
-ghost use Rattle.words.specs.Places.{field};
+ghost use Rattle.numerals.specs.Places.{field};
 ghost use Rattle.image.specs.Image as image;
 ghost use Rattle.image.specs.Numbers as numbers;
 
 // What a record is found to be.
 pub enum Decoded {
-    Units(Kept),
+    Units(Packed),
     Foreign,
 }
 
@@ -27,13 +27,13 @@ fn flags(n: u64) -> u64
 fn is_sized(n: u64) -> bool
     ensures { λ x. ⌜ x ≡ numbers.sizedIn n ⌝ }
 {
-    let size = kept::size_of(n);
+    let size = packed::size_of(n);
     (14 <= size) & (size <= 2048)
 }
 
 // A walk goes on: fewer than 64 descriptors are used, and there is a next one.
 fn goes_on(n: u64, used: u64) -> bool
-    ensures { λ x. ⌜ x ≡ numbers.goesOnIn n used ⌝ }
+    ensures { λ x. ⌜ x ≡ numbers.hasNextIn n used ⌝ }
 {
     (used <= 63) & (n / 281474976710656 != 0xFFFF)
 }
@@ -50,19 +50,19 @@ fn offset_most(none: bool) -> u64
 fn acting_is(n: u64) -> bool
     ensures { λ x. ⌜ x ≡ numbers.actingIs n ⌝ }
 {
-    (n <= 0x7FFFFFF) & (flags(n) < 16) & (kept::kind_of(n) != 4)
+    (n <= 0x7FFFFFF) & (flags(n) < 16) & (packed::kind_of(n) != 4)
 }
 
 fn sending_is(n: u64) -> bool
     ensures { λ x. ⌜ x ≡ numbers.sendingIs n ⌝ }
 {
-    (flags(n) < 16) & goes_on(n, kept::kind_of(n)) & is_sized(n)
+    (flags(n) < 16) & goes_on(n, packed::kind_of(n)) & is_sized(n)
 }
 
 fn ending_is(n: u64) -> bool
     ensures { λ x. ⌜ x ≡ numbers.endingIs n ⌝ }
 {
-    (n <= 0xFFFFFFFFFFFF) & (flags(n) < 16) & (kept::kind_of(n) == 0) & is_sized(n)
+    (n <= 0xFFFFFFFFFFFF) & (flags(n) < 16) & (packed::kind_of(n) == 0) & is_sized(n)
 }
 
 // A command that is begun: what its phase does not use is zero.
@@ -94,11 +94,11 @@ fn cu_is(tag: u64, n: u64) -> bool
 fn frame_is(n: u64, most: u64) -> bool
     ensures { λ x. ⌜ x ≡ numbers.frameIs n most ⌝ }
 {
-    let verdict = kept::kind_of(n);
+    let verdict = packed::kind_of(n);
     (flags(n) < most)
         & (verdict < 3)
         & is_sized(n)
-        & (kept::flag(n, 262144) | (!kept::flag(n, 131072) & (verdict == 0)))
+        & (packed::flag(n, 262144) | (!packed::flag(n, 131072) & (verdict == 0)))
 }
 
 fn held_is(n: u64, rest: u64) -> bool
@@ -115,19 +115,19 @@ fn filling_is(n: u64, rest: u64) -> bool
         & frame_is(n, 32)
         & goes_on(n, rest / 65536)
         & (14 <= rest % 65536)
-        & (rest % 65536 < kept::size_of(n))
+        & (rest % 65536 < packed::size_of(n))
 }
 
 fn closing_is(n: u64, rest: u64) -> bool
     ensures { λ x. ⌜ x ≡ numbers.closingIs n rest ⌝ }
 {
-    (rest == 0) & frame_is(n, 64) & ((14 < kept::size_of(n)) | !kept::flag(n, 2097152))
+    (rest == 0) & frame_is(n, 64) & ((14 < packed::size_of(n)) | !packed::flag(n, 2097152))
 }
 
 fn lacking_is(n: u64, rest: u64) -> bool
     ensures { λ x. ⌜ x ≡ numbers.lackingIs n rest ⌝ }
 {
-    (n <= 0xFFFFFFFFFFFF) & (rest == 0) & frame_is(n, 32) & (14 < kept::size_of(n))
+    (n <= 0xFFFFFFFFFFFF) & (rest == 0) & frame_is(n, 32) & (14 < packed::size_of(n))
 }
 
 fn holding_is(tag: u64, n: u64, rest: u64) -> bool
@@ -161,42 +161,42 @@ fn front_at(r: &[u8]) -> u64
     requires { ⌜ length (now r) ≡ 256 ⌝ }
     ensures { λ x. ⌜ x ≡ field (now (r .entry)) 0 8 ⌝ }
 {
-    words::read64(r, 0)
+    numerals::read64(r, 0)
 }
 
 fn status_at(r: &[u8]) -> u64
     requires { ⌜ length (now r) ≡ 256 ⌝ }
     ensures { λ x. ⌜ x ≡ field (now (r .entry)) 5 8 ⌝ }
 {
-    words::read64(r, 5)
+    numerals::read64(r, 5)
 }
 
 fn cu_at(r: &[u8]) -> u64
     requires { ⌜ length (now r) ≡ 256 ⌝ }
     ensures { λ x. ⌜ x ≡ field (now (r .entry)) 16 8 ⌝ }
 {
-    words::read64(r, 16)
+    numerals::read64(r, 16)
 }
 
 fn ru_at(r: &[u8]) -> u64
     requires { ⌜ length (now r) ≡ 256 ⌝ }
     ensures { λ x. ⌜ x ≡ field (now (r .entry)) 24 8 ⌝ }
 {
-    words::read64(r, 24)
+    numerals::read64(r, 24)
 }
 
 fn rest_at(r: &[u8]) -> u64
     requires { ⌜ length (now r) ≡ 256 ⌝ }
     ensures { λ x. ⌜ x ≡ field (now (r .entry)) 32 8 ⌝ }
 {
-    words::read64(r, 32)
+    numerals::read64(r, 32)
 }
 
-fn kept_at(r: &[u8]) -> Kept
+fn packed_at(r: &[u8]) -> Packed
     requires { ⌜ length (now r) ≡ 256 ⌝ }
-    ensures { λ x. ⌜ x ≡ image.keptAt (now (r .entry)) ⌝ }
+    ensures { λ x. ⌜ x ≡ image.packedAt (now (r .entry)) ⌝ }
 {
-    Kept {
+    Packed {
         status: status_at(r),
         cu: cu_at(r),
         ru: ru_at(r),
@@ -216,12 +216,12 @@ fn status_is(s: u64) -> bool
     (s % 16 == 0) & (s / 2048 % 2 == 0) & (s / 16384 % 4 == 0)
 }
 
-fn words_are(front: u64, k: Kept) -> bool
+fn words_are(front: u64, k: Packed) -> bool
     ensures { λ x. ⌜ x ≡ numbers.wordsAre front k ⌝ }
 {
     if front_is(front) & status_is(k.status) {
-        if cu_is(kept::cu_tag(k), k.cu) {
-            return ru_is(kept::ru_tag(k), k.ru, k.rest);
+        if cu_is(packed::cu_tag(k), k.cu) {
+            return ru_is(packed::ru_tag(k), k.ru, k.rest);
         }
     }
     false
@@ -231,7 +231,7 @@ fn spare_zero(r: &[u8]) -> bool
     requires { ⌜ length (now r) ≡ 256 ⌝ }
     ensures { λ x. ⌜ x ≡ image.spareZero (now (r .entry)) ⌝ }
 {
-    (words::read24(r, 13) == 0) & words::is_zero(r, 40, 14)
+    (numerals::read24(r, 13) == 0) & numerals::is_zero(r, 40, 14)
 }
 
 fn is_fresh(r: &[u8]) -> bool
@@ -239,10 +239,10 @@ fn is_fresh(r: &[u8]) -> bool
     ensures { λ x. ⌜ x ≡ numbers.freshAt (now (r .entry)) ⌝ }
 {
     (status_at(r) == 0)
-        & (words::read8(r, 152) == 0)
-        & (words::read8(r, 153) == 64)
-        & (words::read48(r, 154) == 0xFFFFFFFFFFFF)
-        & words::is_zero(r, 160, 12)
+        & (numerals::read8(r, 152) == 0)
+        & (numerals::read8(r, 153) == 64)
+        & (numerals::read48(r, 154) == 0xFFFFFFFFFFFF)
+        & numerals::is_zero(r, 160, 12)
 }
 
 // Whether a record of 256 bytes is the image of a state in range. Before the first attention there is one such state.
@@ -251,8 +251,8 @@ pub fn is_image(r: &[u8]) -> bool
     ensures { λ x. ⌜ x ≡ image.imaged (now (r .entry)) ⌝ }
 {
     let status = status_at(r);
-    if words_are(front_at(r), kept_at(r)) {
-        if spare_zero(r) & (words::read8(r, 152) < 8) {
+    if words_are(front_at(r), packed_at(r)) {
+        if spare_zero(r) & (numerals::read8(r, 152) < 8) {
             if status / 4096 % 2 == 1 {
                 return true;
             }
@@ -268,7 +268,7 @@ pub fn decode(r: &[u8]) -> Decoded
 {
     if r.len() == 256 {
         if is_image(r) {
-            return Decoded::Units(kept_at(r));
+            return Decoded::Units(packed_at(r));
         }
     }
     Decoded::Foreign
@@ -277,14 +277,14 @@ pub fn decode(r: &[u8]) -> Decoded
 // ---- writing a record
 
 // The units' state goes to a record, and no other byte changes; a record of another length stays as it is.
-pub fn store(r: &mut [u8], k: Kept)
+pub fn store(r: &mut [u8], k: Packed)
     ensures { λ _. ⌜ now (r .exit) ≡ image.storedUnits (now (r .entry)) k ⌝ }
 {
     if r.len() == 256 {
-        words::put64(r, 5, k.status);
-        words::put64(r, 16, k.cu);
-        words::put64(r, 24, k.ru);
-        words::put64(r, 32, k.rest);
+        numerals::put64(r, 5, k.status);
+        numerals::put64(r, 16, k.cu);
+        numerals::put64(r, 24, k.ru);
+        numerals::put64(r, 32, k.rest);
     }
 }
 
@@ -292,12 +292,12 @@ fn renew_full(r: &mut [u8])
     requires { ⌜ length (now r) ≡ 256 ⌝ }
     ensures { λ _. ⌜ now (r .exit) ≡ image.imageOf device.fresh ⌝ }
 {
-    words::clear(r, 0, 256);
-    words::put24(r, 0, 0x544742);
-    words::put16(r, 3, 1);
-    words::put8(r, 153, 64);
-    words::put24(r, 154, 0xFFFFFF);
-    words::put24(r, 157, 0xFFFFFF);
+    numerals::clear(r, 0, 256);
+    numerals::put24(r, 0, 0x544742);
+    numerals::put16(r, 3, 1);
+    numerals::put8(r, 153, 64);
+    numerals::put24(r, 154, 0xFFFFFF);
+    numerals::put24(r, 157, 0xFFFFFF);
 }
 
 // The image of the fresh state goes to a record, whatever stood there; one of another length stays as it is.

@@ -19,7 +19,7 @@ use Rattle.chip.specs.Attention.{attentionOf}
 use Rattle.chip.specs.Arrival.{arrivalOf}
 use Rattle.chip.specs.Turn.{turnOf}
 use Rattle.chip.specs.Call.{Call, reset, attention, arrive, turn, ran}
-use Rattle.calls.specs.Calls.{Areas, areasRight, refusalOf, keptBy, calledBy, attentionCall, arrivalCall, turnCall, resetCall}
+use Rattle.calls.specs.Calls.{Areas, areasRight, refusalOf, onBytes, calledBy, attentionCall, arrivalCall, turnCall, resetCall}
 use Rattle.calls.proofs.Laws.{accepted}
 use Rattle.traces.specs.Bytes.{called}
 use Rattle.kinds.specs.Demands.{Sound, lentOf}
@@ -31,14 +31,14 @@ lengths-right a p q r = rw (eq-eqb _ _ p, eq-eqb _ _ q, eq-eqb _ _ r)
 
 module _ (d : Device) (m h out : List ℕ) where
   any-run : (f : List ℕ) (run : World → Ran) → Allowed (length m) → length h ≡ areaSize → length out ≡ areaSize → length f ≤ longest → Wide d
-      → inRange d ≡ true → calledBy (refusalOf (lentOf d m h out) f) run (lentOf d m h out) ≡ keptBy (run (worldOf d m h out))
+      → inRange d ≡ true → calledBy (refusalOf (lentOf d m h out) f) run (lentOf d m h out) ≡ onBytes (run (worldOf d m h out))
   any-run f run n p q l w e =
       accepted (lentOf d m h out) f run (d .units) (size-allowed (length m) n)
       (lengths-right (lentOf d m h out) p q (length-image d (w .own) (w .listed)))
       (le-leb (length f) longest l) (decode-image d w e)
-      ∙ ap (λ (x : Device). keptBy (run (worldOf x m h out))) (device-back d w)
+      ∙ ap (λ (x : Device). onBytes (run (worldOf x m h out))) (device-back d w)
 
-  pub accepted-call : (c : Call) → Sound c d m h out → called c (lentOf d m h out) ≡ keptBy (ran c (worldOf d m h out))
+  pub accepted-call : (c : Call) → Sound c d m h out → called c (lentOf d m h out) ≡ onBytes (ran c (worldOf d m h out))
   unfolding attentionCall arrivalCall turnCall resetCall
   accepted-call reset s = rw (eq-eqb (length (imageOf d)) recordSize (length-image d (s .wide .own) (s .wide .listed)))
   accepted-call attention s = any-run [] attentionOf (s .size) (s .holding) (s .outgoing) (omega arith) (s .wide) (s .range)

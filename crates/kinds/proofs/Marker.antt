@@ -11,7 +11,7 @@ use Rattle.memory.specs.declared.Offset.{Offset}
 use Rattle.memory.specs.declared.RealAddress.{RealAddress}
 use Rattle.memory.proofs.Fields.{word-other}
 use Rattle.memory.proofs.Places.{place-up}
-use Rattle.scb.specs.Words.{field, bit}
+use Rattle.scb.specs.Words.{bitsAt, bit}
 use Rattle.device.specs.declared.Cu.{Cu}
 use Rattle.device.specs.declared.Cu.the-variants as cu
 use Rattle.device.specs.declared.Device.{Device}
@@ -90,7 +90,7 @@ marker-marks-only =
 
 -- it does set C
 marked-done : bit (wordAt (apply (marks (record { 0 = 0 }) measuring) zeros) (place (record { 0 = 0 }) block 0)) 15 ≡ true
-unfolding byteAt putByte bytesAt putBytes value digits fieldAt place field
+unfolding byteAt putByte bytesAt putBytes value digits fieldAt place bitsAt
 marked-done = refl
 
 pub marker-completes : Completes (withUnit measuring) zeros (marker .calls tt (turn 0) (lentOf (withUnit measuring) zeros area area)) block

@@ -16,7 +16,7 @@ use Rattle.device.specs.declared.Refusal.the-variants as refusal
 use Rattle.image.proofs.Exact.{level}
 use Rattle.chip.specs.World.{Ran, worldOf}
 use Rattle.chip.specs.Call.{Call, reset, attention, arrive, turn, ran}
-use Rattle.calls.specs.Calls.{Areas, Called, refused, keptBy, renewed, resetCall}
+use Rattle.calls.specs.Calls.{Areas, Called, refused, onBytes, renewed, resetCall}
 use Rattle.traces.specs.Bytes.{called, number, sentLength, edge}
 use Rattle.kinds.specs.Chips.{Chip, ours, Lent, Meets}
 use Rattle.closure.specs.Refusals.{AreasRight, Holds, When, Untouched}
@@ -43,12 +43,12 @@ called-tabled c a l =
 
 -- ---- the demands, of every chip that meets the promises
 
-as-kept : (x : Ran) → AsDefined x (keptBy x)
+as-kept : (x : Ran) → AsDefined x (onBytes x)
 as-kept x =
     record { answer = refl; memory = refl; holding = refl; outgoing = refl; kept = refl; interrupt = sym (level (x .outcome .device)) }
 
 reset-called : (a : Areas) → length (a .kept) ≡ recordSize
-    → called reset a ≡ keptBy (ran reset (worldOf fresh (a .memory) (a .holding) (a .outgoing)))
+    → called reset a ≡ onBytes (ran reset (worldOf fresh (a .memory) (a .holding) (a .outgoing)))
 unfolding resetCall
 reset-called a e = rw (eq-eqb (length (a .kept)) recordSize e)
 
@@ -79,7 +79,7 @@ both-untouched : (a : Areas) (x y : Called) → number (x .answer) ≡ number (y
 both-untouched a x y n p q =
     rw (same-answer (x .answer) (y .answer) n (p .length) (q .length) (p .edge) (q .edge), p .areas ∙ sym (q .areas))
 
-defined-kept : (x : Ran) (r : Called) → AsDefined x r → r ≡ keptBy x
+defined-kept : (x : Ran) (r : Called) → AsDefined x r → r ≡ onBytes x
 defined-kept x r p = rw (p .answer, p .memory, p .holding, p .outgoing, p .kept)
 
 module _ (chip : Chip) (one : Demand1 chip) (two : Demand2 chip) (s : chip .Inner) where

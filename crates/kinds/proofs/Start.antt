@@ -12,7 +12,7 @@ use Rattle.memory.specs.declared.RealAddress.{RealAddress}
 use Rattle.memory.proofs.Fields.{Apart, AllApart}
 use Rattle.memory.proofs.Laws.{length-apply}
 use Rattle.scb.specs.Control.{cuNext, ruNext}
-use Rattle.scb.specs.Words.{cuc, ruc, resets, commandAt, cblAt}
+use Rattle.scb.specs.Words.{cuc, ruc, resets, scbCommandAt, cblAt}
 use Rattle.scb.specs.declared.RuState.{RuState}
 use Rattle.scb.specs.declared.RuState.the-variants as rus
 use Rattle.device.specs.State.{cuState, ruState, isActive, isHolding}
@@ -109,11 +109,11 @@ obeys-by : (x : Bool) (d : Device) (command : ℕ) (m : List ℕ) → x ≡ fals
 obeys-by false d command m e = refl
 obeys-by true d command m e = absurd (never e)
 
-attention-obeys : (d : Device) (m : List ℕ) → d .units .initialised ≡ true → resets (wordAt m (ofScb (d .units) commandAt)) ≡ false
-    → attention d m ≡ obey d (wordAt m (ofScb (d .units) commandAt)) m
+attention-obeys : (d : Device) (m : List ℕ) → d .units .initialised ≡ true → resets (wordAt m (ofScb (d .units) scbCommandAt)) ≡ false
+    → attention d m ≡ obey d (wordAt m (ofScb (d .units) scbCommandAt)) m
 unfolding attention attend
 attention-obeys d m i r =
-    let command = wordAt m (ofScb (d .units) commandAt) in
+    let command = wordAt m (ofScb (d .units) scbCommandAt) in
     attends-by (d .units .initialised) d m i ∙ obeys-by (resets command) d command m r
 
 -- ---- what it writes: status and command of the SCB, four bytes
@@ -169,7 +169,7 @@ start-at u ws m b bs c e f p q l =
 
 module _ (d : Device) (m : List ℕ) (b : Offset) (bs : List Offset) (s : Starting d m b bs) where
   abbrev command : ℕ
-  command = wordAt m (ofScb (d .units) commandAt)
+  command = wordAt m (ofScb (d .units) scbCommandAt)
 
   abbrev obeyed : Attended
   obeyed = obey d command m

@@ -14,8 +14,8 @@ use Rattle.memory.specs.declared.Offset.{Offset}
 use Rattle.memory.specs.declared.RealAddress.{RealAddress}
 use Rattle.memory.proofs.Fields.{Apart, AllApart, word-same}
 use Rattle.memory.proofs.Laws.{length-apply, apply-append, below-or-not}
-use Rattle.scb.specs.Words.{field, bit, anyOf, statusWord, cuNumber}
-use Rattle.scb.proofs.Fields.{field-below}
+use Rattle.scb.specs.Words.{bitsAt, bit, anyOf, statusWord, cuNumber}
+use Rattle.scb.proofs.Fields.{bits-below}
 use Rattle.scb.proofs.Status.{status-below, status-cus}
 use Rattle.device.specs.Numbers.{transmit, actionNumber, actionOf}
 use Rattle.device.specs.State.{cuState, ruState, isActive}
@@ -102,7 +102,7 @@ module _ (n : ℕ) (tdr : Offset → Type 0) (base : RealAddress) (scb : ℕ) (w
   pub record Stopped (m : List ℕ) (u : Cu) : Type 0 where
     pub done : All (isDone base m) whole
     pub off : isActive (cuState u) ≡ false
-    pub said : field (wordAt m scb) 8 3 ≡ cuNumber (cuState u)
+    pub said : bitsAt (wordAt m scb) 8 3 ≡ cuNumber (cuState u)
 
   pub data Next (m : List ℕ) (u : Cu) (rank : ℕ) : Type 0 where
     goes : (fs : List Offset) (b : Offset) (bs : List Offset) → At m u fs b bs → rankOf u (length bs) < rank → Next m u rank
@@ -214,15 +214,15 @@ pub record ActedAt (T : Type 0) (base : RealAddress) (b : Offset) (scb : ℕ) (a
   pub c : bit (a .status % 65536) 15 ≡ true
 
 done-c : bit (0xA000 % 65536) 15 ≡ true
-unfolding field
+unfolding bitsAt
 done-c = refl
 
 failed-c : bit (0x8000 % 65536) 15 ≡ true
-unfolding field
+unfolding bitsAt
 failed-c = refl
 
 not-sent-c : bit (0x8100 % 65536) 15 ≡ true
-unfolding field
+unfolding bitsAt
 not-sent-c = refl
 
 setting-c : (x : Bool) → bit (cond x done failed % 65536) 15 ≡ true
@@ -232,15 +232,15 @@ setting-c false = failed-c
 -- the line report's bits lie below bit 11
 reported-below : (report : ℕ) → reported report < 2048
 unfolding reported
-reported-below report = omega (arith, field-below report 9 2, field-below report 5 3, field-below report 0 4)
+reported-below report = omega (arith, bits-below report 9 2, bits-below report 5 3, bits-below report 0 4)
 
 high-c : (v r : ℕ) → (v ≡ 0xA000) ⊎ (v ≡ 0x8000) → r < 2048 → bit ((v + r) % 65536) 15 ≡ true
-unfolding field
+unfolding bitsAt
 high-c v r h l =
     let z : (v + r) % 65536 / 2 ^ 15 % 2 ^ 1 ≡ 1 =
     ⊎-elim (λ (e : v ≡ 0xA000). omega (arith, e, l)) (λ (e : v ≡ 0x8000). omega (arith, e, l)) h
     in
-    eq-eqb (field ((v + r) % 65536) 15 1) 1 z
+    eq-eqb (bitsAt ((v + r) % 65536) 15 1) 1 z
 
 sent-c : (x : Bool) (r : ℕ) → r < 2048 → bit ((cond x done failed + r) % 65536) 15 ≡ true
 sent-c true r l = high-c 0xA000 r (inl refl) l
@@ -300,14 +300,14 @@ status-after base g v b xs raises x scb m l e k h =
 
 -- what stands in the SCB's status after a turn that wrote it
 said-after : (x : Units) (ws : List Write) (scb : ℕ) (m : List ℕ) → 2 ≤ length m → place (x .base) (x .scb) 0 ≡ scb
-    → field (wordAt (apply (ws ++ statusBy true x) m) scb) 8 3 ≡ cuNumber (cuState (x .cu))
+    → bitsAt (wordAt (apply (ws ++ statusBy true x) m) scb) 8 3 ≡ cuNumber (cuState (x .cu))
 unfolding status.statusTo
 said-after x ws scb m l e =
     let v = statusWord (x .events) (cuState (x .cu)) (ruState (x .ru)) in
     let size : length (apply ws m) ≡ length m = length-apply ws m in
     let low : v % 65536 ≡ v = omega (arith, status-below (x .events) (cuState (x .cu)) (ruState (x .ru))) in
     rw (apply-append ws (status.statusTo x ∷ []) m, e)
-    (ap (λ (y : ℕ). field y 8 3) (word-same (apply ws m) scb v (rw size l) ∙ low)
+    (ap (λ (y : ℕ). bitsAt y 8 3) (word-same (apply ws m) scb v (rw size l) ∙ low)
     ∙ status-cus (x .events) (cuState (x .cu)) (ruState (x .ru)))
 
 -- ---- end: on to the next block, or stopped
@@ -361,7 +361,7 @@ module _ (n : ℕ) (tdr : Offset → Type 0) (base : RealAddress) (scb : ℕ) (w
       (rw e (omega arith))
 
   ended : (s : At n tdr base scb whole m u fs b []) (ws : List Write) (u′ : Cu) (rank : ℕ) → AllOwn (tdr b) base b scb ws → isDone base (apply ws m) b
-      → isActive (cuState u′) ≡ false → field (wordAt (apply ws m) scb) 8 3 ≡ cuNumber (cuState u′) → Next n tdr base scb whole (apply ws m) u′ rank
+      → isActive (cuState u′) ≡ false → bitsAt (wordAt (apply ws m) scb) 8 3 ≡ cuNumber (cuState u′) → Next n tdr base scb whole (apply ws m) u′ rank
   ended s ws u′ rank p d off said =
       stopped (record {
         done =
@@ -420,7 +420,7 @@ module _ (n : ℕ) (tdr : Offset → Type 0) (p : Part) (scb : ℕ) (whole : Lis
 
   -- the SCB's status is written last
   end-said : length m ≡ n → isActive (cuState (end p g a m .part .unit)) ≡ false
-      → field (wordAt (apply all-writes m) scb) 8 3 ≡ cuNumber (cuState (end p g a m .part .unit))
+      → bitsAt (wordAt (apply all-writes m) scb) 8 3 ≡ cuNumber (cuState (end p g a m .part .unit))
   unfolding end
   end-said size off =
       let raised = end p g a m .raised in

@@ -9,7 +9,7 @@ use Rattle.memory.specs.declared.Offset.{Offset}
 use Rattle.device.specs.State.{fresh}
 use Rattle.image.proofs.Exact.{fresh-range, fresh-wide}
 use Rattle.chip.specs.Call.{turn}
-use Rattle.calls.specs.Calls.{Areas, packed}
+use Rattle.calls.specs.Calls.{Areas, answerNumber}
 use Rattle.traces.specs.Bytes.{edge}
 use Rattle.kinds.specs.Chips.{Chip, run}
 use Rattle.kinds.specs.Lists.{All, turnsOf}
@@ -58,5 +58,5 @@ stub-invents =
       sound = sound-on (turn 0) fresh tt fresh-wide fresh-range;
       lent = lent-on (turn 0) fresh (omega arith) fresh-wide;
       invented =
-          anotherEdge (λ e. let z : edge (packed (idly .outcome .answer)) ≡ 0 = ap edge idle-answer in omega (arith, e, z));
+          anotherEdge (λ e. let z : edge (answerNumber (idly .outcome .answer)) ≡ 0 = ap edge idle-answer in omega (arith, e, z));
     }

@@ -17,7 +17,7 @@ use Rattle.control.specs.Obey.{ofScb}
 use Rattle.chip.specs.World.{World, worldOf, afterwards}
 use Rattle.chip.specs.Attention.{attentionOf}
 use Rattle.chip.specs.Call.{Call, attention, turn, ran}
-use Rattle.calls.specs.Calls.{Areas, packed}
+use Rattle.calls.specs.Calls.{Areas, answerNumber}
 use Rattle.traces.specs.Bytes.{edge}
 use Rattle.traces.specs.Event.{Event, call, host}
 use Rattle.kinds.specs.Chips.{Chip, ours, Given, Lent, Meets, run, answersOf, ranThrough}
@@ -95,7 +95,7 @@ module _ (closed : Closed) (chip : Chip) (q : Demand2 chip) where
       (a .memory) (a .holding) (a .outgoing) (a .kept)
 
   answers-alike : (s : chip .Inner) (c : Call) (w : World) → Given c → FrameOk c → Right w
-      → chip .calls s c (shown w) .answer ≡ packed (ran c w .outcome .answer)
+      → chip .calls s c (shown w) .answer ≡ answerNumber (ran c w .outcome .answer)
   answers-alike s c w g f r =
       q .each s c (w .device) (w .memory) (w .holding) (w .outgoing) (right-sound c w f r) (right-lent c w g r) .answer
 

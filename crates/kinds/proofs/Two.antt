@@ -12,14 +12,14 @@ use Rattle.memory.proofs.Bytes.{Bytes, apply-bytes, digits-bytes}
 use Rattle.memory.proofs.Fields.{Apart, up, down}
 use Rattle.memory.proofs.Laws.{length-apply}
 use Rattle.scb.specs.Control.{cuNext, ruNext}
-use Rattle.scb.specs.Words.{field, bit, joined, acknowledged, anyOf, eventBits, statusWord}
+use Rattle.scb.specs.Words.{bitsAt, bit, joined, acknowledged, anyOf, eventBits, statusWord}
 use Rattle.device.specs.Limits.{areaSize}
 use Rattle.device.specs.Numbers.{actionOf}
 use Rattle.device.specs.declared.Action.the-variants as action
 use Rattle.device.specs.declared.Cu.{Cu}
 use Rattle.device.specs.declared.Cu.the-variants as cu
 use Rattle.device.specs.declared.Device.{Device}
-use Rattle.phases.specs.Words.{cuWord}
+use Rattle.phases.specs.Phases.{cuWord}
 use Rattle.image.specs.Image.{imageOf}
 use Rattle.image.specs.Ranges.{cuFits, inRange, Wide}
 use Rattle.image.proofs.Exact.{image-bytes}
@@ -102,7 +102,7 @@ apart-down : (a j b k : ℕ) → b + k ≤ a → a + j ≤ b + 8192 → Apart (l
 apart-down a j b k p q = rw two-size (down 8192 a j b k p q)
 
 pub starting : Starting idle two one (other ∷ [])
-unfolding byteAt putByte bytesAt putBytes value digits fieldAt place field
+unfolding byteAt putByte bytesAt putBytes value digits fieldAt place bitsAt
 starting =
     record {
       initialised = refl;
@@ -136,7 +136,7 @@ zero-reports zero = tt
 zero-reports (suc n) = (omega arith, zero-reports n)
 
 no-c : bit 0 15 ≡ true → ⊥
-unfolding field
+unfolding bitsAt
 no-c e = let z : _≡_ {A = ℕ} 0 1 = cc in omega arith
 
 module _ (chip : Chip) where
@@ -178,19 +178,19 @@ record Goes (c : Call) (d : Device) (m : List ℕ) (d′ : Device) (m′ : List 
   pub outgoing : ran c (worldOf d m area area) .outgoing ≡ area
 
 starts : Goes attention idle two (withUnit (cu.Waiting one)) m1
-unfolding byteAt putByte bytesAt putBytes value digits fieldAt place field joined acknowledged anyOf eventBits statusWord cuNext ruNext cuFirst obeyCuc ruFirst obeyRuc statusTo attentions.unitsAfter attentions.obey attentions.attend attentions.attention attentionOf
+unfolding byteAt putByte bytesAt putBytes value digits fieldAt place bitsAt joined acknowledged anyOf eventBits statusWord cuNext ruNext cuFirst obeyCuc ruFirst obeyRuc statusTo attentions.unitsAfter attentions.obey attentions.attend attentions.attention attentionOf
 starts = record { device = refl; memory = refl; holding = refl; outgoing = refl }
 
 begins : Goes (turn 0) (withUnit (cu.Waiting one)) m1 (withUnit nop) m2
-unfolding byteAt putByte bytesAt putBytes value digits fieldAt place field anyOf actionOf begunBy begin service concluded commandTurn turnOf
+unfolding byteAt putByte bytesAt putBytes value digits fieldAt place bitsAt anyOf actionOf begunBy begin service concluded commandTurn turnOf
 begins = record { device = refl; memory = refl; holding = refl; outgoing = refl }
 
 ends : Goes (turn 0) (withUnit nop) m2 (withUnit (cu.Waiting other)) m3
-unfolding byteAt putByte bytesAt putBytes value digits fieldAt place field anyOf act nextAfter end service concluded commandTurn turnOf
+unfolding byteAt putByte bytesAt putBytes value digits fieldAt place bitsAt anyOf act nextAfter end service concluded commandTurn turnOf
 ends = record { device = refl; memory = refl; holding = refl; outgoing = refl }
 
 goes-on : ran (turn 0) (worldOf (withUnit (cu.Waiting other)) m3 area area) .memory ≡ m4
-unfolding byteAt putByte bytesAt putBytes value digits fieldAt place field anyOf actionOf begunBy begin service concluded commandTurn turnOf
+unfolding byteAt putByte bytesAt putBytes value digits fieldAt place bitsAt anyOf actionOf begunBy begin service concluded commandTurn turnOf
 goes-on = refl
 
 begun-other : wordAt m4 (place (record { 0 = 0 }) other 0) ≡ 0x4000

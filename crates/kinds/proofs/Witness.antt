@@ -10,7 +10,7 @@ use Rattle.memory.specs.Memory.{byteAt, putByte, bytesAt, putBytes, value, digi
 use Rattle.memory.specs.Size.{Allowed}
 use Rattle.memory.specs.declared.Offset.{Offset}
 use Rattle.memory.proofs.Bytes.{Bytes}
-use Rattle.scb.specs.Words.{field, joined, anyOf, eventBits, statusWord, bit, noEvents}
+use Rattle.scb.specs.Words.{bitsAt, joined, anyOf, eventBits, statusWord, bit, noEvents}
 use Rattle.device.specs.Limits.{areaSize}
 use Rattle.device.specs.State.{fresh, freshSettings}
 use Rattle.device.specs.declared.Action.the-variants as action
@@ -20,11 +20,11 @@ use Rattle.device.specs.declared.Cu.the-variants as cu
 use Rattle.device.specs.declared.Device.{Device}
 use Rattle.device.specs.declared.Ru.the-variants as ru
 use Rattle.device.specs.declared.Units.{Units}
-use Rattle.words.specs.Places.{bytesFrom}
-use Rattle.phases.specs.Words.{numberOf, cuWord, ruWord, ruRest, WordWide}
+use Rattle.numerals.specs.Places.{bytesFrom}
+use Rattle.phases.specs.Phases.{numberOf, cuWord, ruWord, ruRest, WordWide}
 use Rattle.image.specs.Ranges.{unitsFit, cuFits, ruFits, initialisedOrFresh, inRange, Wide}
-use Rattle.kept.specs.Kept.{keptOf}
-use Rattle.kept.specs.SetUp.{setupBytes}
+use Rattle.packed.specs.Packed.{packedOf}
+use Rattle.packed.specs.SetUp.{setupBytes}
 use Rattle.image.specs.Image.{front, unitBytes, imageOf}
 use Rattle.image.proofs.Exact.{fresh-wide, image-bytes}
 use Rattle.actions.specs.Actions.{act, reported, isSent, sent}
@@ -36,7 +36,7 @@ use Rattle.chip.specs.World.{Ran, worldOf}
 use Rattle.chip.specs.Attention.{attentionOf}
 use Rattle.chip.specs.Turn.{concluded, commandTurn, turnOf}
 use Rattle.chip.specs.Call.{Call, attention, turn, ran}
-use Rattle.calls.specs.Calls.{packed}
+use Rattle.calls.specs.Calls.{answerNumber}
 use Rattle.traces.specs.Bytes.{sentLength}
 use Rattle.kinds.specs.Chips.{Given, Lent}
 use Rattle.kinds.specs.Demands.{FrameOk, Sound, lentOf}
@@ -89,12 +89,12 @@ firstly = ran attention (worldOf fresh zeros area area)
 abbrev pub idly : Ran
 idly = ran (turn 0) (worldOf fresh zeros area area)
 
-pub first-answer : packed (firstly .outcome .answer) ≡ 4294967296
-unfolding packed attentionOf attentions.attention attentions.initialise
+pub first-answer : answerNumber (firstly .outcome .answer) ≡ 4294967296
+unfolding answerNumber attentionOf attentions.attention attentions.initialise
 first-answer = refl
 
-pub idle-answer : packed (idly .outcome .answer) ≡ 0
-unfolding packed turnOf
+pub idle-answer : answerNumber (idly .outcome .answer) ≡ 0
+unfolding answerNumber turnOf
 idle-answer = refl
 
 pub first-status : wordAt (firstly .memory) 0 ≡ 0xA000
@@ -163,15 +163,15 @@ unfolding cuFits
 setting-range = range-with settingUp refl
 
 pub setting-done : bit (wordAt (turned settingUp .memory) (place (record { 0 = 0 }) block 0)) 15 ≡ true
-unfolding byteAt putByte bytesAt putBytes value digits fieldAt place field joined anyOf eventBits statusWord act nextAfter end service statusTo concluded commandTurn turnOf
+unfolding byteAt putByte bytesAt putBytes value digits fieldAt place bitsAt joined anyOf eventBits statusWord act nextAfter end service statusTo concluded commandTurn turnOf
 setting-done = refl
 
 pub was-set : getD (settingsIn (imageOf (withUnit settingUp))) 2 0 ≡ 255
-unfolding imageOf unitBytes front setupBytes keptOf digits eventBits joined numberOf cuWord ruWord ruRest bytesFrom
+unfolding imageOf unitBytes front setupBytes packedOf digits eventBits joined numberOf cuWord ruWord ruRest bytesFrom
 was-set = refl
 
 pub is-set : getD (settingsIn (imageOf (turned settingUp .outcome .device))) 2 0 ≡ 0
-unfolding imageOf unitBytes front setupBytes keptOf digits eventBits joined numberOf cuWord ruWord ruRest bytesFrom byteAt putByte bytesAt putBytes value fieldAt place field anyOf statusWord act nextAfter end service statusTo concluded commandTurn turnOf
+unfolding imageOf unitBytes front setupBytes packedOf digits eventBits joined numberOf cuWord ruWord ruRest bytesFrom byteAt putByte bytesAt putBytes value fieldAt place bitsAt anyOf statusWord act nextAfter end service statusTo concluded commandTurn turnOf
 is-set = refl
 
 -- TDR's word becomes 8000h
@@ -187,11 +187,11 @@ unfolding cuFits
 measuring-range = range-with measuring refl
 
 pub measuring-done : bit (wordAt (turned measuring .memory) (place (record { 0 = 0 }) block 0)) 15 ≡ true
-unfolding byteAt putByte bytesAt putBytes value digits fieldAt place field joined anyOf eventBits statusWord act nextAfter end service statusTo concluded commandTurn turnOf
+unfolding byteAt putByte bytesAt putBytes value digits fieldAt place bitsAt joined anyOf eventBits statusWord act nextAfter end service statusTo concluded commandTurn turnOf
 measuring-done = refl
 
 pub measured : wordAt (turned measuring .memory) (place (record { 0 = 0 }) block 6) ≡ 0x8000
-unfolding byteAt putByte bytesAt putBytes value digits fieldAt place field joined anyOf eventBits statusWord act nextAfter end service statusTo concluded commandTurn turnOf
+unfolding byteAt putByte bytesAt putBytes value digits fieldAt place bitsAt joined anyOf eventBits statusWord act nextAfter end service statusTo concluded commandTurn turnOf
 measured = refl
 
 -- a Transmit without data sends its 14 bytes
@@ -207,16 +207,16 @@ unfolding cuFits
 sending-range = range-with sending refl
 
 pub sending-done : bit (wordAt (turned sending .memory) (place (record { 0 = 0 }) block 0)) 15 ≡ true
-unfolding byteAt putByte bytesAt putBytes value digits fieldAt place field joined anyOf eventBits statusWord reported isSent sent nextAfter end service statusTo concluded commandTurn turnOf
+unfolding byteAt putByte bytesAt putBytes value digits fieldAt place bitsAt joined anyOf eventBits statusWord reported isSent sent nextAfter end service statusTo concluded commandTurn turnOf
 sending-done = refl
 
-pub sent-length : sentLength (packed (turned sending .outcome .answer)) ≡ 14
-unfolding byteAt putByte bytesAt putBytes value digits fieldAt place field joined anyOf eventBits statusWord reported isSent sent nextAfter end service statusTo concluded commandTurn turnOf packed
+pub sent-length : sentLength (answerNumber (turned sending .outcome .answer)) ≡ 14
+unfolding byteAt putByte bytesAt putBytes value digits fieldAt place bitsAt joined anyOf eventBits statusWord reported isSent sent nextAfter end service statusTo concluded commandTurn turnOf answerNumber
 sent-length = refl
 
 -- before the turn all words are zero
 pub not-done : bit (wordAt zeros (place (record { 0 = 0 }) block 0)) 15 ≡ false
-unfolding byteAt bytesAt value fieldAt place field
+unfolding byteAt bytesAt value fieldAt place bitsAt
 not-done = refl
 
 pub not-measured : wordAt zeros (place (record { 0 = 0 }) block 6) ≡ 0

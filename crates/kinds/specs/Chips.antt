@@ -5,7 +5,7 @@ use Prim.Native.Nat.{ℕ, _<_}
 use Rattle.memory.proofs.Bytes.{Bytes}
 use Rattle.chip.specs.World.{World}
 use Rattle.chip.specs.Call.{Call, reset, attention, arrive, turn, ran}
-use Rattle.calls.specs.Calls.{Areas, areasOf, Called, Calls, Renews, packed, attentionCall, arrivalCall, turnCall, resetCall}
+use Rattle.calls.specs.Calls.{Areas, areasOf, Called, Calls, Renews, answerNumber, attentionCall, arrivalCall, turnCall, resetCall}
 use Rattle.traces.specs.Bytes.{called}
 use Rattle.traces.specs.Event.{Event, call, host, step}
 
@@ -78,5 +78,5 @@ ranThrough (e ∷ es) w = ranThrough es (step e w)
 
 abbrev pub answersBy : List Event → World → List ℕ
 answersBy [] w = []
-answersBy (call c ∷ es) w = packed (ran c w .outcome .answer) ∷ answersBy es (step (call c) w)
+answersBy (call c ∷ es) w = answerNumber (ran c w .outcome .answer) ∷ answersBy es (step (call c) w)
 answersBy (host m h out ∷ es) w = answersBy es (step (host m h out) w)

@@ -16,7 +16,7 @@ use Rattle.image.specs.Image.{imageOf}
 use Rattle.image.specs.Ranges.{inRange, Wide}
 use Rattle.chip.specs.World.{Ran, worldOf}
 use Rattle.chip.specs.Call.{Call, reset, attention, arrive, turn, ran}
-use Rattle.calls.specs.Calls.{Areas, areasOf, Called, packed}
+use Rattle.calls.specs.Calls.{Areas, areasOf, Called, answerNumber}
 use Rattle.traces.specs.Bytes.{number}
 use Rattle.closure.specs.Refusals.{When, Untouched}
 use Rattle.kinds.specs.Chips.{Chip, Lent}
@@ -56,7 +56,7 @@ lentOf d m h out = areasOf m h out (imageOf d)
 
 -- answer and every lent byte; the interrupt is high while byte 5 of the record is not 0
 pub record AsDefined (said : Ran) (r : Called) : Type 0 where
-  pub answer : r .answer ≡ packed (said .outcome .answer)
+  pub answer : r .answer ≡ answerNumber (said .outcome .answer)
   pub memory : r .areas .memory ≡ said .memory
   pub holding : r .areas .holding ≡ said .holding
   pub outgoing : r .areas .outgoing ≡ said .outgoing

@@ -17,13 +17,13 @@ use Rattle.device.specs.declared.Cu.{Cu}
 use Rattle.device.specs.declared.Cu.the-variants as cu
 use Rattle.device.specs.declared.Device.{Device}
 use Rattle.device.specs.declared.Units.{Units}
-use Rattle.words.specs.Places.{bytesFrom}
-use Rattle.actions.specs.Block.{statusAt, argumentAt}
+use Rattle.numerals.specs.Places.{bytesFrom}
+use Rattle.actions.specs.Block.{blockStatusAt, argumentAt}
 use Rattle.control.specs.Obey.{ofScb}
 use Rattle.image.specs.Image.{imageOf}
 use Rattle.chip.specs.World.{World, Ran, worldOf}
 use Rattle.chip.specs.Call.{Call, attention, turn, ran}
-use Rattle.calls.specs.Calls.{Areas, Called, packed}
+use Rattle.calls.specs.Calls.{Areas, Called, answerNumber}
 use Rattle.traces.specs.Bytes.{number, sentLength, edge}
 use Rattle.traces.specs.Event.{Event, call}
 use Rattle.kinds.specs.Chips.{Chip, Lent, answersOf, ranThrough, answersBy}
@@ -65,8 +65,8 @@ InWork (cu.Failing b) o = b .block ≡ o
 -- a turn sets C in the block of the begun command
 pub record Completes (d : Device) (m : List ℕ) (r : Called) (o : Offset) : Type 0 where
   pub begun : InWork (d .units .cu) o
-  pub before : bit (wordAt m (place (d .units .base) o statusAt)) 15 ≡ false
-  pub after : bit (wordAt (r .areas .memory) (place (d .units .base) o statusAt)) 15 ≡ true
+  pub before : bit (wordAt m (place (d .units .base) o blockStatusAt)) 15 ≡ false
+  pub after : bit (wordAt (r .areas .memory) (place (d .units .base) o blockStatusAt)) 15 ≡ true
 
 -- at every such turn, something is so
 abbrev pub AtCompletion : (chip : Chip) → (Device → List ℕ → Offset → Called → Type 0) → Type 0
@@ -101,8 +101,8 @@ pub record MarksOnly (chip : Chip) : Type 0 where
 pub record FirstOnly (chip : Chip) : Type 0 where
   pub each : (s : chip .Inner) (d : Device) (m h out : List ℕ) (b : Offset) (bs : List Offset) (reports : List ℕ)
       → Sound attention d m h out → Lent attention (lentOf d m h out) → Starting d m b bs → AllReports reports
-      → All (λ o. wordAt (started chip s (turnsOf reports) (lentOf d m h out) .memory) (place (d .units .base) o statusAt)
-      ≡ wordAt m (place (d .units .base) o statusAt)) bs
+      → All (λ o. wordAt (started chip s (turnsOf reports) (lentOf d m h out) .memory) (place (d .units .base) o blockStatusAt)
+      ≡ wordAt m (place (d .units .base) o blockStatusAt)) bs
 
 -- ---- one that invents a counter or edge: at some call that is not to be refused
 
@@ -114,7 +114,7 @@ ScbOf d said u = (u ≡ d .units) ⊎ (u ≡ said .outcome .device .units)
 pub data Invented (d : Device) (said : Ran) (r : Called) : Type 0 where
   anotherCounter : (u : Units) → ScbOf d said u → (k : Counter) → isCounter k ≡ true
       → (wordAt (r .areas .memory) (ofScb u (counterPlace k)) ≡ wordAt (said .memory) (ofScb u (counterPlace k)) → ⊥) → Invented d said r
-  anotherEdge : (edge (r .answer) ≡ edge (packed (said .outcome .answer)) → ⊥) → Invented d said r
+  anotherEdge : (edge (r .answer) ≡ edge (answerNumber (said .outcome .answer)) → ⊥) → Invented d said r
 
 pub record Invents (chip : Chip) : Type 0 where
   pub inner : chip .Inner

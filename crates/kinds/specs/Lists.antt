@@ -12,14 +12,14 @@ use Rattle.memory.specs.declared.RealAddress.{RealAddress}
 use Rattle.memory.proofs.Bytes.{Bytes}
 use Rattle.memory.proofs.Fields.{Apart}
 use Rattle.scb.specs.Words as scb
-use Rattle.scb.specs.Words.{field, bit, cuc, resets, cuNumber}
+use Rattle.scb.specs.Words.{bitsAt, bit, cuc, resets, cuNumber}
 use Rattle.scb.specs.declared.CuState.the-variants as cus
 use Rattle.device.specs.Limits.{areaSize}
 use Rattle.device.specs.Numbers.{actionNumber}
 use Rattle.device.specs.State.{cuState, isActive, isHolding}
 use Rattle.device.specs.declared.Action.the-variants as action
 use Rattle.device.specs.declared.Device.{Device}
-use Rattle.actions.specs.Block.{statusAt, commandAt, linkAt, argumentAt}
+use Rattle.actions.specs.Block.{blockStatusAt, blockCommandAt, blockLinkAt, argumentAt}
 use Rattle.command.specs.Begin.{cmd}
 use Rattle.control.specs.Obey.{ofScb}
 use Rattle.chip.specs.World.{World, worldOf}
@@ -36,9 +36,9 @@ stops word = bit word 15 || bit word 14
 
 abbrev pub Listed : RealAddress → List ℕ → List Offset → Type 0
 Listed base m [] = ⊥
-Listed base m (b ∷ []) = stops (wordAt m (place base b commandAt)) ≡ true
+Listed base m (b ∷ []) = stops (wordAt m (place base b blockCommandAt)) ≡ true
 Listed base m (b ∷ c ∷ cs) =
-    (stops (wordAt m (place base b commandAt)) ≡ false) × (offsetAt m (place base b linkAt) ≡ c) × Listed base m (c ∷ cs)
+    (stops (wordAt m (place base b blockCommandAt)) ≡ false) × (offsetAt m (place base b blockLinkAt) ≡ c) × Listed base m (c ∷ cs)
 
 -- something of every block
 abbrev pub All : (Offset → Type 0) → List Offset → Type 0
@@ -47,12 +47,12 @@ All p (b ∷ bs) = p b × All p bs
 
 -- a block whose command is TDR, CMD 5
 abbrev pub isTdr : RealAddress → List ℕ → Offset → Type 0
-isTdr base m b = cmd (wordAt m (place base b commandAt)) ≡ actionNumber action.Tdr
+isTdr base m b = cmd (wordAt m (place base b blockCommandAt)) ≡ actionNumber action.Tdr
 
 -- no result of the block b, its status or TDR's word, is one of the six bytes of the block c: status, command, link
 pub record NoResult (n : ℕ) (base : RealAddress) (tdr : Offset → Type 0) (b c : Offset) : Type 0 where
-  pub status : Apart n (place base b statusAt) 2 (place base c statusAt) 6
-  pub word : tdr b → Apart n (place base b argumentAt) 2 (place base c statusAt) 6
+  pub status : Apart n (place base b blockStatusAt) 2 (place base c blockStatusAt) 6
+  pub word : tdr b → Apart n (place base b argumentAt) 2 (place base c blockStatusAt) 6
 
 -- 01, "Turns": no result may be another command's byte
 abbrev pub BlocksApart : ℕ → RealAddress → (Offset → Type 0) → List Offset → Type 0
@@ -65,11 +65,11 @@ pub record Starting (d : Device) (m : List ℕ) (b : Offset) (bs : List Offset) 
   pub initialised : d .units .initialised ≡ true
   pub idle : isActive (cuState (d .units .cu)) ≡ false
   pub free : isHolding (d .units .ru) ≡ false
-  pub unreset : resets (wordAt m (ofScb (d .units) scb.commandAt)) ≡ false
-  pub start : cuc (wordAt m (ofScb (d .units) scb.commandAt)) ≡ 1
+  pub unreset : resets (wordAt m (ofScb (d .units) scb.scbCommandAt)) ≡ false
+  pub start : cuc (wordAt m (ofScb (d .units) scb.scbCommandAt)) ≡ 1
   pub at : offsetAt m (ofScb (d .units) scb.cblAt) ≡ b
   pub listed : Listed (d .units .base) m (b ∷ bs)
-  pub scb-apart : All (λ c. Apart (length m) (ofScb (d .units) scb.statusAt) 4 (place (d .units .base) c statusAt) 6) (b ∷ bs)
+  pub scb-apart : All (λ c. Apart (length m) (ofScb (d .units) scb.scbStatusAt) 4 (place (d .units .base) c blockStatusAt) 6) (b ∷ bs)
   pub blocks-apart : BlocksApart (length m) (d .units .base) (isTdr (d .units .base) m) (b ∷ bs)
 
 -- ---- the run: the attention, and what happens after it
@@ -107,7 +107,7 @@ Calm (e ∷ es) = (isCalm e ≡ true) × Calm es
 
 -- a block has C
 abbrev pub isDone : RealAddress → List ℕ → Offset → Type 0
-isDone base m b = bit (wordAt m (place base b statusAt)) 15 ≡ true
+isDone base m b = bit (wordAt m (place base b blockStatusAt)) 15 ≡ true
 
 -- the areas that show a world
 abbrev pub shown : World → Areas
@@ -118,7 +118,7 @@ shown w = lentOf (w .device) (w .memory) (w .holding) (w .outgoing)
 -- every block of the list has C, and the SCB's status does not say Active
 pub record Completed (d : Device) (bs : List Offset) (m : List ℕ) : Type 0 where
   pub done : All (isDone (d .units .base) m) bs
-  pub inactive : field (wordAt m (ofScb (d .units) scb.statusAt)) 8 3 ≡ cuNumber cus.Active → ⊥
+  pub inactive : bitsAt (wordAt m (ofScb (d .units) scb.scbStatusAt)) 8 3 ≡ cuNumber cus.Active → ⊥
 
 -- done as in 2: all bytes are as the definitions leave them, and the answers were the definitions'
 pub record DoneAsIn2 (chip : Chip) (s : chip .Inner) (es : List Event) (w : World) : Type 0 where

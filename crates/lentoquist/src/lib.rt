@@ -1,6 +1,6 @@
-// The five calls that C links, each one call of kept_calls. They take slices of every length and every content. The room calls says what each
+// The five calls that C links, each one call of code_calls. They take slices of every length and every content. The room calls says what each
 // answers and leaves in every lent byte.
-use kept_calls::Asked;
+use code_calls::Asked;
 ghost use Rattle.calls.specs.Calls as calls;
 
 // Where in an answer the turns of a run are counted.
@@ -11,7 +11,7 @@ const TURN: u64 = 281474976710656;
 pub extern "C" fn lq_reset(kept: &mut [u8]) -> u64
     ensures { λ r. ⌜ calls.Renews (calls.resetCall (now (kept .entry))) r (now (kept .exit)) ⌝ }
 {
-    kept_calls::reset(kept)
+    code_calls::reset(kept)
 }
 
 // A channel attention.
@@ -25,7 +25,7 @@ pub extern "C" fn lq_attention(
     ensures { λ r. ⌜ calls.Calls (calls.attentionCall (calls.areasOf (now (memory .entry)) (now (holding .entry)) (now (outgoing .entry)) (now (kept .entry)))) r (now (memory .exit)) (now (holding .exit)) (now (outgoing .exit)) (now (kept .exit)) ⌝ }
 {
     let no_frame: [u8; 0] = [0; 0];
-    kept_calls::call(
+    code_calls::call(
         memory,
         holding,
         outgoing,
@@ -50,7 +50,7 @@ pub extern "C" fn lq_arrival(
 ) -> u64
     ensures { λ r. ⌜ calls.Calls (calls.arrivalCall (calls.areasOf (now (memory .entry)) (now (holding .entry)) (now (outgoing .entry)) (now (kept .entry))) (now (frame .entry)) verdict) r (now (memory .exit)) (now (holding .exit)) (now (outgoing .exit)) (now (kept .exit)) ⌝ }
 {
-    kept_calls::call(
+    code_calls::call(
         memory,
         holding,
         outgoing,
@@ -75,7 +75,7 @@ pub extern "C" fn lq_turn(
     ensures { λ r. ⌜ calls.Calls (calls.turnCall (calls.areasOf (now (memory .entry)) (now (holding .entry)) (now (outgoing .entry)) (now (kept .entry))) report) r (now (memory .exit)) (now (holding .exit)) (now (outgoing .exit)) (now (kept .exit)) ⌝ }
 {
     let no_frame: [u8; 0] = [0; 0];
-    kept_calls::call(
+    code_calls::call(
         memory,
         holding,
         outgoing,
@@ -101,7 +101,7 @@ pub extern "C" fn lq_run(
     ensures { λ r. ⌜ calls.Calls (calls.runCall (calls.areasOf (now (memory .entry)) (now (holding .entry)) (now (outgoing .entry)) (now (kept .entry))) report budget) r (now (memory .exit)) (now (holding .exit)) (now (outgoing .exit)) (now (kept .exit)) ⌝ }
 {
     let no_frame: [u8; 0] = [0; 0];
-    kept_calls::call(
+    code_calls::call(
         memory,
         holding,
         outgoing,

@@ -10,7 +10,7 @@ use lib.ListN.{take, replicate}
 use lib.Text.{eqt}
 use Rattle.wording.specs.Chars.{digit}
 use Rattle.wording.specs.Names.{moreLetters, verbOf, areaOf}
-use Rattle.wording.specs.Words.{moreDigits, numberOf, afterCount, morePiece, store, moreWord}
+use Rattle.wording.specs.Spelling.{moreDigits, numberOf, afterCount, morePiece, store, moreWord}
 use Rattle.wording.specs.Lines.{judged}
 use Rattle.wording.specs.Take.{withNumber, takeVerb, takeNumber, takeArea, takePlace, takeBytes, putValue, takeValue, takeWord}
 use Rattle.wording.specs.declared.Fault.{Fault}

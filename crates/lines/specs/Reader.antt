@@ -6,7 +6,7 @@ use Prim.Native.Nat.{ℕ}
 use lib.Dec.{eqb}
 use lib.ListN.{set}
 use Rattle.wording.specs.Chars.{blank, hash, further, counted}
-use Rattle.wording.specs.Words.{wordAt, moreWord, store}
+use Rattle.wording.specs.Spelling.{wordAt, moreWord, store}
 use Rattle.wording.specs.Lines.{noLine, wanted, isText, isEnd, faultAt, noFault, isNothing, judged}
 use Rattle.wording.specs.Take.{Took, withFilled, takeWord}
 use Rattle.wording.specs.declared.Fault.{Fault}

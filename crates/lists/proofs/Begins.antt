@@ -15,7 +15,7 @@ use Rattle.device.specs.Numbers.{transmit}
 use Rattle.device.specs.declared.Begun.{Begun}
 use Rattle.device.specs.declared.Cu.{Cu}
 use Rattle.device.specs.declared.Cu.the-variants as cu
-use Rattle.actions.specs.Block.{statusAt, commandAt, argumentAt, destinationAt, typeAt}
+use Rattle.actions.specs.Block.{blockStatusAt, blockCommandAt, argumentAt, destinationAt, typeAt}
 use Rattle.actions.specs.Setup.{Setup}
 use Rattle.command.specs.Begin.{cmd, begunBy, toFirst, toBegun, begin}
 use Rattle.command.specs.Part.{Part}
@@ -88,7 +88,7 @@ module _ (base : RealAddress) (m₀ : List ℕ) where
 
   -- the command word that it reads is that of the start
   pub word-same : (c : ℕ) (q : List ℕ) → Same (uses base m₀ c) q m₀ → wordOf base q c ≡ wordOf base m₀ c
-  word-same c q h = same-field 2 (place base (block c) commandAt) (command-in base m₀ c) h
+  word-same c q h = same-field 2 (place base (block c) blockCommandAt) (command-in base m₀ c) h
 
   begun-now : (t : Bool) (s : Setup) (out : List ℕ) (c : ℕ) (q p : List ℕ) → eqb (cmd (wordOf base m₀ c)) transmit ≡ t
       → Same (uses base m₀ c) q m₀ → Begins base m₀ (begunBy (block c) (wordOf base m₀ c)) c p
@@ -102,10 +102,10 @@ module _ (base : RealAddress) (m₀ : List ℕ) where
   begun-now false s out c q p t h i = (i, t, refl)
 
   begins-at : (c : ℕ) (q : List ℕ) → Same (uses base m₀ c) q m₀
-      → Begins base m₀ (begunBy (block c) (wordOf base m₀ c)) c (apply (wordTo (place base (block c) statusAt) 0x4000 ∷ []) q)
+      → Begins base m₀ (begunBy (block c) (wordOf base m₀ c)) c (apply (wordTo (place base (block c) blockStatusAt) 0x4000 ∷ []) q)
   unfolding marked
   begins-at c q h =
-      record { begun = refl; same = same-apply (uses base m₀ c) (wordTo (place base (block c) statusAt) 0x4000 ∷ []) q m₀ h }
+      record { begun = refl; same = same-apply (uses base m₀ c) (wordTo (place base (block c) blockStatusAt) 0x4000 ∷ []) q m₀ h }
 
   pub at-begin : (s : Setup) (out : List ℕ) (c : ℕ) (cs q : List ℕ) (r : ℕ) → Same (uses base m₀ c) q m₀ → Lies base m₀ c cs q
       → Leads base m₀ (c ∷ cs) (partWith base (cu.Waiting (block c)) s out) q r
@@ -116,7 +116,7 @@ module _ (base : RealAddress) (m₀ : List ℕ) where
       let t : Bool = eqb (cmd w) transmit in
       let b : Begun = begunBy (block c) w in
       let e : w ≡ wordOf base m₀ c = word-same c q h in
-      let ws = wordTo (place base (block c) statusAt) 0x4000 ∷ [] in
+      let ws = wordTo (place base (block c) blockStatusAt) 0x4000 ∷ [] in
       record {
         left = c ∷ cs;
         stands = (
@@ -126,7 +126,7 @@ module _ (base : RealAddress) (m₀ : List ℕ) where
             listed = l .listed;
             apart = l .apart;
             later =
-                later base m₀ c ws cs q (λ a i. status-result base m₀ c a (word-targets (place base (block c) statusAt) 0x4000 a i))
+                later base m₀ c ws cs q (λ a i. status-result base m₀ c a (word-targets (place base (block c) blockStatusAt) 0x4000 a i))
                 (h .size) (l .apart) (l .later);
           },
         );
@@ -148,4 +148,4 @@ module _ (base : RealAddress) (m₀ : List ℕ) where
       → Sub (readsBy (cu.Waiting (block c)) (partWith base unit s out) q) (uses base m₀ c)
   begin-reads unit s out c q h =
       rw (word-same c q h)
-      (sub-append (from base c commandAt 2) (command-in base m₀ c) (header-in (eqb (cmd (wordOf base m₀ c)) transmit) unit s out c refl))
+      (sub-append (from base c blockCommandAt 2) (command-in base m₀ c) (header-in (eqb (cmd (wordOf base m₀ c)) transmit) unit s out c refl))

@@ -13,7 +13,7 @@ use Rattle.memory.specs.declared.RealAddress.{RealAddress}
 use Rattle.memory.proofs.Laws.{apart, length-apply}
 use Rattle.device.specs.Numbers.{transmit, actionNumber}
 use Rattle.device.specs.declared.Action.the-variants as action
-use Rattle.actions.specs.Block.{statusAt, commandAt, linkAt, argumentAt}
+use Rattle.actions.specs.Block.{blockStatusAt, blockCommandAt, blockLinkAt, argumentAt}
 use Rattle.command.specs.Begin.{cmd}
 use Rattle.progress.specs.Same.{In, here, there, range, targets, Same}
 use Rattle.progress.proofs.Same.{Sub, sub-nil, each-nil, each-cons, in-left, in-right, same-trans, apart-writes}
@@ -76,44 +76,44 @@ fields-apart n big base c f k g l h t x y i j e =
     apart y (x - y) n (omega (arith, p .0, r .1)) (omega (arith, p .1, r .0)) (rw s e)
 
 -- what a command uses besides its status word
-pub command-in : (base : RealAddress) (m : List ℕ) (c : ℕ) → Sub (from base c commandAt 2) (uses base m c)
+pub command-in : (base : RealAddress) (m : List ℕ) (c : ℕ) → Sub (from base c blockCommandAt 2) (uses base m c)
 unfolding uses range
-command-in base m c a i = in-right (from base c statusAt 2) (in-left _ i)
+command-in base m c a i = in-right (from base c blockStatusAt 2) (in-left _ i)
 
-pub link-in : (base : RealAddress) (m : List ℕ) (c : ℕ) → Sub (from base c linkAt 2) (uses base m c)
+pub link-in : (base : RealAddress) (m : List ℕ) (c : ℕ) → Sub (from base c blockLinkAt 2) (uses base m c)
 unfolding uses range
-link-in base m c a i = in-right (from base c statusAt 2) (in-right (from base c commandAt 2) (in-left _ i))
+link-in base m c a i = in-right (from base c blockStatusAt 2) (in-right (from base c blockCommandAt 2) (in-left _ i))
 
 pub own-in : (base : RealAddress) (m : List ℕ) (c : ℕ) (t : Bool) → eqb (cmd (wordOf base m c)) transmit ≡ t
     → Sub (ownBytes t base m c) (uses base m c)
 unfolding uses range
 own-in base m c t e =
-    rw (← e) (λ a i. in-right (from base c statusAt 2) (in-right (from base c commandAt 2) (in-right (from base c linkAt 2) i)))
+    rw (← e) (λ a i. in-right (from base c blockStatusAt 2) (in-right (from base c blockCommandAt 2) (in-right (from base c blockLinkAt 2) i)))
 
 -- the status word, and a TDR's word, are results
-pub status-result : (base : RealAddress) (m : List ℕ) (c : ℕ) → Sub (from base c statusAt 2) (resultBytes base m c)
+pub status-result : (base : RealAddress) (m : List ℕ) (c : ℕ) → Sub (from base c blockStatusAt 2) (resultBytes base m c)
 unfolding resultBytes
 status-result base m c a i = in-left _ i
 
 pub tdr-result : (base : RealAddress) (m : List ℕ) (c : ℕ)
     → Sub (tdrBytes (eqb (cmd (wordOf base m c)) (actionNumber action.Tdr)) base c) (resultBytes base m c)
 unfolding resultBytes
-tdr-result base m c a i = in-right (from base c statusAt 2) i
+tdr-result base m c a i = in-right (from base c blockStatusAt 2) i
 
 -- ---- what a command's own results leave alone
 
 -- results reach no field that lies between the status word and +6
 tdr-apart : (t : Bool) (n : ℕ) → 8192 ≤ n → (base : RealAddress) (c x y : ℕ)
-    → In x (from base c linkAt 2) → In y (tdrBytes t base c) → x % n ≢ y % n
-tdr-apart true n big base c x y i j e = fields-apart n big base c argumentAt 2 linkAt 2 (omega arith) (omega arith) y x j i (sym e)
+    → In x (from base c blockLinkAt 2) → In y (tdrBytes t base c) → x % n ≢ y % n
+tdr-apart true n big base c x y i j e = fields-apart n big base c argumentAt 2 blockLinkAt 2 (omega arith) (omega arith) y x j i (sym e)
 tdr-apart false n big base c x y i j e = each-nil (λ z. ⊥) y j
 
 pub link-apart : (n : ℕ) → 8192 ≤ n → (base : RealAddress) (m : List ℕ) (c x y : ℕ)
-    → In x (from base c linkAt 2) → In y (resultBytes base m c) → x % n ≢ y % n
+    → In x (from base c blockLinkAt 2) → In y (resultBytes base m c) → x % n ≢ y % n
 unfolding resultBytes
 link-apart n big base m c x y i j =
-    each-append (λ z. x % n ≢ z % n) (from base c statusAt 2)
-    (λ z k. fields-apart n big base c linkAt 2 statusAt 2 (omega arith) (omega arith) x z i k)
+    each-append (λ z. x % n ≢ z % n) (from base c blockStatusAt 2)
+    (λ z k. fields-apart n big base c blockLinkAt 2 blockStatusAt 2 (omega arith) (omega arith) x z i k)
     (λ z k. tdr-apart (eqb (cmd (wordOf base m c)) (actionNumber action.Tdr)) n big base c x z i k) y j
 
 -- begun or not, a block is the same behind its status word
@@ -121,12 +121,12 @@ pub marked-same : (base : RealAddress) (m : List ℕ) → 8192 ≤ length m → 
     → Same (from base c f k) (marked base m c) m
 unfolding marked
 marked-same base m big c f k h t =
-    apart-writes (from base c f k) (wordTo (place base (block c) statusAt) 0x4000 ∷ []) m
-    (λ x y i j. fields-apart (length m) big base c f k statusAt 2 (omega arith) t x y i (word-targets (place base (block c) statusAt) 0x4000 y j))
+    apart-writes (from base c f k) (wordTo (place base (block c) blockStatusAt) 0x4000 ∷ []) m
+    (λ x y i j. fields-apart (length m) big base c f k blockStatusAt 2 (omega arith) t x y i (word-targets (place base (block c) blockStatusAt) 0x4000 y j))
 
 pub marked-size : (base : RealAddress) (m : List ℕ) (c : ℕ) → length (marked base m c) ≡ length m
 unfolding marked
-marked-size base m c = length-apply (wordTo (place base (block c) statusAt) 0x4000 ∷ []) m
+marked-size base m c = length-apply (wordTo (place base (block c) blockStatusAt) 0x4000 ∷ []) m
 
 -- a result of c leaves the bytes of later commands as they were
 pub later : (base : RealAddress) (m : List ℕ) (c : ℕ) (ws : List Write) (cs q : List ℕ) → Sub (targets ws) (resultBytes base m c)

@@ -16,11 +16,11 @@ use Rattle.control.specs.Obey.{ofScb}
 use Rattle.chip.specs.Call.{Call, attention}
 use Rattle.chip.specs.Attention.{attentionOf}
 use Rattle.chip.specs.World.{World}
-use Rattle.calls.specs.Calls.{Areas, Called, packed, attentionCall}
+use Rattle.calls.specs.Calls.{Areas, Called, answerNumber, attentionCall}
 use Rattle.calls.proofs.Laws.{bad-size}
 use Rattle.traces.specs.Bytes.{called, isRefused}
 use Rattle.traces.specs.Event.{Event, call, host, step, isTurn}
-use Rattle.progress.specs.Machine.{Laws, Mays, Kept, run, turns, bit}
+use Rattle.progress.specs.Machine.{Laws, Mays, Undisturbed, run, turns, bit}
 use Rattle.closure.specs.Driven.{Lending}
 use Rattle.lists.specs.Uses.{Listed, firstOf, NoClash}
 use Rattle.lists.specs.Unit.{machine}
@@ -48,7 +48,7 @@ turns-same (l ∷ ls) w = turns-by (refusedAt l) l ls w (turns-same ls)
 -- ---- an attention that is not refused has an allowed N
 
 size-by : (b : Bool) (a : Areas) → sizeAllowed (length (a .memory)) ≡ b → isRefused (called attention a) ≡ false → b ≡ true
-unfolding attentionCall packed
+unfolding attentionCall answerNumber
 size-by true a s r = refl
 size-by false a s r = absurd (true≢false (sym (ap isRefused (bad-size a [] attentionOf s)) ∙ r))
 
@@ -144,7 +144,7 @@ module _ (C : Carries) where
       → Listed (step (call attention) (worldIn d a) .device .units .base) (step (call attention) (worldIn d a) .memory) bs
       → AllLend C ls (called attention a .areas) → AllCalmly ls (called attention a .areas)
       → NoClash (length (a .memory)) (d .units .base) (step (call attention) (worldIn d a) .memory) bs
-      → Kept (machine Calm) (bytesOf (step (call attention) (worldIn d a)) bs) (eventsOf ls) (step (call attention) (worldIn d a))
+      → Undisturbed (machine Calm) (bytesOf (step (call attention) (worldIn d a)) bs) (eventsOf ls) (step (call attention) (worldIn d a))
       → 132 * length bs ≤ turnsOf ls
       → Done Calm bs (eventsOf ls) (step (call attention) (worldIn d a))
       × Shows C (left ls (called attention a .areas)) (run (machine Calm) (eventsOf ls) (step (call attention) (worldIn d a)))

@@ -23,7 +23,7 @@ use Rattle.closure.specs.Sound.{Fit, Lent}
 use Rattle.closure.specs.Refusals.{AreasRight, FrameRight, Holds, When}
 use Rattle.closure.proofs.Refusals.{table}
 use Rattle.closure.proofs.Carried.{carry, holds-length, lent-kept, areas-as-long}
-use Rattle.progress.specs.Machine.{Kept, run}
+use Rattle.progress.specs.Machine.{Undisturbed, run}
 use Rattle.closure.specs.Driven.{Lending}
 use Rattle.lists.specs.Uses.{NoClash, Listed, firstOf}
 use Rattle.lists.specs.Unit.{machine}
@@ -54,7 +54,7 @@ pub areas-list-done : (bs : List ℕ) (ls : List Lending) (a : Areas) (d : Devic
     → Listed (d .units .base) (step (call attention) (worldIn d a) .memory) bs
     → AllLend carries ls (called attention a .areas) → AllCalmly ls (called attention a .areas)
     → NoClash (length (a .memory)) (d .units .base) (step (call attention) (worldIn d a) .memory) bs
-    → Kept (machine Calm) (bytesOf (step (call attention) (worldIn d a)) bs) (eventsOf ls) (step (call attention) (worldIn d a))
+    → Undisturbed (machine Calm) (bytesOf (step (call attention) (worldIn d a)) bs) (eventsOf ls) (step (call attention) (worldIn d a))
     → 132 * length bs ≤ turnsOf ls
     → Done Calm bs (eventsOf ls) (step (call attention) (worldIn d a))
     × Shows carries (left ls (called attention a .areas)) (run (machine Calm) (eventsOf ls) (step (call attention) (worldIn d a)))

@@ -18,7 +18,7 @@ use Rattle.device.specs.declared.Action.the-variants as action
 use Rattle.device.specs.declared.Cu.{Cu}
 use Rattle.device.specs.declared.Cu.the-variants as cu
 use Rattle.actions.specs.Actions.{Acted, act}
-use Rattle.actions.specs.Block.{statusAt, linkAt, argumentAt}
+use Rattle.actions.specs.Block.{blockStatusAt, blockLinkAt, argumentAt}
 use Rattle.actions.specs.Setup.{Setup}
 use Rattle.command.specs.Begin.{cmd, begunBy}
 use Rattle.command.specs.End.{afterEnd, nextAfter}
@@ -80,24 +80,24 @@ module _ (base : RealAddress) (m₀ : List ℕ) (big : 8192 ≤ length m₀) whe
 
   -- the results of an end are results of its command
   end-writes : (c : ℕ) (ws : List Write) (status : ℕ) → Sub (targets ws) (tdrOf c)
-      → Sub (targets (ws ++ (wordTo (place base (block c) statusAt) status ∷ []))) (resultBytes base m₀ c)
+      → Sub (targets (ws ++ (wordTo (place base (block c) blockStatusAt) status ∷ []))) (resultBytes base m₀ c)
   end-writes c ws status h =
-      targets-append ws (wordTo (place base (block c) statusAt) status ∷ []) (λ a i. tdr-result base m₀ c a (h a i))
-      (λ a i. status-result base m₀ c a (word-targets (place base (block c) statusAt) status a i))
+      targets-append ws (wordTo (place base (block c) blockStatusAt) status ∷ []) (λ a i. tdr-result base m₀ c a (h a i))
+      (λ a i. status-result base m₀ c a (word-targets (place base (block c) blockStatusAt) status a i))
 
   -- the link, read after them, is that of the start
   end-link : (c : ℕ) (ws : List Write) (status : ℕ) (q : List ℕ) → Sub (targets ws) (tdrOf c) → Same (uses base m₀ c) q (marked base m₀ c)
-      → wordAt (apply (wordTo (place base (block c) statusAt) status ∷ []) (apply ws q)) (place base (block c) linkAt)
-      ≡ wordAt m₀ (place base (block c) linkAt)
+      → wordAt (apply (wordTo (place base (block c) blockStatusAt) status ∷ []) (apply ws q)) (place base (block c) blockLinkAt)
+      ≡ wordAt m₀ (place base (block c) blockLinkAt)
   end-link c ws status q h s =
-      let last = wordTo (place base (block c) statusAt) status ∷ [] in
+      let last = wordTo (place base (block c) blockStatusAt) status ∷ [] in
       let n : length q ≡ length m₀ = s .size ∙ marked-size base m₀ c in
-      let a : Same (from base c linkAt 2) (apply (ws ++ last) q) q =
-      apart-writes (from base c linkAt 2) (ws ++ last) q
+      let a : Same (from base c blockLinkAt 2) (apply (ws ++ last) q) q =
+      apart-writes (from base c blockLinkAt 2) (ws ++ last) q
       (λ x y i j. link-apart (length q) (rw n big) base m₀ c x y i (end-writes c ws status h y j)) in
       rw (← apply-append)
-      (same-field 2 (place base (block c) linkAt) (sub-refl (from base c linkAt 2))
-      (same-trans a (same-trans (same-part (link-in base m₀ c) s) (marked-same base m₀ big c linkAt 2 (omega arith) (omega arith)))))
+      (same-field 2 (place base (block c) blockLinkAt) (sub-refl (from base c blockLinkAt 2))
+      (same-trans a (same-trans (same-part (link-in base m₀ c) s) (marked-same base m₀ big c blockLinkAt 2 (omega arith) (omega arith)))))
 
   -- ---- the unit that an end leaves
 
@@ -106,7 +106,7 @@ module _ (base : RealAddress) (m₀ : List ℕ) (big : 8192 ≤ length m₀) whe
   unitAfter c a q = nextAfter base (begunBy (block c) (wordOf base m₀ c)) (a .status) (apply (a .writes) q)
 
   abbrev writesAt : ℕ → Acted → List Write
-  writesAt c a = a .writes ++ (wordTo (place base (block c) statusAt) (a .status) ∷ [])
+  writesAt c a = a .writes ++ (wordTo (place base (block c) blockStatusAt) (a .status) ∷ [])
 
   -- the last block's end leaves Active
   last-stops : (c : ℕ) (a : Acted) (q : List ℕ) → stops (wordOf base m₀ c) ≡ true → isActive (cuState (unitAfter c a q)) ≡ false
@@ -114,7 +114,7 @@ module _ (base : RealAddress) (m₀ : List ℕ) (big : 8192 ≤ length m₀) whe
   last-stops c a q h = end-stops (bit (wordOf base m₀ c) 15) (bit (wordOf base m₀ c) 14) _ h
 
   -- any other block's end leads to the next
-  end-next : (c d : ℕ) (a : Acted) (q : List ℕ) → stops (wordOf base m₀ c) ≡ false → wordAt m₀ (place base (block c) linkAt) ≡ d
+  end-next : (c d : ℕ) (a : Acted) (q : List ℕ) → stops (wordOf base m₀ c) ≡ false → wordAt m₀ (place base (block c) blockLinkAt) ≡ d
       → Sub (targets (a .writes)) (tdrOf c) → Same (uses base m₀ c) q (marked base m₀ c) → unitAfter c a q ≡ cu.Waiting (block d)
   unfolding nextAfter begunBy
   end-next c d a q h e t s =

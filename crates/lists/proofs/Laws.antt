@@ -23,7 +23,7 @@ use Rattle.device.specs.declared.Cu.the-variants as cu
 use Rattle.device.specs.declared.Settings.{Settings}
 use Rattle.device.specs.declared.Walk.{Walk}
 use Rattle.actions.specs.Actions.{Acted, act, sent, notSent, clamped, byteOf, settingsBy, groups, listing, mcSetup, configure, setting}
-use Rattle.actions.specs.Block.{statusAt, commandAt, linkAt, argumentAt, destinationAt, typeAt}
+use Rattle.actions.specs.Block.{blockStatusAt, blockCommandAt, blockLinkAt, argumentAt, destinationAt, typeAt}
 use Rattle.actions.specs.Setup.{Setup}
 use Rattle.command.specs.Begin.{cmd, begunBy, headerOf, toBegun, begin}
 use Rattle.command.specs.Buffer.{descriptorAt, fits, gathered, buffer}
@@ -84,11 +84,11 @@ to-begun-local false p b word m q h = refl
 begin-local : (p : Part) (o : Offset) (m q : List ℕ) (r : ℕ) → Same (readsBy (cu.Waiting o) p q) m q → begin p o m ≡ begin p o q
 unfolding begin begunBy
 begin-local p o m q r h =
-    let a = place (p .base) o commandAt in
-    let A = from (p .base) (o .0) commandAt 2 in
+    let a = place (p .base) o blockCommandAt in
+    let A = from (p .base) (o .0) blockCommandAt 2 in
     let word : wordAt m a ≡ wordAt q a = same-at 2 a (same-left A (beginReads (eqb (cmd (wordAt q a)) transmit) p (o .0)) h) in
     rw word
-    (ap (λ (part : Part). quietly part (wordTo (place (p .base) o statusAt) 0x4000 ∷ []))
+    (ap (λ (part : Part). quietly part (wordTo (place (p .base) o blockStatusAt) 0x4000 ∷ []))
     (to-begun-local (eqb (cmd (wordAt q a)) transmit) p (begunBy o (wordAt q a)) (wordAt q a) m q
     (same-right A (beginReads (eqb (cmd (wordAt q a)) transmit) p (o .0)) h)))
 
@@ -166,7 +166,7 @@ end-local : (p : Part) (b : Begun) (a : Acted) (m q : List ℕ) → Same (endRea
 unfolding end nextAfter
 end-local p b a m q h =
     let L = endReads p (b .block .0) in
-    let at = place (p .base) (b .block) linkAt in
+    let at = place (p .base) (b .block) blockLinkAt in
     let now : List ℕ → List ℕ = λ x. apply (statusTo (p .base) b (a .status) ∷ []) (apply (a .writes) x) in
     let link : wordAt (now m) at ≡ wordAt (now q) at =
     same-at 2 at
@@ -240,7 +240,7 @@ unfolding begin buffer end
 service-base cu.Idle p m r = refl
 service-base (cu.Suspended o) p m r = refl
 service-base (cu.Waiting o) p m r =
-    let word = wordAt m (place (p .base) o commandAt) in begun-base (eqb (cmd word) transmit) p (begunBy o word) word m
+    let word = wordAt m (place (p .base) o blockCommandAt) in begun-base (eqb (cmd word) transmit) p (begunBy o word) word m
 service-base (cu.Acting b a) p m r = refl
 service-base (cu.Sending b w) p m r = refl
 service-base (cu.Ending b n) p m r = refl

@@ -13,7 +13,7 @@ use Rattle.chip.specs.World.{World, worldOf}
 use Rattle.calls.specs.Calls.{Areas, areasOf, Called}
 use Rattle.traces.specs.Bytes.{called, isRefused}
 use Rattle.traces.specs.Event.{Event, call, host, step, isTurn}
-use Rattle.progress.specs.Machine.{Mays, Kept, own, turns, bit}
+use Rattle.progress.specs.Machine.{Mays, Undisturbed, own, turns, bit}
 use Rattle.progress.specs.Same.{Same}
 use Rattle.progress.proofs.Same.{same-refl, same-trans}
 use Rattle.closure.specs.Driven.{Lending}
@@ -133,7 +133,7 @@ module _ (C : Carries) where
       (same-refl L (step (call c) (worldIn d a) .memory))
 
   intact-lift : (L : List ℕ) (es : List Event) (a : Areas) (w v : World) → Stands a w v → Same L (a .memory) (v .memory) → Accepted es a
-      → Mays (machine Calm) es w → Kept (machine Calm) L es w → Kept (machine Calm) L (eventsOf (lendings es a)) v
+      → Mays (machine Calm) es w → Undisturbed (machine Calm) L es w → Undisturbed (machine Calm) L (eventsOf (lendings es a)) v
   intact-lift L [] a w v s m x y k = tt
   intact-lift L (call c ∷ es) a w v s m x y k =
       let u : World = worldIn (v .device) a in

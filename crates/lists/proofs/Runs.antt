@@ -18,7 +18,7 @@ use Rattle.closure.specs.Refusals.{Holds}
 use Rattle.closure.specs.Turns.{turnsOn}
 use Rattle.closure.proofs.Carried.{lent-kept}
 use Rattle.closure.proofs.Turns.{run-accepted, run-is-turns, taken-accepted, turn-again}
-use Rattle.progress.specs.Machine.{Kept, run}
+use Rattle.progress.specs.Machine.{Undisturbed, run}
 use Rattle.closure.specs.Driven.{Lending, Drive, calls, runs, takenIn, lending, turnsFrom, unrolled}
 use Rattle.lists.specs.Uses.{NoClash, Listed, firstOf}
 use Rattle.lists.specs.Unit.{machine}
@@ -104,7 +104,7 @@ pub runs-list-done : (bs : List ℕ) (ds : List Drive) (a : Areas) (d : Device) 
     → Listed (d .units .base) (step (call attention) (worldIn d a) .memory) bs
     → AllDrive carries ds (called attention a .areas)
     → NoClash (length (a .memory)) (d .units .base) (step (call attention) (worldIn d a) .memory) bs
-    → Kept (machine Calm) (bytesOf (step (call attention) (worldIn d a)) bs) (eventsOf (unrolled ds)) (step (call attention) (worldIn d a))
+    → Undisturbed (machine Calm) (bytesOf (step (call attention) (worldIn d a)) bs) (eventsOf (unrolled ds)) (step (call attention) (worldIn d a))
     → 132 * length bs ≤ turnsDriven ds
     → Done Calm bs (eventsOf (unrolled ds)) (step (call attention) (worldIn d a))
     × Shows carries (leftBehind ds (called attention a .areas)) (run (machine Calm) (eventsOf (unrolled ds)) (step (call attention) (worldIn d a)))

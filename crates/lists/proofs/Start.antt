@@ -10,7 +10,7 @@ use Rattle.memory.specs.Address.{offsetAt}
 use Rattle.memory.specs.declared.Offset.{Offset}
 use Rattle.memory.proofs.Laws.{length-apply}
 use Rattle.scb.specs.Control.{cuStart, cuNext}
-use Rattle.scb.specs.Words.{commandAt, cblAt, cuc, resets}
+use Rattle.scb.specs.Words.{scbCommandAt, cblAt, cuc, resets}
 use Rattle.scb.specs.declared.CuState.{CuState}
 use Rattle.device.specs.State.{cuState, isActive}
 use Rattle.device.specs.declared.Cu.{Cu}
@@ -88,10 +88,10 @@ attention-on true d m e = refl
 attention-on false d m e = absurd (false≢true e)
 
 attended : (w : World) → Starts w
-    → attentions.attention (w .device) (w .memory) ≡ obey (w .device) (wordAt (w .memory) (ofScb (w .device .units) commandAt)) (w .memory)
+    → attentions.attention (w .device) (w .memory) ≡ obey (w .device) (wordAt (w .memory) (ofScb (w .device .units) scbCommandAt)) (w .memory)
 unfolding attentions.attention attend
 attended w s =
-    let command = wordAt (w .memory) (ofScb (w .device .units) commandAt) in
+    let command = wordAt (w .memory) (ofScb (w .device .units) scbCommandAt) in
     attention-on (w .device .units .initialised) (w .device) (w .memory) (s .initialised)
     ∙ attend-on (resets command) (w .device) command (w .memory) (s .unreset)
 
@@ -99,7 +99,7 @@ pub begins : (w : World) → Starts w → Begins w (step (call attention) w)
 unfolding attentionOf
 begins w s =
     subst (λ (a : Attended). Begins w (leaves w a)) (sym (attended w s))
-    (obey-begins w (wordAt (w .memory) (ofScb (w .device .units) commandAt)) (s .start) (s .idle))
+    (obey-begins w (wordAt (w .memory) (ofScb (w .device .units) scbCommandAt)) (s .start) (s .idle))
 
 -- the list that begins at the CBL offset, as memory stands after that attention, is started
 pub started : (bs : List ℕ) (w : World) → Starts w → firstOf bs ≡ cblOf w .0

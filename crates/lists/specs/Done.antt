@@ -5,21 +5,21 @@ use mathlib.Core.List.{List, map}
 use Prim.Native.Nat.{ℕ, _*_, _≤_}
 use lib.ListN.{length}
 use Rattle.memory.specs.Memory.{wordAt}
-use Rattle.scb.specs.Words.{commandAt, cuc, resets}
+use Rattle.scb.specs.Words.{scbCommandAt, cuc, resets}
 use Rattle.device.specs.State.{cuState, isActive}
 use Rattle.device.specs.declared.Cu.the-variants as cu
 use Rattle.command.specs.Part.{partOf}
 use Rattle.control.specs.Obey.{ofScb}
 use Rattle.chip.specs.World.{World}
 use Rattle.traces.specs.Event.{Event, call, host, step, isTurn, isCalm}
-use Rattle.progress.specs.Machine.{eachOnce, turns, run, log, log′, reports, part′, mem′, Kept, Mays}
+use Rattle.progress.specs.Machine.{eachOnce, turns, run, log, log′, reports, part′, mem′, Undisturbed, Mays}
 use Rattle.progress.specs.Same.{Same}
 use Rattle.lists.specs.Uses.{block, listBytes, NoClash, Listed, firstOf}
 use Rattle.lists.specs.Unit.{machine, tag}
 
 -- ---- which events may occur
 
--- no attention and no reset; the host keeps the outgoing area (that it keeps N is in `Kept`, and no event but a call changes the record)
+-- no attention and no reset; the host keeps the outgoing area (that it keeps N is in `Undisturbed`, and no event but a call changes the record)
 abbrev pub KeepsOutgoing : Event → World → Type 0
 KeepsOutgoing (call c) w = Unit {0}
 KeepsOutgoing (host m h out) w = out ≡ w .outgoing
@@ -32,8 +32,8 @@ Calm e w = (isCalm e ≡ true) × KeepsOutgoing e w
 -- a channel attention that starts a list: initialised, RESET clear, CUC START from Idle or Suspended; any acknowledgement, any RUC
 pub record Starts (w : World) : Type 0 where
   pub initialised : w .device .units .initialised ≡ true
-  pub unreset : resets (wordAt (w .memory) (ofScb (w .device .units) commandAt)) ≡ false
-  pub start : cuc (wordAt (w .memory) (ofScb (w .device .units) commandAt)) ≡ 1
+  pub unreset : resets (wordAt (w .memory) (ofScb (w .device .units) scbCommandAt)) ≡ false
+  pub start : cuc (wordAt (w .memory) (ofScb (w .device .units) scbCommandAt)) ≡ 1
   pub idle : isActive (cuState (w .device .units .cu)) ≡ false
 
 -- what it leaves: the command unit is Active before the first of the blocks, which stand in memory as a list
@@ -67,5 +67,5 @@ module _ (May : Event → World → Type 0) where
     pub size : 8192 ≤ length (w .memory)
     pub apart : NoClash (length (w .memory)) (w .device .units .base) (w .memory) bs
     pub events : Mays (machine May) es w
-    pub kept : Kept (machine May) (bytesOf w bs) es w
+    pub kept : Undisturbed (machine May) (bytesOf w bs) es w
     pub turns : 132 * length bs ≤ turns (λ e v. isTurn e) step es w

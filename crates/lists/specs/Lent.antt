@@ -7,11 +7,11 @@ use lib.ListN.{length}
 use Rattle.device.specs.declared.Device.{Device}
 use Rattle.chip.specs.Call.{Call, ran}
 use Rattle.chip.specs.World.{World, worldOf}
-use Rattle.calls.specs.Calls.{Areas, keptBy}
+use Rattle.calls.specs.Calls.{Areas, onBytes}
 use Rattle.traces.specs.Bytes.{called, isRefused}
 use Rattle.traces.specs.Event.{Event, call, host, isTurn, isCalm}
 use Rattle.closure.specs.Driven.{Lending}
-use Rattle.progress.specs.Machine.{bit, Kept, Mays}
+use Rattle.progress.specs.Machine.{bit, Undisturbed, Mays}
 use Rattle.lists.specs.Uses.{NoClash}
 use Rattle.lists.specs.Unit.{machine}
 use Rattle.lists.specs.Done.{bytesOf}
@@ -55,7 +55,7 @@ worldIn d a = worldOf d (a .memory) (a .holding) (a .outgoing)
 
 -- a call on areas does what it does on the state, and leaves a record of the state that it leaves
 pub record Carried (Holds : List ℕ → Device → Type 0) (c : Call) (d : Device) (a : Areas) : Type 0 where
-  pub same : called c a ≡ keptBy (ran c (worldIn d a))
+  pub same : called c a ≡ onBytes (ran c (worldIn d a))
   pub holds : Holds (called c a .areas .kept) (ran c (worldIn d a) .outcome .device)
 
 -- what is asked of records: Holds says that a record holds a state, Given that a call and what is lent to it are made of bytes
@@ -93,7 +93,7 @@ module _ (C : Carries) where
     pub events : Mays (machine May) (eventsOf ls) v
     pub apart : NoClash (length (v .memory)) (v .device .units .base) (v .memory) bs
     -- nothing writes into the list but each command's own results, neither the host between calls nor a call; N stays
-    pub intact : Kept (machine May) (bytesOf v bs) (eventsOf ls) v
+    pub intact : Undisturbed (machine May) (bytesOf v bs) (eventsOf ls) v
     pub turns : 132 * length bs ≤ turnsOf ls
 
 -- ---- no attention, no reset; the outgoing area is kept

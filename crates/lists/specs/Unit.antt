@@ -14,7 +14,7 @@ use Rattle.device.specs.declared.Cu.{Cu}
 use Rattle.device.specs.declared.Cu.the-variants as cu
 use Rattle.device.specs.declared.Units.{Units}
 use Rattle.actions.specs.Actions.{Acted, act, sent, notSent}
-use Rattle.actions.specs.Block.{commandAt, linkAt, argumentAt, destinationAt, typeAt}
+use Rattle.actions.specs.Block.{blockCommandAt, blockLinkAt, argumentAt, destinationAt, typeAt}
 use Rattle.command.specs.Begin.{cmd}
 use Rattle.command.specs.Buffer.{descriptorAt, fits}
 use Rattle.command.specs.Part.{Part, partOf}
@@ -63,13 +63,13 @@ dataReads false buffer count = []
 
 -- an end: what the action reads, and the link
 abbrev pub endReads : Part → ℕ → List ℕ
-endReads p c = from (p .base) c linkAt 2
+endReads p c = from (p .base) c blockLinkAt 2
 
 abbrev pub readsBy : Cu → Part → List ℕ → List ℕ
 readsBy cu.Idle p m = []
 readsBy (cu.Suspended o) p m = []
 readsBy (cu.Waiting o) p m =
-    from (p .base) (o .0) commandAt 2 ++ beginReads (eqb (cmd (wordAt m (place (p .base) o commandAt))) transmit) p (o .0)
+    from (p .base) (o .0) blockCommandAt 2 ++ beginReads (eqb (cmd (wordAt m (place (p .base) o blockCommandAt))) transmit) p (o .0)
 readsBy (cu.Acting b a) p m = argumentBytes a (p .base) m (b .block .0) ++ endReads p (b .block .0)
 readsBy (cu.Sending b w) p m =
     let d = descriptorAt (p .base) (w .next) m in descriptorBytes (p .base) (w .next) ++ dataReads (fits d w) (d .buffer .0) (d .count)

@@ -15,7 +15,7 @@ use Rattle.device.specs.Limits.{addressLength, typeLength, header, longest, mos
 use Rattle.device.specs.Numbers.{transmit, actionOf, actionNumber}
 use Rattle.device.specs.declared.Action.{Action}
 use Rattle.device.specs.declared.Action.the-variants as action
-use Rattle.actions.specs.Block.{statusAt, commandAt, linkAt, argumentAt, destinationAt, typeAt}
+use Rattle.actions.specs.Block.{blockStatusAt, blockCommandAt, blockLinkAt, argumentAt, destinationAt, typeAt}
 use Rattle.actions.specs.Actions.{clamped, byteOf, groups}
 use Rattle.command.specs.Begin.{cmd}
 use Rattle.command.specs.Buffer.{descriptorAt}
@@ -30,7 +30,7 @@ from base c field n = range (place base (block c) field) n
 
 -- the command word of the block at c
 abbrev pub wordOf : RealAddress → List ℕ → ℕ → ℕ
-wordOf base m c = wordAt m (place base (block c) commandAt)
+wordOf base m c = wordAt m (place base (block c) blockCommandAt)
 
 -- ---- the bytes that a command uses
 
@@ -51,7 +51,7 @@ argumentBytes action.Diagnose base m c = []
 
 -- m, once the command at c has begun: a Transmit's chain may lead over its own status word
 unfoldable pub marked : RealAddress → List ℕ → ℕ → List ℕ
-marked base m c = apply (wordTo (place base (block c) statusAt) 0x4000 ∷ []) m
+marked base m c = apply (wordTo (place base (block c) blockStatusAt) 0x4000 ∷ []) m
 
 -- a descriptor: +0 EOF and count, +2 next offset, +4 real address (three bytes)
 abbrev pub descriptorBytes : RealAddress → Offset → List ℕ
@@ -91,7 +91,7 @@ ownBytes false base m c = argumentBytes (actionOf (cmd (wordOf base m c))) base 
 -- six bytes of a block, and what its command uses besides
 unfoldable pub uses : RealAddress → List ℕ → ℕ → List ℕ
 uses base m c =
-    from base c statusAt 2 ++ from base c commandAt 2 ++ from base c linkAt 2 ++ ownBytes (eqb (cmd (wordOf base m c)) transmit) base m c
+    from base c blockStatusAt 2 ++ from base c blockCommandAt 2 ++ from base c blockLinkAt 2 ++ ownBytes (eqb (cmd (wordOf base m c)) transmit) base m c
 
 abbrev pub listBytes : RealAddress → List ℕ → List ℕ → List ℕ
 listBytes base m [] = []
@@ -105,7 +105,7 @@ tdrBytes true base c = from base c argumentAt 2
 tdrBytes false base c = []
 
 unfoldable pub resultBytes : RealAddress → List ℕ → ℕ → List ℕ
-resultBytes base m c = from base c statusAt 2 ++ tdrBytes (eqb (cmd (wordOf base m c)) (actionNumber action.Tdr)) base c
+resultBytes base m c = from base c blockStatusAt 2 ++ tdrBytes (eqb (cmd (wordOf base m c)) (actionNumber action.Tdr)) base c
 
 -- no result may be another command's byte, addresses taken modulo N. Asked of later commands alone, which is less than the sentence grants
 abbrev pub NoClash : ℕ → RealAddress → List ℕ → List ℕ → Type 0
@@ -124,7 +124,7 @@ abbrev pub Listed : RealAddress → List ℕ → List ℕ → Type 0
 Listed base m [] = ⊥
 Listed base m (c ∷ []) = stops (wordOf base m c) ≡ true
 Listed base m (c ∷ d ∷ ds) =
-    (stops (wordOf base m c) ≡ false) × (wordAt m (place base (block c) linkAt) ≡ d) × Listed base m (d ∷ ds)
+    (stops (wordOf base m c) ≡ false) × (wordAt m (place base (block c) blockLinkAt) ≡ d) × Listed base m (d ∷ ds)
 
 abbrev pub firstOf : List ℕ → ℕ
 firstOf [] = 0

@@ -23,7 +23,7 @@ use Rattle.device.specs.declared.Storing.{Storing}
 use Rattle.device.specs.declared.Verdict.{Verdict}
 use Rattle.device.specs.declared.Verdict.the-variants as verdict
 use Rattle.device.proofs.Laws.{action-back, verdict-back}
-use Rattle.phases.specs.Words.{flagsOf, odd, flagBits, numberOf, wordOf, plain, begunWord, cuTag, cuWord, cuOf, cuMost, cuKind, cuShaped, frameWord, storingWord, ruTag, ruWord, filledNumber, ruRest, ruOf, ruMost, ruFlags, restMost, ruShaped, WordWide, FillingWide}
+use Rattle.phases.specs.Phases.{flagsOf, odd, flagBits, numberOf, wordOf, plain, begunWord, cuTag, cuWord, cuOf, cuMost, cuKind, cuShaped, frameWord, storingWord, ruTag, ruWord, filledNumber, ruRest, ruOf, ruMost, ruFlags, restMost, ruShaped, WordWide, FillingWide}
 use Rattle.phases.specs.declared.Word.{Word}
 
 -- ---- tests

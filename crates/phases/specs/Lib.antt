@@ -1,2 +1,2 @@
 -- A unit's words, for the definitions of the crates above.
-pub mod Words
+pub mod Phases

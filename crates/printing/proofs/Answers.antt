@@ -10,7 +10,7 @@ use Rattle.device.specs.declared.Answer.{Answer}
 use Rattle.device.specs.declared.Refusal.{Refusal}
 use Rattle.device.specs.declared.Refusal.the-variants as refusal
 use Rattle.phases.proofs.Units.{one-below}
-use Rattle.calls.specs.Calls.{packed}
+use Rattle.calls.specs.Calls.{answerNumber}
 use Rattle.texts.specs.Codes.{codes}
 use Rattle.texts.specs.Texts.{decimal, numberIn, lengthIn, edgeIn, turnsIn, furtherText, answerText}
 
@@ -39,9 +39,9 @@ module _ (n l e k : ℕ) (n-below : n < 65536) (l-below : l < 65536) (e-below : 
   turns-of = let q : joined / 2 ^ 48 ≡ k = omega arith in rw q (omega arith)
 
 pub answer-printed : (a : Answer) (taken : ℕ) → a .length < 65536 → taken < 65536
-    → answerText (packed a + taken * 2 ^ 48)
+    → answerText (answerNumber a + taken * 2 ^ 48)
     ≡ decimal (refusalNumber (a .number)) ++ codes " " ++ decimal (a .length) ++ codes " " ++ decimal (one (a .edge)) ++ furtherText taken ++ codes "\n"
-unfolding answerText packed
+unfolding answerText answerNumber
 answer-printed a taken l t =
     let n = number-below (a .number) in
     let e = one-below (a .edge) in

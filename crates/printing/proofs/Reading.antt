@@ -10,7 +10,7 @@ use lib.ListN.{length, set, replicate, length-set}
 use lib.Seq.{sets, length-sets}
 use Rattle.wording.specs.Chars.{blank, hash, digit}
 use Rattle.wording.specs.Names.{verbOf, areaOf, sizeOf}
-use Rattle.wording.specs.Words.{many, numberOf, joined, storeDigit, store, moreWord}
+use Rattle.wording.specs.Spelling.{many, numberOf, joined, storeDigit, store, moreWord}
 use Rattle.wording.specs.Lines.{least, missing, wanted, isText, isEnd, isVerb, faultAt, noFault, isNothing, fits, judged}
 use Rattle.wording.specs.Take.{withFirst, withSecond, withNumber, takeVerb, takeNumber, takeArea, takePlace, Took, takeBytes, putValue, takeValue, takeWord}
 use Rattle.wording.specs.declared.Fault.{Fault}

@@ -7,7 +7,7 @@ use native.Mathlib.Omega.{arith}
 use lib.ListN.{length}
 use Rattle.memory.specs.Memory.{Write, apply}
 use Rattle.progress.specs.Same.{In, Same}
-use Rattle.progress.specs.Machine.{Machine, Laws, bit, turns, Alike, Served, Passed, Between, run, atService, reports, log, own, Kept, Mays, part′, mem′, log′, Live, Covers, Alone, Tag, begun, done, eachOnce, Listing, Ordered, Finished}
+use Rattle.progress.specs.Machine.{Machine, Laws, bit, turns, Alike, Served, Passed, Between, run, atService, reports, log, own, Undisturbed, Mays, part′, mem′, log′, Live, Covers, Alone, Tag, begun, done, eachOnce, Listing, Ordered, Finished}
 use Rattle.progress.proofs.Same.{same-refl, same-trans, same-part, same-apply}
 
 pub bit-le : (b : Bool) → bit b ≤ 1
@@ -83,7 +83,7 @@ module _ (M : Machine) where
     after true false e es s v q y t h p c a k f = after-pass e es s v q t h p c a k (f v q)
     after false h e es s v q y t _ p c a k f = after-other e es s v q y t p c a k (f v q)
 
-    pub alone : (es : List E) (s : S) (v : P) (q : List ℕ) → view s ≡ v → Mays M es s → Kept M L es s → Covers M L v q
+    pub alone : (es : List E) (s : S) (v : P) (q : List ℕ) → view s ≡ v → Mays M es s → Undisturbed M L es s → Covers M L v q
         → Same L (mem s) q → Alone M L es s v q
     alone [] s v q p y k c a =
         record { part = p; bytes = a; notes = refl; live = tt; was = λ b. rw p at b; pace = λ b. omega arith }
@@ -120,7 +120,7 @@ module _ (M : Machine) (O : Listing M) where
       absurd (omega (arith, h .1 .2, a .pace e, bit-le (last s)))
 
   pub finish : Laws M → (L bs : List ℕ) (es : List E) (s : S) → Inv bs (view s) (mem s) → Covers M L (view s) (mem s) → Mays M es s
-      → Kept M L es s
+      → Undisturbed M L es s
       → 2 * rank bs (view s) ≤ turns isTurn step es s → Finished M O L bs es s
   finish K L bs es s i c y k t =
       finish-if (active (view (run M es s))) L bs es s refl i (alone M K L es s (view s) (mem s) refl y k c (same-refl L (mem s))) t

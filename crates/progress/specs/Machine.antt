@@ -105,9 +105,9 @@ module _ (M : Machine) where
   own e s = atService (isTurn e s) (served s) (results (view s) (mem s) (report e)) []
 
   -- at each event of the trace the bytes at L change by the results of the command in work and by nothing else
-  abbrev pub Kept : List ℕ → List E → S → Type 0
-  Kept L [] s = Unit {0}
-  Kept L (e ∷ es) s = Same L (mem (step e s)) (apply (own e s) (mem s)) × Kept L es (step e s)
+  abbrev pub Undisturbed : List ℕ → List E → S → Type 0
+  Undisturbed L [] s = Unit {0}
+  Undisturbed L (e ∷ es) s = Same L (mem (step e s)) (apply (own e s) (mem s)) × Undisturbed L es (step e s)
 
   -- ---- the command unit alone, on a memory that nothing else writes
 

@@ -7,7 +7,7 @@ use lib.Dec.{T, eqb}
 use lib.ListN.{replicate, getD}
 use Rattle.memory.specs.Address.{place}
 use Rattle.memory.specs.Memory.{byteAt, putByte, bytesAt, putBytes, value, digits, fieldAt, wordAt, Write, wordTo, apply}
-use Rattle.scb.specs.Words.{field, one}
+use Rattle.scb.specs.Words.{bitsAt, one}
 use Rattle.device.specs.Answers.{counterOf, counts, isHeld}
 use Rattle.device.specs.Change.{withRu, withSettings}
 use Rattle.device.specs.Numbers.{counterPlace, verdictOf}
@@ -143,7 +143,7 @@ flags (ru.Lacking s) = one (s .el) * 2 + one (s .suspend)
 pub beginning : T (eqb (wordAt (left (ru.Held (record { 0 = 0x50 }) (good 16) false) []) 0x60) 0x4000
     && eqb (phase (begun (wordTo 0x66 0x90 ∷ []) .unit)) 5 && eqb (phase (begun (wordTo 0x66 0xFFFF ∷ []) .unit)) 7
     && eqb (flags (begun (wordTo 0x62 0x8000 ∷ []) .unit)) 2 && eqb (flags (begun (wordTo 0x62 0x4000 ∷ []) .unit)) 1)
-unfolding byteAt putByte bytesAt putBytes value digits fieldAt place field begunBy begin service
+unfolding byteAt putByte bytesAt putBytes value digits fieldAt place bitsAt begunBy begin service
 beginning = tt
 
 -- ---- buffer
@@ -169,12 +169,12 @@ full (ru.Lacking s) = false
 pub outOfBuffers : T (eqb (phase (filling 62 1 0x98 .unit)) 5 && eqb (phase (filling 63 1 0x98 .unit)) 7
     && eqb (phase (filling 63 2 0x98 .unit)) 6
     && eqb (phase (filling 0 0x8001 0x98 .unit)) 7 && eqb (phase (filling 0 1 0xFFFF .unit)) 7)
-unfolding byteAt putByte bytesAt putBytes value digits fieldAt place field descriptorAt buffer service
+unfolding byteAt putByte bytesAt putBytes value digits fieldAt place bitsAt descriptorAt buffer service
 outOfBuffers = tt
 
 -- EL on the last buffer used
 pub lastHadEl : T (full (filling 0 0x8002 0x98 .unit) && not (full (filling 0 2 0x98 .unit)))
-unfolding byteAt putByte bytesAt putBytes value digits fieldAt place field descriptorAt buffer service
+unfolding byteAt putByte bytesAt putBytes value digits fieldAt place bitsAt descriptorAt buffer service
 lastHadEl = tt
 
 -- then writes F, count, and EOF if the data ends there; size 0 too. 13-0 size: bit 14 is none of it
@@ -182,7 +182,7 @@ abbrev marked : (word : ℕ) → ℕ
 marked word = wordAt (apply (filling 0 word 0x98 .writes) (given [])) 0xA0
 
 pub filledWords : T (eqb (marked 1) 0x4001 && eqb (marked 2) 0xC002 && eqb (marked 0x4000) 0x4000)
-unfolding byteAt putByte bytesAt putBytes value digits fieldAt place field descriptorAt buffer service
+unfolding byteAt putByte bytesAt putBytes value digits fieldAt place bitsAt descriptorAt buffer service
 filledWords = tt
 
 -- ---- end
@@ -202,13 +202,13 @@ status unit = wordAt (left unit (wordTo 0x60 0x4000 ∷ wordTo 0x64 0x80 ∷ [])
 pub statusBits : T (eqb (status (closing (storing false false false (good 16)) false)) 0xA000
     && eqb (status (closing (storing false false false (framed 16 verdict.Misaligned true true)) false)) 0x8480
     && eqb (status (closing (storing false false false (framed 16 verdict.Crc false true)) false)) 0x8800)
-unfolding byteAt putByte bytesAt putBytes value digits fieldAt place field counts frameStatus settles close service
+unfolding byteAt putByte bytesAt putBytes value digits fieldAt place bitsAt counts frameStatus settles close service
 statusBits = tt
 
 -- out of buffers: kept with bit 9 if save-bad was set at arrival; else status 0000h, no FR
 pub keptOrNot : T (eqb (status (lacking true verdict.Good)) 0x8200 && eqb (status (lacking false verdict.Good)) 0
     && served (lacking true verdict.Good) [] .raised .fr && not (served (lacking false verdict.Good) [] .raised .fr))
-unfolding byteAt putByte bytesAt putBytes value digits fieldAt place field counts frameStatus settles lack service
+unfolding byteAt putByte bytesAt putBytes value digits fieldAt place bitsAt counts frameStatus settles lack service
 keptOrNot = tt
 
 -- either way RSCERRS follows if otherwise good, and No Resources
@@ -216,7 +216,7 @@ pub lackingAddsOne : T (eqb (counted (served (lacking true verdict.Good) [] .fat
     && eqb (counted (served (lacking false verdict.Good) [] .fate)) 12
     && eqb (counted (served (lacking true verdict.Crc) [] .fate)) 0 && eqb (phase (served (lacking false verdict.Good) [] .unit)) 2
     && eqb (phase (served (lacking true verdict.Good) [] .unit)) 2 && served (lacking true verdict.Good) [] .raised .rnr)
-unfolding byteAt putByte bytesAt putBytes value digits fieldAt place field counts frameStatus settles lack service
+unfolding byteAt putByte bytesAt putBytes value digits fieldAt place bitsAt counts frameStatus settles lack service
 lackingAddsOne = tt
 
 -- descriptor EL, or EL on the last buffer used, gives No Resources, which wins over Suspended; else S or a waiting SUSPEND suspends
@@ -225,7 +225,7 @@ goes el suspend pausing full = phase (served (closing (storing el suspend pausin
 
 pub lackingOverSuspended : T (eqb (goes true true false false) 2 && eqb (goes false true true true) 2
     && eqb (goes false true false false) 1 && eqb (goes false false true false) 1 && eqb (goes false false false false) 3)
-unfolding byteAt putByte bytesAt putBytes value digits fieldAt place field counts frameStatus settles close service
+unfolding byteAt putByte bytesAt putBytes value digits fieldAt place bitsAt counts frameStatus settles close service
 lackingOverSuspended = tt
 
 -- +6 of the next frame descriptor (link read now) gets the next free offset
@@ -233,7 +233,7 @@ abbrev after : Ru → List Write → List ℕ
 after unit ws = left unit (wordTo 0x64 0x80 ∷ ws)
 
 pub nextFree : T (eqb (wordAt (after (closing (storing false false false (good 16)) false) []) 0x96) 0x90)
-unfolding byteAt putByte bytesAt putBytes value digits fieldAt place field counts frameStatus settles close service
+unfolding byteAt putByte bytesAt putBytes value digits fieldAt place bitsAt counts frameStatus settles close service
 nextFree = tt
 
 -- no data: FFFFh at +6, and the next descriptor gets the +6 read at begin
@@ -241,5 +241,5 @@ abbrev bare : Ru
 bare = begin (part ru.Idle) (record { 0 = 0x50 }) (good 14) false (given (wordTo 0x66 0xA8 ∷ [])) .unit
 
 pub noData : T (eqb (wordAt (after bare (wordTo 0x66 0xA8 ∷ [])) 0x66) 0xFFFF && eqb (wordAt (after bare (wordTo 0x66 0xA8 ∷ [])) 0x96) 0xA8)
-unfolding byteAt putByte bytesAt putBytes value digits fieldAt place field counts frameStatus settles close service begunBy begin
+unfolding byteAt putByte bytesAt putBytes value digits fieldAt place bitsAt counts frameStatus settles close service begunBy begin
 noData = tt

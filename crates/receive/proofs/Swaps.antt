@@ -7,7 +7,7 @@ use lib.Dec.{T, eqb}
 use lib.ListN.{replicate}
 use Rattle.memory.specs.Address.{place}
 use Rattle.memory.specs.Memory.{byteAt, putByte, bytesAt, putBytes, value, digits, fieldAt, wordAt, wordTo, apply}
-use Rattle.scb.specs.Words.{field}
+use Rattle.scb.specs.Words.{bitsAt}
 use Rattle.device.specs.Answers.{counterOf, isCounter}
 use Rattle.device.specs.Limits.{header}
 use Rattle.device.specs.Numbers.{verdictOf}
@@ -44,7 +44,7 @@ filled =
     let m = apply (wordTo 0xA4 0xC0 ∷ wordTo 0xA8 20 ∷ []) (replicate 256 0) in apply (service part m .writes) m
 
 pub baseNotAdded : T (eqb (wordAt filled 0xC0) 0x7777 && eqb (wordAt filled 0xD0) 0 && eqb (wordAt filled 0xA0) 0xC002)
-unfolding byteAt putByte bytesAt putBytes value digits fieldAt place field descriptorAt buffer service
+unfolding byteAt putByte bytesAt putBytes value digits fieldAt place bitsAt descriptorAt buffer service
 baseNotAdded = tt
 
 -- Counting frames lost while Idle: whatever the verdict, no counter

@@ -12,7 +12,7 @@ use Rattle.device.specs.declared.Frame.{Frame}
 use Rattle.device.specs.declared.Ru.{Ru}
 use Rattle.device.specs.declared.Ru.the-variants as ru
 use Rattle.device.specs.declared.Storing.{Storing}
-use Rattle.receive.specs.Part.{Part, Service, quietly, statusAt, controlAt, firstAt}
+use Rattle.receive.specs.Part.{Part, Service, quietly, fdStatusAt, controlAt, firstAt}
 
 -- +2 15 EL, 14 S
 unfoldable pub begunBy : Offset → Frame → Bool → ℕ → Storing
@@ -33,4 +33,4 @@ unfoldable pub begin : Part → Offset → Frame → Bool → List ℕ → Servi
 begin p fd f pausing m =
     let first = offsetAt m (place (p .base) fd firstAt) in
     quietly (toFirst (isBare f) (isNone first) (begunBy fd f pausing (wordAt m (place (p .base) fd controlAt))) first)
-    (wordTo (place (p .base) fd statusAt) 0x4000 ∷ [])
+    (wordTo (place (p .base) fd fdStatusAt) 0x4000 ∷ [])

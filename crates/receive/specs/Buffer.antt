@@ -9,7 +9,7 @@ use Rattle.memory.specs.Memory.{wordAt, Write, bytesTo, wordTo}
 use Rattle.memory.specs.Address.{place, offsetAt, addressAt, isNone}
 use Rattle.memory.specs.declared.Offset.{Offset}
 use Rattle.memory.specs.declared.RealAddress.{RealAddress}
-use Rattle.scb.specs.Words.{field, bit}
+use Rattle.scb.specs.Words.{bitsAt, bit}
 use Rattle.device.specs.Limits.{heldFrom, mostBuffers}
 use Rattle.device.specs.declared.Ru.{Ru}
 use Rattle.device.specs.declared.Ru.the-variants as ru
@@ -26,7 +26,7 @@ descriptorAt base o m =
       next = offsetAt m (place base o 2);
       buffer = addressAt m (place base o 4);
       el = bit word 15;
-      size = field word 0 14;
+      size = bitsAt word 0 14;
     }
 
 -- how many bytes go into this buffer; the walk with it behind

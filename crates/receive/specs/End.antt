@@ -20,7 +20,7 @@ use Rattle.device.specs.declared.Ru.the-variants as ru
 use Rattle.device.specs.declared.Storing.{Storing}
 use Rattle.device.specs.declared.Verdict.{Verdict}
 use Rattle.device.specs.declared.Verdict.the-variants as verdict
-use Rattle.receive.specs.Part.{Part, Service, statusAt, linkAt, firstAt, headerAt}
+use Rattle.receive.specs.Part.{Part, Service, fdStatusAt, fdLinkAt, firstAt, headerAt}
 use Rattle.receive.specs.Begin.{isBare}
 
 -- what becomes of the frame: stored. Out of buffers: kept if save-bad was set at arrival, and either way RSCERRS follows if otherwise good.
@@ -60,9 +60,9 @@ bareMark false a = []
 abbrev pub descriptorBy : (stored lacking : Bool) → Part → Storing → List Write
 descriptorBy true lacking p s =
     bytesTo (place (p .base) (s .fd) headerAt) (take header (drop heldFrom (p .holding)))
-    ∷ wordTo (place (p .base) (s .fd) statusAt) (frameStatus lacking (s .frame))
+    ∷ wordTo (place (p .base) (s .fd) fdStatusAt) (frameStatus lacking (s .frame))
     ∷ bareMark (isBare (s .frame)) (place (p .base) (s .fd) firstAt)
-descriptorBy false lacking p s = wordTo (place (p .base) (s .fd) statusAt) 0x0000 ∷ []
+descriptorBy false lacking p s = wordTo (place (p .base) (s .fd) fdStatusAt) 0x0000 ∷ []
 
 -- then the counter, on memory as it stands then
 unfoldable pub settles : (lacking : Bool) → Part → Storing → List ℕ → List Write
@@ -86,15 +86,15 @@ before false link = ru.Ready link
 
 -- out of buffers, descriptor EL, or EL on the last buffer used: No Resources, which wins over Suspended.
 -- Otherwise +6 of the next frame descriptor (link read now) gets the next free offset
-abbrev pub goesOn : (exhausted : Bool) → Part → Storing → Offset → Fate → List Write → List ℕ → Service
-goesOn true p s free f writes m = endAt f ru.NoResources writes
-goesOn false p s free f writes m =
-    let link = offsetAt (apply writes m) (place (p .base) (s .fd) linkAt) in
+abbrev pub proceeds : (exhausted : Bool) → Part → Storing → Offset → Fate → List Write → List ℕ → Service
+proceeds true p s free f writes m = endAt f ru.NoResources writes
+proceeds false p s free f writes m =
+    let link = offsetAt (apply writes m) (place (p .base) (s .fd) fdLinkAt) in
     endAt f (before (s .suspend || s .pausing) link) (writes ++ (wordTo (place (p .base) link firstAt) (free .0) ∷ []))
 
 -- all is stored: the next free offset, and whether the last buffer used had EL
 unfoldable pub close : Part → Storing → Offset → Bool → List ℕ → Service
-close p s free full m = goesOn (s .el || full) p s free (fateOf false (s .frame)) (settles false p s m) m
+close p s free full m = proceeds (s .el || full) p s free (fateOf false (s .frame)) (settles false p s m) m
 
 -- out of buffers
 unfoldable pub lack : Part → Storing → List ℕ → Service

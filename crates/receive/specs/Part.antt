@@ -15,14 +15,14 @@ use Rattle.device.specs.declared.Units.{Units}
 
 -- ---- frame descriptor: +0 status, +2 15 EL, 14 S, +4 link, +6 first buffer descriptor or FFFFh, +8 destination, +14 source, +20 type
 
-abbrev pub statusAt : ℕ
-statusAt = 0
+abbrev pub fdStatusAt : ℕ
+fdStatusAt = 0
 
 abbrev pub controlAt : ℕ
 controlAt = 2
 
-abbrev pub linkAt : ℕ
-linkAt = 4
+abbrev pub fdLinkAt : ℕ
+fdLinkAt = 4
 
 abbrev pub firstAt : ℕ
 firstAt = 6

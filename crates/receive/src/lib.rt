@@ -1,5 +1,5 @@
 // No code but the type below: the definitions of the receive unit, what becomes of an arriving frame, and one service, which begins a held
-// frame, fills a buffer, or ends the frame. What C runs is kept_arrival and kept_receive, which are held to
+// frame, fills a buffer, or ends the frame. What C runs is code_arrival and code_receive, which are held to
 // them.
 use memory::Offset;
 use memory::RealAddress;

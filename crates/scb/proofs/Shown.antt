@@ -5,7 +5,7 @@ use lib.Dec.{T, eqb}
 use Rattle.scb.specs.declared.CuState.the-variants as cu
 use Rattle.scb.specs.declared.Events.{Events}
 use Rattle.scb.specs.declared.RuState.the-variants as ru
-use Rattle.scb.specs.Words.{field, joined, acknowledged, eventBits, statusWord, cuc, resets, ruc}
+use Rattle.scb.specs.Words.{bitsAt, joined, acknowledged, eventBits, statusWord, cuc, resets, ruc}
 
 abbrev events : (cx fr cna rnr : Bool) → Events
 events cx fr cna rnr = record { cx = cx; fr = fr; cna = cna; rnr = rnr }
@@ -23,11 +23,11 @@ abbrev left : (command : ℕ) → ℕ
 left command = eventBits (acknowledged (events true true true true) command)
 
 pub acknowledgedByTheirBits : T (eqb (left 0x8FFF) 0b0111 && eqb (left 0x4FFF) 0b1011 && eqb (left 0x2FFF) 0b1101 && eqb (left 0x1FFF) 0b1110)
-unfolding field joined eventBits acknowledged
+unfolding bitsAt joined eventBits acknowledged
 acknowledgedByTheirBits = tt
 
 -- 10-8 CUC; 7 RESET; 6-4 RUC
 pub commandWord : T (eqb (cuc 0x0C4F) 4 && eqb (ruc 0x0C4F) 4 && not (resets 0x0C4F)
     && eqb (cuc 0xF8FF) 0 && eqb (ruc 0xFF8F) 0 && resets 0x0080)
-unfolding field
+unfolding bitsAt
 commandWord = tt

@@ -10,8 +10,8 @@ use lib.Dec.{eqb, lit<, lit≤}
 use Rattle.scb.specs.declared.CuState.{CuState}
 use Rattle.scb.specs.declared.Events.{Events}
 use Rattle.scb.specs.declared.RuState.{RuState}
-use Rattle.scb.specs.Words.{field, joined, bit, one, anyOf, eventBits, cuNumber, ruNumber, statusWord}
-use Rattle.scb.proofs.Fields.{joined-below, field-past, field-whole, field-above, field-of-joined, field-kept}
+use Rattle.scb.specs.Words.{bitsAt, joined, bit, one, anyOf, eventBits, cuNumber, ruNumber, statusWord}
+use Rattle.scb.proofs.Fields.{joined-below, bits-past, bits-whole, bits-above, bits-of-joined, bits-kept}
 use Rattle.scb.proofs.Tables.{cu-below, ru-below}
 
 -- ---- the parts, and what they stay below
@@ -62,25 +62,25 @@ one-back false = refl
 
 module _ (e : Events) where
   -- below CX, and below FR
-  under-cx : (k : ℕ) → 1 + k ≤ 3 → field (eventBits e) k 1 ≡ field (three e) k 1
+  under-cx : (k : ℕ) → 1 + k ≤ 3 → bitsAt (eventBits e) k 1 ≡ bitsAt (three e) k 1
   unfolding eventBits
-  under-cx k h = field-kept (three e) 3 (one (e .cx)) k 1 h
+  under-cx k h = bits-kept (three e) 3 (one (e .cx)) k 1 h
 
-  under-fr : (k : ℕ) → 1 + k ≤ 2 → field (eventBits e) k 1 ≡ field (two e) k 1
-  under-fr k h = under-cx k (omega arith) ∙ field-kept (two e) 2 (one (e .fr)) k 1 h
+  under-fr : (k : ℕ) → 1 + k ≤ 2 → bitsAt (eventBits e) k 1 ≡ bitsAt (two e) k 1
+  under-fr k h = under-cx k (omega arith) ∙ bits-kept (two e) 2 (one (e .fr)) k 1 h
 
-  bits-cx : field (eventBits e) 3 1 ≡ one (e .cx)
+  bits-cx : bitsAt (eventBits e) 3 1 ≡ one (e .cx)
   unfolding eventBits
-  bits-cx = field-of-joined (three e) 3 (one (e .cx)) 1 (three-below e) (one-below (e .cx))
+  bits-cx = bits-of-joined (three e) 3 (one (e .cx)) 1 (three-below e) (one-below (e .cx))
 
-  bits-fr : field (eventBits e) 2 1 ≡ one (e .fr)
-  bits-fr = under-cx 2 (lit≤ tt) ∙ field-of-joined (two e) 2 (one (e .fr)) 1 (two-below e) (one-below (e .fr))
+  bits-fr : bitsAt (eventBits e) 2 1 ≡ one (e .fr)
+  bits-fr = under-cx 2 (lit≤ tt) ∙ bits-of-joined (two e) 2 (one (e .fr)) 1 (two-below e) (one-below (e .fr))
 
-  bits-cna : field (eventBits e) 1 1 ≡ one (e .cna)
-  bits-cna = under-fr 1 (lit≤ tt) ∙ field-of-joined (one (e .rnr)) 1 (one (e .cna)) 1 (one-below (e .rnr)) (one-below (e .cna))
+  bits-cna : bitsAt (eventBits e) 1 1 ≡ one (e .cna)
+  bits-cna = under-fr 1 (lit≤ tt) ∙ bits-of-joined (one (e .rnr)) 1 (one (e .cna)) 1 (one-below (e .rnr)) (one-below (e .cna))
 
-  bits-rnr : field (eventBits e) 0 1 ≡ one (e .rnr)
-  bits-rnr = under-fr 0 (lit≤ tt) ∙ field-kept (one (e .rnr)) 1 (one (e .cna)) 0 1 (lit≤ tt) ∙ field-whole (one (e .rnr)) 1 (one-below (e .rnr))
+  bits-rnr : bitsAt (eventBits e) 0 1 ≡ one (e .rnr)
+  bits-rnr = under-fr 0 (lit≤ tt) ∙ bits-kept (one (e .rnr)) 1 (one (e .cna)) 0 1 (lit≤ tt) ∙ bits-whole (one (e .rnr)) 1 (one-below (e .rnr))
 
 -- ---- the status word
 
@@ -90,27 +90,27 @@ module _ (e : Events) (c : CuState) (r : RuState) where
   status-below = joined-below (states c r) 12 (eventBits e) 4 (states-below c r) (events-below e)
 
   -- from bit 12 on, the events; below it the states, and below bit 8 RUS alone
-  upper : (k : ℕ) → field (statusWord e c r) (12 + k) 1 ≡ field (eventBits e) k 1
+  upper : (k : ℕ) → bitsAt (statusWord e c r) (12 + k) 1 ≡ bitsAt (eventBits e) k 1
   unfolding statusWord
-  upper k = field-above (states c r) 12 (eventBits e) k 1 (states-below c r)
+  upper k = bits-above (states c r) 12 (eventBits e) k 1 (states-below c r)
 
-  lower : (k bits : ℕ) → bits + k ≤ 12 → field (statusWord e c r) k bits ≡ field (states c r) k bits
+  lower : (k bits : ℕ) → bits + k ≤ 12 → bitsAt (statusWord e c r) k bits ≡ bitsAt (states c r) k bits
   unfolding statusWord
-  lower k bits h = field-kept (states c r) 12 (eventBits e) k bits h
+  lower k bits h = bits-kept (states c r) 12 (eventBits e) k bits h
 
-  lowest : (k bits : ℕ) → bits + k ≤ 8 → field (statusWord e c r) k bits ≡ field (low r) k bits
-  lowest k bits h = lower k bits (omega arith) ∙ field-kept (low r) 8 (cuNumber c) k bits h
+  lowest : (k bits : ℕ) → bits + k ≤ 8 → bitsAt (statusWord e c r) k bits ≡ bitsAt (low r) k bits
+  lowest k bits h = lower k bits (omega arith) ∙ bits-kept (low r) 8 (cuNumber c) k bits h
 
   -- its fields
-  pub status-events : field (statusWord e c r) 12 4 ≡ eventBits e
+  pub status-events : bitsAt (statusWord e c r) 12 4 ≡ eventBits e
   unfolding statusWord
-  status-events = field-of-joined (states c r) 12 (eventBits e) 4 (states-below c r) (events-below e)
+  status-events = bits-of-joined (states c r) 12 (eventBits e) 4 (states-below c r) (events-below e)
 
-  pub status-cus : field (statusWord e c r) 8 3 ≡ cuNumber c
-  status-cus = lower 8 3 (lit≤ tt) ∙ field-of-joined (low r) 8 (cuNumber c) 3 (low-below r) (cus-below c)
+  pub status-cus : bitsAt (statusWord e c r) 8 3 ≡ cuNumber c
+  status-cus = lower 8 3 (lit≤ tt) ∙ bits-of-joined (low r) 8 (cuNumber c) 3 (low-below r) (cus-below c)
 
-  pub status-rus : field (statusWord e c r) 4 3 ≡ ruNumber r
-  status-rus = lowest 4 3 (lit≤ tt) ∙ field-of-joined 0 4 (ruNumber r) 3 (lit< tt) (rus-below r)
+  pub status-rus : bitsAt (statusWord e c r) 4 3 ≡ ruNumber r
+  status-rus = lowest 4 3 (lit≤ tt) ∙ bits-of-joined 0 4 (ruNumber r) 3 (lit< tt) (rus-below r)
 
   -- its events, each in its bit
   pub status-cx : bit (statusWord e c r) 15 ≡ e .cx
@@ -126,14 +126,14 @@ module _ (e : Events) (c : CuState) (r : RuState) where
   status-rnr = rw (upper 0, bits-rnr e) (one-back (e .rnr))
 
   -- all else is zero
-  pub status-bit11 : field (statusWord e c r) 11 1 ≡ 0
-  status-bit11 = lower 11 1 (lit≤ tt) ∙ field-above (low r) 8 (cuNumber c) 3 1 (low-below r) ∙ field-past (cuNumber c) 3 1 (cus-below c)
+  pub status-bit11 : bitsAt (statusWord e c r) 11 1 ≡ 0
+  status-bit11 = lower 11 1 (lit≤ tt) ∙ bits-above (low r) 8 (cuNumber c) 3 1 (low-below r) ∙ bits-past (cuNumber c) 3 1 (cus-below c)
 
-  pub status-bit7 : field (statusWord e c r) 7 1 ≡ 0
-  status-bit7 = lowest 7 1 (lit≤ tt) ∙ field-above 0 4 (ruNumber r) 3 1 (lit< tt) ∙ field-past (ruNumber r) 3 1 (rus-below r)
+  pub status-bit7 : bitsAt (statusWord e c r) 7 1 ≡ 0
+  status-bit7 = lowest 7 1 (lit≤ tt) ∙ bits-above 0 4 (ruNumber r) 3 1 (lit< tt) ∙ bits-past (ruNumber r) 3 1 (rus-below r)
 
-  pub status-low : field (statusWord e c r) 0 4 ≡ 0
-  status-low = lowest 0 4 (lit≤ tt) ∙ field-kept 0 4 (ruNumber r) 0 4 (lit≤ tt) ∙ field-whole 0 4 (lit< tt)
+  pub status-low : bitsAt (statusWord e c r) 0 4 ≡ 0
+  status-low = lowest 0 4 (lit≤ tt) ∙ bits-kept 0 4 (ruNumber r) 0 4 (lit≤ tt) ∙ bits-whole 0 4 (lit< tt)
 
 -- ---- the interrupt
 
@@ -153,7 +153,7 @@ unfolding anyOf eventBits
 any-bits e = some (e .cx) (e .fr) (e .cna) (e .rnr)
 
 -- it is high exactly when bits 15-12 of the status word are not all zero
-pub interrupt : (e : Events) (c : CuState) (r : RuState) → anyOf e ≡ not (eqb (field (statusWord e c r) 12 4) 0)
+pub interrupt : (e : Events) (c : CuState) (r : RuState) → anyOf e ≡ not (eqb (bitsAt (statusWord e c r) 12 4) 0)
 interrupt e c r = rw (status-events e c r) (any-bits e)
 
 pub quiet : (e : Events) → anyOf e ≡ false → eventBits e ≡ 0

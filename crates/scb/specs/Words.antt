@@ -10,11 +10,11 @@ use Rattle.scb.specs.declared.RuState.the-variants as ru
 
 -- ---- where its words stand: +0 status, +2 command, +4 CBL offset, +6 RFA offset, +8 CRCERRS, +10 ALNERRS, +12 RSCERRS, +14 OVRNERRS
 
-abbrev pub statusAt : ℕ
-statusAt = 0
+abbrev pub scbStatusAt : ℕ
+scbStatusAt = 0
 
-abbrev pub commandAt : ℕ
-commandAt = 2
+abbrev pub scbCommandAt : ℕ
+scbCommandAt = 2
 
 abbrev pub cblAt : ℕ
 cblAt = 4
@@ -25,11 +25,11 @@ rfaAt = 6
 -- ---- fields of a word, one rule for every place and width
 
 -- the so many bits of w from bit at on
-unfoldable pub field : ℕ → ℕ → ℕ → ℕ
-field w at bits = w / 2 ^ at % 2 ^ bits
+unfoldable pub bitsAt : ℕ → ℕ → ℕ → ℕ
+bitsAt w at bits = w / 2 ^ at % 2 ^ bits
 
 abbrev pub bit : ℕ → ℕ → Bool
-bit w at = eqb (field w at 1) 1
+bit w at = eqb (bitsAt w at 1) 1
 
 -- the word w, all below bit at, with the number v from bit at on
 unfoldable pub joined : ℕ → ℕ → ℕ → ℕ
@@ -91,10 +91,10 @@ statusWord e c r = joined (joined (joined 0 4 (ruNumber r)) 8 (cuNumber c)) 12 (
 -- ---- the command word: 15-12 acknowledge, 10-8 CUC, 7 RESET, 6-4 RUC
 
 abbrev pub cuc : ℕ → ℕ
-cuc command = field command 8 3
+cuc command = bitsAt command 8 3
 
 abbrev pub resets : ℕ → Bool
 resets command = bit command 7
 
 abbrev pub ruc : ℕ → ℕ
-ruc command = field command 4 3
+ruc command = bitsAt command 4 3

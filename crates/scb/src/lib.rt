@@ -1,5 +1,5 @@
 // The words of the SCB: what its command word says, and where a control code takes a unit. It takes every word, and asks for a state's number
-// where a table has a place for each; specs/ says how the status word is made, which the room kept_attention does.
+// where a table has a place for each; specs/ says how the status word is made, which the room code_attention does.
 ghost use mathlib.Core.Path.{_≡_};
 ghost use Prim.Native.Nat.{_<_};
 ghost use Rattle.scb.specs.Words as words;
@@ -43,14 +43,14 @@ const CODE_BITS: u16 = 3;
 // Shift and mask: the `bits` bits of a word from bit `at` on.
 fn cut(w: u16, at: u16, bits: u16) -> u16
     requires { ⌜ (at < 16) × (bits < 16) ⌝ }
-    ensures { λ r. ⌜ r ≡ words.field w at bits ⌝ }
+    ensures { λ r. ⌜ r ≡ words.bitsAt w at bits ⌝ }
 {
     (w >> at) & ((1 << bits) - 1)
 }
 
-// The field of a word that begins at bit `at` and is `bits` bits wide. What of it lies past bit 15 is zero.
-pub fn field(w: u16, at: u16, bits: u16) -> u16
-    ensures { λ r. ⌜ r ≡ words.field w at bits ⌝ }
+// The bits of a word from bit `at` on, `bits` of them. What of it lies past bit 15 is zero.
+pub fn bits_at(w: u16, at: u16, bits: u16) -> u16
+    ensures { λ r. ⌜ r ≡ words.bitsAt w at bits ⌝ }
 {
     if at > 15 {
         return 0;
@@ -65,21 +65,21 @@ pub fn field(w: u16, at: u16, bits: u16) -> u16
 pub fn is_set(w: u16, at: u16) -> bool
     ensures { λ r. ⌜ r ≡ words.bit w at ⌝ }
 {
-    field(w, at, 1) == 1
+    bits_at(w, at, 1) == 1
 }
 
 // The control code for the command unit, CUC, of a command word.
 pub fn cu_control(w: u16) -> u16
     ensures { λ r. ⌜ r ≡ words.cuc w ⌝ }
 {
-    field(w, CUC, CODE_BITS)
+    bits_at(w, CUC, CODE_BITS)
 }
 
 // The control code for the receive unit, RUC, of a command word.
 pub fn ru_control(w: u16) -> u16
     ensures { λ r. ⌜ r ≡ words.ruc w ⌝ }
 {
-    field(w, RUC, CODE_BITS)
+    bits_at(w, RUC, CODE_BITS)
 }
 
 // Whether a command word asks for a reset.

@@ -3,7 +3,7 @@ use mathlib.Core.Bool.{Bool, true, false, cond}
 use Prim.Native.Nat.{ℕ, _+_, _*_, min}
 use lib.Dec.{eqb, ltb, leb}
 use Rattle.wording.specs.Names.{sizeOf}
-use Rattle.wording.specs.Words.{many}
+use Rattle.wording.specs.Spelling.{many}
 use Rattle.wording.specs.declared.Area.the-variants as area
 use Rattle.wording.specs.declared.Fault.{Fault}
 use Rattle.wording.specs.declared.Line.{Line}

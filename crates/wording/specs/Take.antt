@@ -8,7 +8,7 @@ use lib.ListN.{set, replicate}
 use lib.Seq.{sets}
 use Rattle.wording.specs.Chars.{counted}
 use Rattle.wording.specs.Names.{verbOf, areaOf, sizeOf}
-use Rattle.wording.specs.Words.{numberOf, many}
+use Rattle.wording.specs.Spelling.{numberOf, many}
 use Rattle.wording.specs.Lines.{faultAt, noFault, isVerb}
 use Rattle.wording.specs.declared.Area.{Area}
 use Rattle.wording.specs.declared.Found.{Found}

@@ -7,7 +7,7 @@ ghost use lib.ListN.{set, replicate};
 ghost use lib.Seq.{sets};
 ghost use Rattle.wording.specs.Chars as chars;
 ghost use Rattle.wording.specs.Names as names;
-ghost use Rattle.wording.specs.Words as words;
+ghost use Rattle.wording.specs.Spelling as words;
 ghost use Rattle.wording.specs.Lines as lines;
 
 // What a line does, by its first word.

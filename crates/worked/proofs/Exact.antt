@@ -12,7 +12,7 @@ use Rattle.chip.specs.Cases.{Word, _is_, put, startOn}
 use Rattle.chip.specs.Call.{attention, arrive, turn}
 use Rattle.chip.specs.World.{World}
 use Rattle.traces.specs.Event.{Event, call, host, step, isTurn}
-use Rattle.progress.specs.Machine.{Kept, Mays, log, run, turns}
+use Rattle.progress.specs.Machine.{Undisturbed, Mays, log, run, turns}
 use Rattle.lists.specs.Uses.{Listed, firstOf, NoClash}
 use Rattle.lists.specs.Unit.{machine, began, ended}
 use Rattle.lists.specs.Done.{Calm, Starts, Done, bytesOf}
@@ -27,7 +27,7 @@ pub record PremisesBy (least : ℕ → ℕ) (bs : List ℕ) (es : List Event) (v
   pub size : 8192 ≤ length (v .memory)
   pub apart : NoClash (length (v .memory)) (v .device .units .base) (v .memory) bs
   pub events : Mays (machine Calm) es v
-  pub kept : Kept (machine Calm) (bytesOf v bs) es v
+  pub kept : Undisturbed (machine Calm) (bytesOf v bs) es v
   pub turns : least (length bs) ≤ turns (λ e x. isTurn e) step es v
 
 abbrev pub FirstHalf : (ℕ → ℕ) → Type 0
@@ -86,7 +86,7 @@ abbrev one : ℕ → List Event
 one k = frame ∷ replicate k (call (turn 0))
 
 -- its 64 descriptors are one
-one-kept : Kept (machine Calm) (bytesOf alone (0x18 ∷ [])) (one 131) alone
+one-kept : Undisturbed (machine Calm) (bytesOf alone (0x18 ∷ [])) (one 131) alone
 unfolding keptb
 one-kept =
     kept-sub (bytesOf alone (0x18 ∷ [])) addresses (one 131) alone (sub-ok (bytesOf alone (0x18 ∷ [])) addresses tt)
@@ -138,7 +138,7 @@ addresses₂ =
     0x54 ∷ 0x55 ∷ 0x56 ∷ 0x57 ∷ 0x58 ∷ 0x59 ∷ 0x5A ∷ 0x5B ∷ 0x5C ∷ 0x5D ∷ 0x5E ∷ 0x5F ∷ 0x60 ∷ 0x61 ∷ 0x62 ∷ 0x63
     ∷ addresses
 
-two-kept : Kept (machine Calm) (bytesOf pair both) (two 132) pair
+two-kept : Undisturbed (machine Calm) (bytesOf pair both) (two 132) pair
 unfolding keptb
 two-kept =
     kept-sub (bytesOf pair both) addresses₂ (two 132) pair (sub-ok (bytesOf pair both) addresses₂ tt)

@@ -14,7 +14,7 @@ use Rattle.image.specs.Image.{imageOf}
 use Rattle.image.proofs.Exact.{image-bytes, fresh-range, fresh-wide}
 use Rattle.chip.specs.Cases.{_is_, put}
 use Rattle.chip.specs.Call.{attention, turn}
-use Rattle.calls.specs.Calls.{Areas, areasOf, packed, refusalOf, turnCall}
+use Rattle.calls.specs.Calls.{Areas, areasOf, answerNumber, refusalOf, turnCall}
 use Rattle.traces.specs.Bytes.{called}
 use Rattle.traces.specs.Event.{Event, call, host, step}
 use Rattle.progress.specs.Machine.{run}
@@ -116,7 +116,7 @@ abbrev pub stray : Lending
 stray = record { made = turn 0; lent = areasOf [] [] [] [] }
 
 stray-refused : refusedAt stray ≡ true
-unfolding turnCall refusalOf packed sizeAllowed
+unfolding turnCall refusalOf answerNumber sizeAllowed
 stray-refused = refl
 
 abbrev pub worked : List Lending

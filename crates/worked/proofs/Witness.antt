@@ -12,7 +12,7 @@ use Rattle.chip.specs.Cases.{Word, _is_, put, startOn}
 use Rattle.chip.specs.Call.{attention, arrive, turn}
 use Rattle.chip.specs.World.{World}
 use Rattle.traces.specs.Event.{Event, call, host, step}
-use Rattle.progress.specs.Machine.{Kept, Mays, log, run, turns}
+use Rattle.progress.specs.Machine.{Undisturbed, Mays, log, run, turns}
 use Rattle.lists.specs.Unit.{machine, began, ended}
 use Rattle.lists.specs.Done.{Calm, Starts, Started, Premises, Done, bytesOf}
 use Rattle.lists.proofs.Laws.{calm-laws}
@@ -101,7 +101,7 @@ busy = early ++ (writes middle ∷ late)
 abbrev pub trace : List Event
 trace = busy ++ replicate 383 (call (turn 0))
 
-kept-busy : Kept (machine Calm) (bytesOf begun three) busy begun
+kept-busy : Undisturbed (machine Calm) (bytesOf begun three) busy begun
 unfolding keptb
 kept-busy = kept-ok (bytesOf begun three) busy begun tt
 

@@ -11,6 +11,6 @@ decode-spec =
     (tie.spec
     (λ c κs. search needs)
     (λ c κs. search needs)
-    (λ c. let s : tie.Start = search needs in rw (c .kept-at .ensures) (decoded-units (s .args .r .now) (c .before .before .before .if1 .taken) (sym (c .before .before .is-image .ensures) ∙ c .before .if2 .taken)))
+    (λ c. let s : tie.Start = search needs in rw (c .packed-at .ensures) (decoded-units (s .args .r .now) (c .before .before .before .if1 .taken) (sym (c .before .before .is-image .ensures) ∙ c .before .if2 .taken)))
     (λ c. let s : tie.Start = search needs in decoded-foreign (s .args .r .now) (c .before .before .if1 .taken) (sym (c .before .is-image .ensures) ∙ c .if2 .left))
     (λ c. let s : tie.Start = search needs in decoded-other (s .args .r .now) (c .if1 .left)))

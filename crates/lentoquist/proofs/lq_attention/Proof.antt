@@ -1,7 +1,7 @@
 -- `lentoquist::lq_attention` meets its promise. Assumes nothing.
 use mathlib.Core.Path.{_≡_, sym}
 use Rattle.calls.specs.Calls.{areasOf}
-use Rattle.kept_calls.proofs.Asks.{asks-attention, as-said}
+use Rattle.code_calls.proofs.Asks.{asks-attention, as-said}
 use borrow.Author.Needs.{needs}
 use Rattle.lentoquist.proofs.lq_attention.Statement.{statement}
 use Rattle.lentoquist.proofs.lq_attention.Tie as tie

@@ -1,7 +1,7 @@
 -- `lentoquist::lq_turn` meets its promise: a run of one turn, uncounted, is a turn. Assumes nothing.
 use mathlib.Core.Path.{_≡_, sym}
 use Rattle.calls.specs.Calls.{areasOf}
-use Rattle.kept_calls.proofs.Asks.{asks-turn, as-said}
+use Rattle.code_calls.proofs.Asks.{asks-turn, as-said}
 use borrow.Author.Needs.{needs}
 use Rattle.lentoquist.proofs.lq_turn.Statement.{statement}
 use Rattle.lentoquist.proofs.lq_turn.Tie as tie

@@ -1,4 +1,4 @@
-use Rattle.scb.proofs.Fields.{mask-room, field-law}
+use Rattle.scb.proofs.Fields.{mask-room, bits-law}
 use borrow.Author.Needs.{needs}
 use Rattle.scb.proofs.cut.Statement.{statement}
 use Rattle.scb.proofs.cut.Tie as tie
@@ -10,4 +10,4 @@ cut-spec =
     (λ c. search needs)
     (λ c. search needs)
     (λ c. mask-room (c .args .bits) (c .pre .1))
-    (λ c. field-law (c .args .w) (c .args .at) (c .args .bits) (c .pre .1)))
+    (λ c. bits-law (c .args .w) (c .args .at) (c .args .bits) (c .pre .1)))

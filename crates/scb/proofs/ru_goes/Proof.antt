@@ -1,7 +1,7 @@
 -- `scb::ru_goes` meets its contract: the entry of the table at the code and the state. Assumes nothing.
 use native.Mathlib.Omega.{arith}
 use Rattle.scb.specs.Words.{ruc}
-use Rattle.scb.proofs.Fields.{field-below}
+use Rattle.scb.proofs.Fields.{bits-below}
 use Rattle.scb.proofs.Tables.{ru-table}
 use borrow.Author.Needs.{needs}
 use Rattle.scb.proofs.ru_goes.Statement.{statement}
@@ -13,7 +13,7 @@ ru-goes-spec =
     (tie.spec
     (λ c κs. search needs)
     (λ c. search needs)
-    (λ c. omega (arith, field-below (c .before .args .command) 4 3))
+    (λ c. omega (arith, bits-below (c .before .args .command) 4 3))
     (λ c. search needs)
     (λ c. search needs)
-    (λ c. λ x e. rw (e, c .ru-control .ensures) (ru-table (ruc (c .before .args .command)) x (field-below (c .before .args .command) 4 3))))
+    (λ c. λ x e. rw (e, c .ru-control .ensures) (ru-table (ruc (c .before .args .command)) x (bits-below (c .before .args .command) 4 3))))

@@ -1,5 +1,5 @@
 -- `wording::after_count` meets its contract. Assumes nothing.
-use Rattle.wording.specs.Words.{afterCount}
+use Rattle.wording.specs.Spelling.{afterCount}
 use borrow.Author.Needs.{needs}
 use Rattle.wording.proofs.after_count.Statement.{statement}
 use Rattle.wording.proofs.after_count.Tie as tie

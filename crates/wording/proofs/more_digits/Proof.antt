@@ -1,5 +1,5 @@
 -- `wording::more_digits` meets its contract. Assumes nothing.
-use Rattle.wording.specs.Words.{moreDigits}
+use Rattle.wording.specs.Spelling.{moreDigits}
 use borrow.Author.Needs.{needs}
 use Rattle.wording.proofs.more_digits.Statement.{statement}
 use Rattle.wording.proofs.more_digits.Tie as tie

@@ -1,6 +1,6 @@
 -- `wording::more_piece` meets its contract. Assumes nothing.
 use borrow.Author.Tests.{lt-ltb, le-ltb}
-use Rattle.wording.specs.Words.{morePiece}
+use Rattle.wording.specs.Spelling.{morePiece}
 use borrow.Author.Needs.{needs}
 use Rattle.wording.proofs.more_piece.Statement.{statement}
 use Rattle.wording.proofs.more_piece.Tie as tie

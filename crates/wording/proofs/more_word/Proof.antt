@@ -1,5 +1,5 @@
 -- `wording::more_word` meets its contract. Assumes nothing.
-use Rattle.wording.specs.Words.{moreWord}
+use Rattle.wording.specs.Spelling.{moreWord}
 use borrow.Author.Needs.{needs}
 use Rattle.wording.proofs.more_word.Statement.{statement}
 use Rattle.wording.proofs.more_word.Tie as tie

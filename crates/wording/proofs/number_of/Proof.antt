@@ -1,5 +1,5 @@
 -- `wording::number_of` meets its contract. Assumes nothing.
-use Rattle.wording.specs.Words.{numberOf}
+use Rattle.wording.specs.Spelling.{numberOf}
 use borrow.Author.Needs.{needs}
 use Rattle.wording.proofs.number_of.Statement.{statement}
 use Rattle.wording.proofs.number_of.Tie as tie

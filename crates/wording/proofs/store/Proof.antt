@@ -1,6 +1,6 @@
 -- `wording::store` meets its contract. Assumes nothing.
 use borrow.Author.Tests.{lt-ltb, le-ltb}
-use Rattle.wording.specs.Words.{store}
+use Rattle.wording.specs.Spelling.{store}
 use borrow.Author.Needs.{needs}
 use Rattle.wording.proofs.store.Statement.{statement}
 use Rattle.wording.proofs.store.Tie as tie

@@ -1,0 +1,202 @@
+// The actions of the commands over lent bytes: what each reads from its block, puts into the setup or into memory, and its status.
+// It takes every memory and a setup of 104 bytes; the definitions are those of the crate `actions`, in document 01's order.
+use memory::Offset;
+use memory::RealAddress;
+ghost use mathlib.Core.Path.{_≡_};
+ghost use Prim.Native.Nat.{_<_};
+ghost use lib.ListN.{length};
+ghost use Rattle.device.specs.Numbers.{actionOf};
+ghost use Rattle.device.specs.declared.Settings.{Settings};
+ghost use Rattle.actions.specs.Setup.{Setup};
+ghost use Rattle.actions.specs.Actions as actions;
+ghost use Rattle.packed.specs.SetUp.{settingsByte, SetIs};
+ghost use Rattle.code_actions.specs.Acts as acts;
+
+// The commands' own fields: the argument, and the addresses of an MC-Setup.
+const ARGUMENT: u16 = 6;
+
+const ADDRESSES: u16 = 8;
+
+// A setup: a byte of settings, one of the minimum length, six of the own address, then the listed addresses.
+const SETTINGS: usize = 0;
+
+const MINIMUM: usize = 1;
+
+const OWN: usize = 2;
+
+const LISTED: usize = 8;
+
+const LISTED_SIZE: usize = 96;
+
+// What an action comes to besides the lent bytes: the status, the length sent.
+pub struct Done {
+    pub status: u16,
+    pub length: u16,
+}
+
+const DONE: u16 = 0xA000;
+
+const FAILED: u16 = 0x8000;
+
+// A status and a length.
+pub fn plainly(status: u16, length: u16) -> Done
+    ensures { λ r. ⌜ r ≡ acts.plain status length ⌝ }
+{
+    Done {
+        status: status,
+        length: length,
+    }
+}
+
+// IA-Setup: six bytes at +6 become the own address.
+fn ia_setup(memory: &[u8], base: RealAddress, setup: &mut [u8], block: Offset) -> Done
+    ensures { λ r. ⌜ ((s : Setup) → SetIs s (now (setup .entry)) → acts.Sets (actions.iaSetup base s block (now (memory .entry))) r (now (setup .exit))) ⌝ }
+{
+    copies::copy_out(memory, memory::place(base, block, ARGUMENT), 6, setup, OWN);
+    plainly(DONE, 0)
+}
+
+// The byte count of a Configure: the low 4 bits, below 4 taken as 4, above 12 as 12.
+fn clamp(byte: u8) -> u16
+    ensures { λ r. ⌜ r ≡ actions.clamped byte ⌝ }
+{
+    let count = scb::bits_at(byte as u16, 0, 4);
+    if count < 4 {
+        return 4;
+    }
+    if 12 < count {
+        return 12;
+    }
+    count
+}
+
+// Whether this project takes byte 3: address length 6, addresses in the block, no loopback.
+fn is_acceptable(byte: u8) -> bool
+    ensures { λ r. ⌜ r ≡ actions.acceptable byte ⌝ }
+{
+    let b = byte as u16;
+    (scb::bits_at(b, 0, 3) == 6) & !scb::is_set(b, 3) & !scb::is_set(b, 6) & !scb::is_set(b, 7)
+}
+
+// Byte k of a Configure: its byte 0 is at +6.
+fn byte_of(memory: &[u8], base: RealAddress, block: Offset, k: u16) -> u8
+    requires { ⌜ k < 12 ⌝ }
+    ensures { λ r. ⌜ r ≡ actions.byteOf base block (now (memory .entry)) k ⌝ }
+{
+    memory::byte_at(memory, memory::place(base, block, ARGUMENT + k))
+}
+
+// The settings byte after a Configure: bit 0 is bit 7 of byte 2; above it stand bits 0 and 1 of byte 8 if that is taken, else what was kept.
+fn settings_by(memory: &[u8], base: RealAddress, block: Offset, count: u16, kept: u8) -> u8
+    ensures { λ r. ⌜ ((s : Settings) → kept ≡ settingsByte s → r ≡ settingsByte (actions.settingsBy count (actions.byteOf base block (now (memory .entry))) s)) ⌝ }
+{
+    let save = byte_of(memory, base, block, 2) / 128;
+    if 8 < count {
+        return save + byte_of(memory, base, block, 8) % 4 * 2;
+    }
+    save + kept / 2 * 2
+}
+
+// The minimum length after a Configure: byte 10 if that is taken, else what was kept.
+fn minimum_by(memory: &[u8], base: RealAddress, block: Offset, count: u16, kept: u8) -> u8
+    ensures { λ r. ⌜ ((s : Settings) → kept ≡ s .minimum → r ≡ actions.settingsBy count (actions.byteOf base block (now (memory .entry))) s .minimum) ⌝ }
+{
+    if 10 < count {
+        return byte_of(memory, base, block, 10);
+    }
+    kept
+}
+
+// Configure: 8000h and nothing changed, if byte 3 is not acceptable.
+fn configure(memory: &[u8], base: RealAddress, setup: &mut [u8], block: Offset) -> Done
+    requires { ⌜ length (now setup) ≡ 104 ⌝ }
+    ensures { λ r. ⌜ ((s : Setup) → SetIs s (now (setup .entry)) → acts.Sets (actions.configure base s block (now (memory .entry))) r (now (setup .exit))) ⌝ }
+{
+    if is_acceptable(byte_of(memory, base, block, 3)) {
+        let count = clamp(byte_of(memory, base, block, 0));
+        setup[SETTINGS] = settings_by(memory, base, block, count, setup[SETTINGS]);
+        setup[MINIMUM] = minimum_by(memory, base, block, count, setup[MINIMUM]);
+        return plainly(DONE, 0);
+    }
+    plainly(FAILED, 0)
+}
+
+// How many addresses an MC-Setup brings: the low 14 bits at +6 count bytes, a remainder ignored.
+fn groups(memory: &[u8], base: RealAddress, block: Offset) -> u16
+    ensures { λ r. ⌜ r ≡ actions.groups base block (now (memory .entry)) ⌝ }
+{
+    scb::bits_at(
+        memory::word_at(memory, memory::place(base, block, ARGUMENT)),
+        0,
+        14,
+    )
+        / 6
+}
+
+// MC-Setup: the list is n addresses from +8 on, the unused slots zero; above 16 addresses 8000h, and the old list kept.
+fn mc_setup(memory: &[u8], base: RealAddress, setup: &mut [u8], block: Offset) -> Done
+    requires { ⌜ length (now setup) ≡ 104 ⌝ }
+    ensures { λ r. ⌜ ((s : Setup) → SetIs s (now (setup .entry)) → acts.Sets (actions.mcSetup base s block (now (memory .entry))) r (now (setup .exit))) ⌝ }
+{
+    let n = groups(memory, base, block);
+    if n <= 16 {
+        numerals::clear(setup, LISTED, LISTED_SIZE);
+        copies::copy_out(
+            memory,
+            memory::place(base, block, ADDRESSES),
+            n as usize * 6,
+            setup,
+            LISTED,
+        );
+        return plainly(DONE, 0);
+    }
+    plainly(FAILED, 0)
+}
+
+// TDR: the word at +6 becomes 8000h.
+fn tdr(memory: &mut [u8], base: RealAddress, block: Offset) -> Done
+    ensures { λ r. ⌜ ((s : Setup) → acts.Writes (actions.tdr base s block) (now (memory .entry)) r (now (memory .exit))) ⌝ }
+{
+    memory::put_word(memory, memory::place(base, block, ARGUMENT), 0x8000);
+    plainly(DONE, 0)
+}
+
+// The action of a begun command, by its number. No command before its end has 4, a Transmit's.
+pub fn act(memory: &mut [u8], base: RealAddress, setup: &mut [u8], kind: u64, block: Offset) -> Done
+    requires { ⌜ length (now setup) ≡ 104 ⌝ }
+    ensures { λ r. ⌜ ((s : Setup) → SetIs s (now (setup .entry)) → acts.Acts (actions.act (actionOf kind) base s block (now (memory .entry))) (now (memory .entry)) r (now (memory .exit)) (now (setup .exit))) ⌝ }
+{
+    match kind {
+        0 => plainly(DONE, 0),
+        1 => ia_setup(memory, base, setup, block),
+        2 => configure(memory, base, setup, block),
+        3 => mc_setup(memory, base, setup, block),
+        5 => tdr(memory, base, block),
+        6 => plainly(FAILED, 0),
+        _ => plainly(DONE, 0),
+    }
+}
+
+// The bits of the line report that are set in the status: 10, 9, 7, 6, 5, 3-0.
+fn reported(report: u16) -> u16
+    ensures { λ r. ⌜ (r ≡ actions.reported report) × (r < 2048) ⌝ }
+{
+    scb::bits_at(report, 9, 2) * 512 + scb::bits_at(report, 5, 3) * 32 + scb::bits_at(report, 0, 4)
+}
+
+// Whether the line sent the frame: bits 10, 9 and 5 are clear.
+fn is_sent(report: u16) -> bool
+    ensures { λ r. ⌜ r ≡ actions.isSent report ⌝ }
+{
+    !(scb::is_set(report, 10) | scb::is_set(report, 9) | scb::is_set(report, 5))
+}
+
+// A whole Transmit, by the line report: C with the report's bits; OK and the length exactly if it was sent.
+pub fn send(filled: u16, report: u16) -> Done
+    ensures { λ r. ⌜ ((s : Setup) → acts.Tells (actions.sent s filled report) r) ⌝ }
+{
+    if is_sent(report) {
+        return plainly(DONE + reported(report), filled);
+    }
+    plainly(FAILED + reported(report), 0)
+}

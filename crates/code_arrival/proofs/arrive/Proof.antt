@@ -1,0 +1,80 @@
+-- `code_arrival::arrive` meets its contract. Assumes nothing.
+use mathlib.Core.Path.{_≡_, _∙_, sym}
+use mathlib.Core.Bool.{true, false}
+use borrow.Author.Tests.{le-ltb}
+use Rattle.device.specs.Answers.{isHeld}
+use Rattle.receive.specs.Arrival.{judged, fateIn, fateOf, arrival, holding}
+use Rattle.phases.specs.Phases.{ruTag}
+use Rattle.packed.proofs.Laws.{ru-is, base-is, scb-is}
+use Rattle.code_arrival.proofs.Laws.{offset-same, real-same}
+use Rattle.code_arrival.proofs.Units.{judged-below, frame-back, held-unit}
+use borrow.Author.Needs.{needs}
+use Rattle.code_arrival.proofs.arrive.Statement.{statement}
+use Rattle.code_arrival.proofs.arrive.Tie as tie
+
+pub arrive-spec : {M : Type 1} → statement M
+unfolding arrival fateOf
+arrive-spec =
+    tie.close
+    (tie.spec
+    (λ c κs. search needs)
+    (λ c κs. search needs)
+    (λ c κs. search needs)
+    (λ c κs. search needs)
+    (λ c κs. search needs)
+    (λ c κs. search needs)
+    (λ c κs. search needs)
+    (λ c κs. search needs)
+    (λ c. search needs)
+    (λ c κs. search needs)
+    (λ c. search needs)
+    (λ c. search needs)
+    (λ c u s h hs e.
+    let put-run = c .before .before .before .before in
+    let if1 = put-run .before .before in
+    let is-held = if1 .before in
+    let count = is-held .before .before .before in
+    let counter-for = count .before in
+    let scb = counter-for .before in
+    let base = scb .before in
+    let ru-tag = base .before .before in
+    let judge = ru-tag .before in
+    let start = judge .before .before .before .before .before in
+    let k = start .args .k in
+    let j = judged (u .settings) (start .args .frame .now) (start .args .verdict) in
+    let n = rw e at (judge .judge .ensures .1 s hs) in
+    let b = frame-back _ j n (judged-below _ _ _) in
+    let r = ru-is u k h in
+    let t : ru-tag .ru-tag .result ≡ ruTag (u .ru) = ru-tag .ru-tag .ensures ∙ r .tag-is in
+    let q : isHeld (fateIn (u .ru) j) ≡ true = sym (rw b at (is-held .is-held .ensures (u .ru) t)) ∙ if1 .if1 .taken in
+    let p = rw b at (counter-for .counter-for .ensures (u .ru) t) in
+    rw (le-ltb _ 14 (start .pre .1))
+    (record {
+      units = rw q (c .with-ru .ensures u (holding (u .ru) j) h (rw n (held-unit (u .ru) _ _ _ j r q (judged-below _ _ _))));
+      memory = rw (← real-same _ (u .base) (base .base .ensures ∙ base-is u k h), ← offset-same _ (u .scb) (scb .scb .ensures ∙ scb-is u k h)) (count .count .ensures _ p);
+      holding = rw q (put-run .put-run .ensures);
+    }))
+    (λ c. search needs)
+    (λ c u s h hs e.
+    let is-held = c .before in
+    let count = is-held .before .before .before in
+    let counter-for = count .before in
+    let scb = counter-for .before in
+    let base = scb .before in
+    let ru-tag = base .before .before in
+    let judge = ru-tag .before in
+    let start = judge .before .before .before .before .before in
+    let k = start .args .k in
+    let j = judged (u .settings) (start .args .frame .now) (start .args .verdict) in
+    let n = rw e at (judge .judge .ensures .1 s hs) in
+    let b = frame-back _ j n (judged-below _ _ _) in
+    let r = ru-is u k h in
+    let t : ru-tag .ru-tag .result ≡ ruTag (u .ru) = ru-tag .ru-tag .ensures ∙ r .tag-is in
+    let q : isHeld (fateIn (u .ru) j) ≡ false = sym (rw b at (is-held .is-held .ensures (u .ru) t)) ∙ c .if1 .left in
+    let p = rw b at (counter-for .counter-for .ensures (u .ru) t) in
+    rw (le-ltb _ 14 (start .pre .1))
+    (record {
+      units = rw q h;
+      memory = rw (← real-same _ (u .base) (base .base .ensures ∙ base-is u k h), ← offset-same _ (u .scb) (scb .scb .ensures ∙ scb-is u k h)) (count .count .ensures _ p);
+      holding = rw q;
+    })))

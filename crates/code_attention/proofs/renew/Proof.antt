@@ -1,0 +1,26 @@
+-- `code_attention::renew` meets its contract: a run over all of the setup. Assumes nothing.
+use mathlib.Core.Path.{_∙_}
+use Rattle.device.specs.State as states
+use Rattle.actions.specs.Setup.{setupOf}
+use Rattle.packed.specs.SetUp.{setupBytes}
+use Rattle.code_attention.proofs.States.{run-over}
+use borrow.Author.Needs.{needs}
+use Rattle.code_attention.proofs.renew.Statement.{statement}
+use Rattle.code_attention.proofs.renew.Tie as tie
+
+pub renew-spec : {M : Type 1} → statement M
+unfolding setupBytes
+renew-spec =
+    tie.close
+    (tie.spec
+    (λ c. search needs)
+    (λ c. search needs)
+    (λ c. search needs)
+    (λ c. search needs)
+    (λ c. search needs)
+    (λ c. search needs)
+    (λ c. search needs)
+    (λ c. search needs)
+    (λ c κs. search needs)
+    (λ c. search needs)
+    (λ c. λ e. c .before .before .put-run .ensures ∙ run-over (setupBytes (setupOf states.fresh)) (c .before .before .before .before .before .before .args .setup .now) e))

@@ -1,0 +1,212 @@
+// The code of the calls, of which lentoquist offers C each by its name: refusals first, then the chip under the record's image. They take slices
+// of every length and every content. The room calls says what each answers and leaves in every lent byte.
+use device::Answer;
+use device::Refusal;
+use image::Decoded;
+use packed::Packed;
+ghost use mathlib.Core.Path.{_≡_};
+ghost use mathlib.Core.Bool.{true};
+ghost use Prim.Native.Nat.{_+_, _*_, _<_, _≤_};
+ghost use lib.Dec.{leb};
+ghost use lib.ListN.{length};
+ghost use Rattle.memory.specs.Size.{sizeAllowed};
+ghost use Rattle.scb.specs.Words as words;
+ghost use Rattle.device.specs.Answers as answers;
+ghost use Rattle.device.specs.Limits.{longest};
+ghost use Rattle.device.specs.declared.Units.{Units};
+ghost use Rattle.calls.specs.Calls as calls;
+ghost use Rattle.code_calls.specs.Inner as inner;
+
+// ---- the answer as one number
+
+fn one(b: bool) -> u64
+    ensures { λ r. ⌜ (r ≡ words.one b) × (r < 2) ⌝ }
+{
+    if b { 1 } else { 0 }
+}
+
+// Number in bits 0 to 15, length in 16 to 31, edge in 32.
+fn answer_number(a: Answer) -> u64
+    ensures { λ r. ⌜ r ≡ calls.answerNumber a ⌝ }
+{
+    let number = a.number;
+    device::refusal_number(number) as u64 + a.length as u64 * 65536 + one(a.edge) * 4294967296
+}
+
+// The answer of a refused call: its number, length 0, no edge.
+fn refuse(r: Refusal) -> u64
+    ensures { λ x. ⌜ x ≡ calls.answerNumber (calls.refusedAnswer r) ⌝ }
+{
+    answer_number(Answer {
+        number: r,
+        length: 0,
+        edge: false,
+    })
+}
+
+// Whether the areas beside memory have their lengths.
+fn lengths_right(holding: usize, outgoing: usize, kept: usize) -> bool
+    ensures { λ r. ⌜ r ≡ calls.lengthsRight holding outgoing kept ⌝ }
+{
+    (kept == 256) & (holding == 2048) & (outgoing == 2048)
+}
+
+// Why a call is refused, if it is not for its record: the lowest number that applies, by the lengths of what is lent and of the frame.
+fn refusal(memory: usize, holding: usize, outgoing: usize, kept: usize, frame: usize) -> Refusal
+    ensures { λ r. ⌜ r ≡ calls.refusedBy (sizeAllowed memory) (calls.lengthsRight holding outgoing kept) (leb frame longest) true ⌝ }
+{
+    if !memory::size_allowed(memory) {
+        return Refusal::Memory;
+    }
+    if !lengths_right(holding, outgoing, kept) {
+        return Refusal::Area;
+    }
+    if frame > 2048 {
+        return Refusal::Overlong;
+    }
+    Refusal::Accepted
+}
+
+// The answer of a call that is not refused and sends nothing.
+fn answer_of(edge: bool) -> u64
+    ensures { λ x. ⌜ x ≡ calls.answerNumber (answers.answered 0 edge) ⌝ }
+{
+    answer_number(Answer {
+        number: Refusal::Accepted,
+        length: 0,
+        edge: edge,
+    })
+}
+
+// ---- the calls on a record that is an image: the setup is lent as it stands there, the units' numbers go back at the end
+
+// Where in a record the setup begins; it goes on to the end.
+const SETUP: usize = 152;
+
+const RECORD: usize = 256;
+
+// Where in an answer stands what a turn tells.
+const TOLD: u64 = 65536;
+
+// An attention to the device of the numbers k.
+fn attention_on(memory: &mut [u8], kept: &mut [u8], k: Packed) -> u64
+    requires { ⌜ length (now kept) ≡ 256 ⌝ }
+    ensures { λ r. ⌜ ((u : Units) → inner.Finds (now (kept .entry)) k u → inner.AttendsOn u (now (memory .entry)) (now (kept .entry)) r (now (memory .exit)) (now (kept .exit))) ⌝ }
+{
+    let a = code_attention::attend(memory, &mut kept[SETUP..RECORD], k);
+    let after = a.kept;
+    image::store(kept, after);
+    answer_of(a.edge)
+}
+
+// A frame that arrives at the device of the numbers k.
+fn arrival_on(
+    memory: &mut [u8],
+    holding: &mut [u8],
+    kept: &mut [u8],
+    k: Packed,
+    frame: &[u8],
+    verdict: u32,
+) -> u64
+    requires { ⌜ length (now kept) ≡ 256 ⌝ }
+    ensures { λ r. ⌜ ((u : Units) → inner.Finds (now (kept .entry)) k u → inner.ArrivesOn u (now (memory .entry)) (now (holding .entry)) (now (kept .entry)) (now (frame .entry)) verdict r (now (memory .exit)) (now (holding .exit)) (now (kept .exit))) ⌝ }
+{
+    let after = code_chip::arrival(memory, holding, &kept[SETUP..RECORD], k, frame, verdict);
+    image::store(kept, after);
+    answer_of(false)
+}
+
+// The answer of turns: what the last one told, and as many units as turns.
+fn answer_told(told: u32, taken: u16, unit: u64) -> u64
+    requires { ⌜ unit ≤ 281474976710656 ⌝ }
+    ensures { λ r. ⌜ r ≡ told * 65536 + taken * unit ⌝ }
+{
+    told as u64 * TOLD + taken as u64 * unit
+}
+
+// Turns of the device of the numbers k. Each adds `unit` to the answer.
+fn turns_on(
+    memory: &mut [u8],
+    holding: &[u8],
+    outgoing: &mut [u8],
+    kept: &mut [u8],
+    k: Packed,
+    report: u16,
+    budget: u16,
+    unit: u64,
+) -> u64
+    requires { ⌜ (length (now kept) ≡ 256) × (unit ≤ 281474976710656) ⌝ }
+    ensures { λ r. ⌜ ((u : Units) → inner.Finds (now (kept .entry)) k u → inner.RunsOn u (now (memory .entry)) (now (holding .entry)) (now (outgoing .entry)) (now (kept .entry)) report budget unit r (now (memory .exit)) (now (outgoing .exit)) (now (kept .exit))) ⌝ }
+{
+    let t = code_chip::run(
+        memory,
+        holding,
+        outgoing,
+        &mut kept[SETUP..RECORD],
+        k,
+        report,
+        budget,
+    );
+    let after = t.kept;
+    image::store(kept, after);
+    answer_told(t.told, t.taken, unit)
+}
+
+// ---- the calls
+
+// Reset takes the record alone, ignores its content and writes a fresh one.
+pub fn reset(kept: &mut [u8]) -> u64
+    ensures { λ r. ⌜ calls.Renews (calls.resetCall (now (kept .entry))) r (now (kept .exit)) ⌝ }
+{
+    if kept.len() == 256 {
+        image::renew(kept);
+        return answer_of(false);
+    }
+    refuse(Refusal::Area)
+}
+
+// What is asked of the chip.
+pub enum Asked {
+    Attention,
+    Arrival,
+    Turns,
+}
+
+// Every call but reset: refusals first, then what is asked. `line` is what the line side tells, an arrival's verdict or the report of turns;
+// `frame` is an arrival's, else empty; `budget` and `unit` are those of turns.
+pub fn call(
+    memory: &mut [u8],
+    holding: &mut [u8],
+    outgoing: &mut [u8],
+    kept: &mut [u8],
+    asked: Asked,
+    frame: &[u8],
+    line: u32,
+    budget: u16,
+    unit: u64,
+) -> u64
+    requires { ⌜ unit ≤ 281474976710656 ⌝ }
+    ensures { λ r. ⌜ calls.Calls (inner.askedCall asked (calls.areasOf (now (memory .entry)) (now (holding .entry)) (now (outgoing .entry)) (now (kept .entry))) (now (frame .entry)) line budget unit) r (now (memory .exit)) (now (holding .exit)) (now (outgoing .exit)) (now (kept .exit)) ⌝ }
+{
+    let r = refusal(
+        memory.len(),
+        holding.len(),
+        outgoing.len(),
+        kept.len(),
+        frame.len(),
+    );
+    if device::refusal_number(r) != 0 {
+        return refuse(r);
+    }
+    let Decoded::Units(k) = image::decode(kept) else {
+        return refuse(Refusal::Foreign);
+    };
+    match asked {
+        Asked::Attention => attention_on(memory, kept, k),
+        Asked::Arrival => arrival_on(memory, holding, kept, k, &frame[..], line),
+        Asked::Turns => {
+            let report = (line % 65536) as u16;
+            turns_on(memory, holding, outgoing, kept, k, report, budget, unit)
+        }
+    }
+}

@@ -1,0 +1,73 @@
+-- A turn, a run and an arrival in numbers: the crate chip says what is done, and here stands that the numbers, the answer and every lent byte
+-- afterwards are those. Assumes nothing.
+use mathlib.Core.Path.{_≡_}
+use mathlib.Core.Bool.{Bool, false, not, _&&_, _||_}
+use mathlib.Core.List.{List}
+use Prim.Native.Nat.{ℕ, _+_, _*_}
+use Rattle.memory.specs.Memory.{apply}
+use Rattle.scb.specs.Words.{anyOf, one}
+use Rattle.scb.specs.declared.Events.{Events}
+use Rattle.device.specs.Answers.{answered}
+use Rattle.device.specs.State.{cuState, isActive, isHolding}
+use Rattle.device.specs.declared.Answer.{Answer}
+use Rattle.device.specs.declared.Units.{Units}
+use Rattle.actions.specs.Setup.{setupOf}
+use Rattle.device.specs.declared.Device.{Device}
+use Rattle.chip.specs.World.{Ran}
+use Rattle.chip.specs.Turn.{statusBy}
+use Rattle.chip.specs.Run.{Run, tells}
+use Rattle.packed.specs.Packed.{PackedIs}
+use Rattle.packed.specs.SetUp.{SetIs}
+use Rattle.packed.specs.declared.Packed.{Packed}
+use Rattle.code_chip.specs.declared.Turned.{Turned}
+use Rattle.code_chip.specs.declared.Turns.{Turns}
+
+-- numbers and bytes that are a device's
+pub record DeviceIs (d : Device) (k : Packed) (set : List ℕ) : Type 0 where
+  pub units : PackedIs (d .units) k
+  pub setup : SetIs (setupOf d) set
+
+-- what an answer that is not refused tells, as one number: the length sent, and the edge above its 16 bits
+abbrev pub toldBy : ℕ → Bool → ℕ
+toldBy length edge = length + 65536 * one edge
+
+abbrev pub toldOf : Answer → ℕ
+toldOf a = toldBy (a .length) (a .edge)
+
+-- the command unit is served: it has work, and the receive unit has none or was served at the last working turn
+unfoldable pub commands : Units → Bool
+commands u = isActive (cuState (u .cu)) && (not (isHolding (u .ru)) || u .rulast)
+
+-- the end of a working turn, after which the units are u: the status is written if an event was raised
+pub record Concludes (u : Units) (by : Events) (k : Packed) (length : ℕ) (before : List ℕ) (r : Turned) (m : List ℕ) : Type 0 where
+  pub kept : r .kept ≡ k
+  pub told : r .told ≡ toldBy length (anyOf by)
+  pub stops : r .stops ≡ tells (answered length (anyOf by))
+  pub memory : m ≡ apply (statusBy (anyOf by) u) before
+
+-- a turn; `stopped` says whether it ends a run. One that does not has nothing to tell
+pub record Does (said : Ran) (stopped : Bool) (r : Turned) (m out set : List ℕ) : Type 0 where
+  pub device : DeviceIs (said .outcome .device) (r .kept) set
+  pub told : r .told ≡ toldOf (said .outcome .answer)
+  pub stops : r .stops ≡ stopped
+  pub nothing : r .stops ≡ false → r .told ≡ 0
+  pub memory : m ≡ said .memory
+  pub outgoing : out ≡ said .outgoing
+
+-- a working turn: it ends a run if it has something to tell
+abbrev pub Tells : Ran → Turned → List ℕ → List ℕ → List ℕ → Type 0
+Tells said r m out set = Does said (tells (said .outcome .answer)) r m out set
+
+-- turns in a row
+pub record Runs (said : Run) (r : Turns) (m out set : List ℕ) : Type 0 where
+  pub device : DeviceIs (said .world .device) (r .kept) set
+  pub told : r .told ≡ toldOf (said .answer)
+  pub taken : r .taken ≡ said .taken
+  pub memory : m ≡ said .world .memory
+  pub outgoing : out ≡ said .world .outgoing
+
+-- an arrival
+pub record Arrives (said : Ran) (k : Packed) (set m h : List ℕ) : Type 0 where
+  pub device : DeviceIs (said .outcome .device) k set
+  pub memory : m ≡ said .memory
+  pub holding : h ≡ said .holding

@@ -1,0 +1,206 @@
+// The chip over numbers: a turn, turns in a row, and an arrival. The state goes in and comes out as four numbers, and what the commands set up
+// is lent beside it. The crate chip has the definitions that every promise here cites.
+use packed::Packed;
+ghost use mathlib.Core.Path.{_≡_};
+ghost use mathlib.Core.List.{List};
+ghost use Prim.Native.Nat.{ℕ};
+ghost use lib.ListN.{length};
+ghost use Rattle.scb.specs.Words as words;
+ghost use Rattle.scb.specs.declared.Events.{Events};
+ghost use Rattle.device.specs.declared.Device.{Device};
+ghost use Rattle.device.specs.declared.Units.{Units};
+ghost use Rattle.chip.specs.World as world;
+ghost use Rattle.chip.specs.Arrival as arrivals;
+ghost use Rattle.chip.specs.Turn as turns;
+ghost use Rattle.chip.specs.Run as runs;
+ghost use Rattle.packed.specs.Packed as keeps;
+ghost use Rattle.code_chip.specs.Does as does;
+
+// What a turn comes to, besides the lent bytes; `told` is the length that it sent, with EDGE above it if it reports one. A turn that sends a
+// frame, reports an edge or has no work ends a run.
+pub struct Turned {
+    pub kept: Packed,
+    pub told: u32,
+    pub stops: bool,
+}
+
+// What turns in a row come to: what the last one told, and how many were taken.
+pub struct Turns {
+    pub kept: Packed,
+    pub told: u32,
+    pub taken: u16,
+}
+
+const EDGE: u32 = 65536;
+
+// The command unit has work from this tag on, while Active; the receive unit from that one on, while a frame is held.
+const ACTIVE: u64 = 2;
+
+const HOLDING: u64 = 4;
+
+// The mark that the receive unit was served at the last working turn.
+const RU_LAST: u64 = 2;
+
+// A frame has a header of 14 bytes; a shorter one is dropped before anything is asked of it.
+const HEADER: usize = 14;
+
+// ---- a turn
+
+// The end of a working turn: the status is written if an event was raised.
+fn conclude(memory: &mut [u8], k: Packed, raised: u64, length: u16) -> Turned
+    ensures { λ r. ⌜ ((u : Units) (by : Events) → keeps.PackedIs u k → raised ≡ words.eventBits by → does.Concludes u by k length (now (memory .entry)) r (now (memory .exit))) ⌝ }
+{
+    if raised != 0 {
+        code_attention::write_status(memory, k);
+        return Turned {
+            kept: k,
+            told: length as u32 + EDGE,
+            stops: true,
+        };
+    }
+    Turned {
+        kept: k,
+        told: length as u32,
+        stops: length != 0,
+    }
+}
+
+// The command unit is served.
+fn command_turn(
+    memory: &mut [u8],
+    outgoing: &mut [u8],
+    setup: &mut [u8],
+    k: Packed,
+    report: u16,
+) -> Turned
+    requires { ⌜ length (now setup) ≡ 104 ⌝ }
+    ensures { λ r. ⌜ ((d : Device) (h : List ℕ) → does.DeviceIs d k (now (setup .entry)) → does.Tells (turns.commandTurn (world.worldOf d (now (memory .entry)) h (now (outgoing .entry))) report) r (now (memory .exit)) (now (outgoing .exit)) (now (setup .exit))) ⌝ }
+{
+    let c = code_command::serve(
+        memory,
+        outgoing,
+        setup,
+        packed::base(k),
+        packed::cu_tag(k),
+        k.cu,
+        report,
+    );
+    let after = packed::after_cu(k, c.tag, c.word, c.raised);
+    conclude(memory, after, c.raised, c.length)
+}
+
+// The receive unit is served.
+fn receive_turn(memory: &mut [u8], holding: &[u8], k: Packed) -> Turned
+    ensures { λ r. ⌜ ((d : Device) (out set : List ℕ) → does.DeviceIs d k set → does.Tells (turns.receiveTurn (world.worldOf d (now (memory .entry)) (now (holding .entry)) out)) r (now (memory .exit)) out set) ⌝ }
+{
+    let s = code_receive::serve(
+        memory,
+        holding,
+        packed::base(k),
+        packed::scb(k),
+        packed::ru_tag(k),
+        k.ru,
+        k.rest,
+    );
+    let after = packed::after_ru(k, s.tag, s.word, s.rest, s.raised);
+    conclude(memory, after, s.raised, 0)
+}
+
+// Whether the command unit is served: it has work while Active, and of two units with work the one not served at the last working turn is.
+fn commands(k: Packed) -> bool
+    ensures { λ r. ⌜ ((u : Units) → keeps.PackedIs u k → r ≡ does.commands u) ⌝ }
+{
+    if packed::cu_tag(k) < ACTIVE {
+        return false;
+    }
+    if packed::ru_tag(k) < HOLDING {
+        return true;
+    }
+    packed::flag(packed::flags(k), RU_LAST)
+}
+
+// A turn: RU has work while a frame is held, CU while Active; if both have, the one not served at the last working turn is served.
+pub fn turn(
+    memory: &mut [u8],
+    holding: &[u8],
+    outgoing: &mut [u8],
+    setup: &mut [u8],
+    k: Packed,
+    report: u16,
+) -> Turned
+    requires { ⌜ length (now setup) ≡ 104 ⌝ }
+    ensures { λ r. ⌜ ((d : Device) → does.DeviceIs d k (now (setup .entry)) → does.Does (turns.turnOf (world.worldOf d (now (memory .entry)) (now (holding .entry)) (now (outgoing .entry))) report) (runs.stopsAt (world.worldOf d (now (memory .entry)) (now (holding .entry)) (now (outgoing .entry))) report) r (now (memory .exit)) (now (outgoing .exit)) (now (setup .exit))) ⌝ }
+{
+    if commands(k) {
+        return command_turn(memory, outgoing, setup, k, report);
+    }
+    if HOLDING <= packed::ru_tag(k) {
+        return receive_turn(memory, holding, k);
+    }
+    Turned {
+        kept: k,
+        told: 0,
+        stops: true,
+    }
+}
+
+// ---- turns in a row
+
+// Turns with the same line report, until `budget` are taken or one ends the run.
+pub fn run(
+    memory: &mut [u8],
+    holding: &[u8],
+    outgoing: &mut [u8],
+    setup: &mut [u8],
+    k: Packed,
+    report: u16,
+    budget: u16,
+) -> Turns
+    requires { ⌜ length (now setup) ≡ 104 ⌝ }
+    ensures { λ r. ⌜ ((d : Device) → does.DeviceIs d k (now (setup .entry)) → does.Runs (runs.runOf budget (world.worldOf d (now (memory .entry)) (now (holding .entry)) (now (outgoing .entry))) report) r (now (memory .exit)) (now (outgoing .exit)) (now (setup .exit))) ⌝ }
+{
+    let mut state = k;
+    let mut told: u32 = 0;
+    let mut taken: u16 = 0;
+    while taken < budget {
+        let t = turn(memory, holding, outgoing, setup, state, report);
+        taken += 1;
+        told = t.told;
+        state = t.kept;
+        if t.stops {
+            return Turns {
+                kept: state,
+                told: told,
+                taken: taken,
+            };
+        }
+    }
+    Turns {
+        kept: state,
+        told: told,
+        taken: taken,
+    }
+}
+
+// ---- arrival
+
+// A frame arrives with the line side's verdict. One of fewer than 14 bytes is dropped, and so is one that is not for us.
+pub fn arrival(
+    memory: &mut [u8],
+    holding: &mut [u8],
+    setup: &[u8],
+    k: Packed,
+    frame: &[u8],
+    verdict: u32,
+) -> Packed
+    requires { ⌜ length (now setup) ≡ 104 ⌝ }
+    ensures { λ r. ⌜ ((d : Device) (out : List ℕ) → does.DeviceIs d k (now (setup .entry)) → does.Arrives (arrivals.arrivalOf (world.worldOf d (now (memory .entry)) (now (holding .entry)) out) (now (frame .entry)) verdict) r (now (setup .entry)) (now (memory .exit)) (now (holding .exit))) ⌝ }
+{
+    if frame.len() < HEADER {
+        return k;
+    }
+    if code_filter::matches(setup, frame) {
+        return code_arrival::arrive(memory, holding, setup, k, frame, verdict);
+    }
+    k
+}

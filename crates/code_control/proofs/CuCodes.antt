@@ -1,0 +1,193 @@
+-- CUC over the command unit's numbers: each case of a tag is a case of the unit. Assumes nothing.
+use mathlib.Core.Path.{_≡_, refl, sym, ap, _∙_}
+use mathlib.Core.Bool.{cond}
+use mathlib.Core.List.{List, [], _∷_}
+use Prim.Native.Nat.{ℕ, _%_, _<_, _≤_}
+use native.Mathlib.Omega.{arith}
+use lib.Bits.{bitOr}
+use lib.Dec.{eqb, ltb}
+use Rattle.memory.specs.Address.{place}
+use Rattle.memory.specs.Memory.{Write, wordTo, apply}
+use Rattle.memory.specs.declared.Offset.{Offset}
+use Rattle.memory.specs.declared.RealAddress.{RealAddress}
+use Rattle.scb.specs.Control.{cuNext}
+use Rattle.scb.specs.Words.{cuc, cuNumber}
+use Rattle.scb.specs.declared.CuState.{CuState}
+use Rattle.scb.specs.declared.CuState.the-variants as cus
+use Rattle.device.specs.State.{cuState}
+use Rattle.device.specs.declared.Cu.{Cu}
+use Rattle.device.specs.declared.Cu.the-variants as cu
+use Rattle.device.specs.declared.Units.{Units}
+use Rattle.phases.specs.Phases.{numberOf, cuTag, cuWord}
+use Rattle.packed.specs.Packed.{CuIs}
+use Rattle.control.specs.Control.{cuSuspended, cuActive, resumesAt, abortedCu}
+use Rattle.control.specs.Obey.{cuFirst, obeyCuc}
+use Rattle.code_control.specs.Obeys.{ofWord, aborted, firstOf, CuObeys}
+use Rattle.code_control.specs.declared.CuObeyed.{CuObeyed}
+use Rattle.code_control.proofs.Flags.{at-is, fourth-set, plain-wide, offset-of, real-of, from}
+
+-- ---- the command unit: a law for each arm of the code
+
+pub cu-number-past : (c : Cu) → 2 < cuTag c → 2 ≡ cuNumber (cuState c)
+cu-number-past cu.Idle h = absurd (omega arith)
+cu-number-past (cu.Suspended o) h = absurd (omega arith)
+cu-number-past (cu.Waiting o) h = refl
+cu-number-past (cu.Acting b a) h = refl
+cu-number-past (cu.Sending b w) h = refl
+cu-number-past (cu.Ending b n) h = refl
+cu-number-past (cu.Failing b) h = refl
+
+pub cu-number-own : (c : Cu) → cuTag c ≤ 2 → cuTag c ≡ cuNumber (cuState c)
+cu-number-own cu.Idle h = refl
+cu-number-own (cu.Suspended o) h = refl
+cu-number-own (cu.Waiting o) h = refl
+cu-number-own (cu.Acting b a) h = absurd (omega arith)
+cu-number-own (cu.Sending b w) h = absurd (omega arith)
+cu-number-own (cu.Ending b n) h = absurd (omega arith)
+cu-number-own (cu.Failing b) h = absurd (omega arith)
+
+pub suspend-inactive : (c : Cu) → cuTag c < 2 → cuSuspended c ≡ c
+suspend-inactive cu.Idle h = refl
+suspend-inactive (cu.Suspended o) h = refl
+suspend-inactive (cu.Waiting o) h = absurd (omega arith)
+suspend-inactive (cu.Acting b a) h = absurd (omega arith)
+suspend-inactive (cu.Sending b w) h = absurd (omega arith)
+suspend-inactive (cu.Ending b n) h = absurd (omega arith)
+suspend-inactive (cu.Failing b) h = absurd (omega arith)
+
+pub suspend-waiting : (c : Cu) (tag n : ℕ) → cuTag c ≡ 2 → CuIs c tag n → CuIs (cuSuspended c) 1 n
+unfolding cuWord
+suspend-waiting cu.Idle tag n e h = absurd (omega arith)
+suspend-waiting (cu.Suspended o) tag n e h = absurd (omega arith)
+suspend-waiting (cu.Waiting o) tag n e h = record { tag-is = refl; word-is = h .word-is; wide = h .wide }
+suspend-waiting (cu.Acting b a) tag n e h = absurd (omega arith)
+suspend-waiting (cu.Sending b w) tag n e h = absurd (omega arith)
+suspend-waiting (cu.Ending b k) tag n e h = absurd (omega arith)
+suspend-waiting (cu.Failing b) tag n e h = absurd (omega arith)
+
+pub suspend-begun : (c : Cu) (tag n : ℕ) → 2 < cuTag c → CuIs c tag n → CuIs (cuSuspended c) tag (bitOr n 524288)
+unfolding cuWord
+suspend-begun cu.Idle tag n l h = absurd (omega arith)
+suspend-begun (cu.Suspended o) tag n l h = absurd (omega arith)
+suspend-begun (cu.Waiting o) tag n l h = absurd (omega arith)
+suspend-begun (cu.Acting b a) tag n l h =
+    record {
+      tag-is = h .tag-is;
+      word-is = rw (h .word-is) (fourth-set _ _ _ _ _ _ _ _ _ _ (h .wide .at));
+      wide = record { at = h .wide .at; kind = h .wide .kind; size = h .wide .size; next = h .wide .next };
+    }
+suspend-begun (cu.Sending b w) tag n l h =
+    record {
+      tag-is = h .tag-is;
+      word-is = rw (h .word-is) (fourth-set _ _ _ _ _ _ _ _ _ _ (h .wide .at));
+      wide = record { at = h .wide .at; kind = h .wide .kind; size = h .wide .size; next = h .wide .next };
+    }
+suspend-begun (cu.Ending b k) tag n l h =
+    record {
+      tag-is = h .tag-is;
+      word-is = rw (h .word-is) (fourth-set _ _ _ _ _ _ _ _ _ _ (h .wide .at));
+      wide = record { at = h .wide .at; kind = h .wide .kind; size = h .wide .size; next = h .wide .next };
+    }
+suspend-begun (cu.Failing b) tag n l h =
+    record {
+      tag-is = h .tag-is;
+      word-is = rw (h .word-is) (fourth-set _ _ _ _ _ _ _ _ _ _ (h .wide .at));
+      wide = record { at = h .wide .at; kind = h .wide .kind; size = h .wide .size; next = h .wide .next };
+    }
+
+waiting-is : (first : Offset) → first .0 < 65536 → CuIs (cu.Waiting first) 2 (first .0)
+unfolding numberOf cuWord
+waiting-is first h = record { tag-is = refl; word-is = omega arith; wide = plain-wide (first .0) h }
+
+pub active-from : (first : Offset) (c : Cu) → first .0 < 65536 → cuTag c < 2 → CuIs (cuActive first c) 2 (first .0)
+active-from first cu.Idle w h = waiting-is first w
+active-from first (cu.Suspended o) w h = waiting-is first w
+active-from first (cu.Waiting o) w h = absurd (omega arith)
+active-from first (cu.Acting b a) w h = absurd (omega arith)
+active-from first (cu.Sending b k) w h = absurd (omega arith)
+active-from first (cu.Ending b n) w h = absurd (omega arith)
+active-from first (cu.Failing b) w h = absurd (omega arith)
+
+pub active-stays : (first : Offset) (c : Cu) → 2 ≤ cuTag c → cuActive first c ≡ c
+active-stays first cu.Idle h = absurd (omega arith)
+active-stays first (cu.Suspended o) h = absurd (omega arith)
+active-stays first (cu.Waiting o) h = refl
+active-stays first (cu.Acting b a) h = refl
+active-stays first (cu.Sending b w) h = refl
+active-stays first (cu.Ending b n) h = refl
+active-stays first (cu.Failing b) h = refl
+
+pub cu-idle-is : CuIs cu.Idle 0 0
+unfolding numberOf cuWord
+cu-idle-is = record { tag-is = refl; word-is = refl; wide = plain-wide 0 (omega arith) }
+
+-- the offset in its word
+cu-at : (c : Cu) → resumesAt c .0 ≡ cuWord c .at
+unfolding cuWord
+cu-at cu.Idle = refl
+cu-at (cu.Suspended o) = refl
+cu-at (cu.Waiting o) = refl
+cu-at (cu.Acting b a) = refl
+cu-at (cu.Sending b w) = refl
+cu-at (cu.Ending b n) = refl
+cu-at (cu.Failing b) = refl
+
+pub resumes-at : (c : Cu) (tag n : ℕ) → CuIs c tag n → ofWord n ≡ resumesAt c
+resumes-at c tag n h = offset-of (resumesAt c) (n % 65536) (rw (h .word-is) (at-is (cuWord c) (h .wide)) ∙ sym (cu-at c))
+
+pub aborts-cu : (base : RealAddress) (c : Cu) (tag n : ℕ) → CuIs c tag n → aborted base (ltb 2 tag) n 0x9000 ≡ abortedCu base c
+aborts-cu base c tag n h = rw (resumes-at c tag n h, h .tag-is) (by c)
+  where
+    by : (x : Cu) → cond (ltb 2 (cuTag x)) (wordTo (place base (resumesAt x) 0) 0x9000 ∷ []) [] ≡ abortedCu base x
+    by cu.Idle = refl
+    by (cu.Suspended o) = refl
+    by (cu.Waiting o) = refl
+    by (cu.Acting b a) = refl
+    by (cu.Sending b w) = refl
+    by (cu.Ending b k) = refl
+    by (cu.Failing b) = refl
+
+-- the state of a number
+pub to-idle : (s : CuState) → 0 ≡ cuNumber s → s ≡ cus.Idle
+to-idle cus.Idle e = refl
+to-idle cus.Suspended e = absurd (omega arith)
+to-idle cus.Active e = absurd (omega arith)
+
+pub to-suspended : (s : CuState) → 1 ≡ cuNumber s → s ≡ cus.Suspended
+to-suspended cus.Idle e = absurd (omega arith)
+to-suspended cus.Suspended e = refl
+to-suspended cus.Active e = absurd (omega arith)
+
+pub to-active : (s : CuState) → (cuNumber s ≡ 0 → ⊥) → (cuNumber s ≡ 1 → ⊥) → s ≡ cus.Active
+to-active cus.Idle a b = absurd (a refl)
+to-active cus.Suspended a b = absurd (b refl)
+to-active cus.Active a b = refl
+
+-- ---- CUC obeyed, by the number of the next state
+
+module _ (u : Units) (base : RealAddress) (command tag n : ℕ) (m : List ℕ) (b : base .0 ≡ u .base .0) (h : CuIs (u .cu) tag n) where
+  pub cuc-idle : (left : List ℕ) → 0 ≡ cuNumber (cuNext (cuc command) (cuState (u .cu))) → left ≡ apply (aborted base (ltb 2 tag) n 0x9000) m
+      → CuObeys (obeyCuc u command m) m (record { tag = 0; word = 0 }) left
+  unfolding obeyCuc
+  cuc-idle left e f =
+      let w : aborted base (ltb 2 tag) n 0x9000 ≡ abortedCu (u .base) (u .cu) = rw (real-of base (u .base) b) (aborts-cu (u .base) (u .cu) tag n h) in
+      rw (to-idle (cuNext (cuc command) (cuState (u .cu))) e)
+      (record {
+        unit = cu-idle-is;
+        memory = f ∙ ap (λ (ws : List Write). apply ws m) w;
+      })
+
+  pub cuc-suspended : (r : CuObeyed) → 1 ≡ cuNumber (cuNext (cuc command) (cuState (u .cu))) → CuIs (cuSuspended (u .cu)) (r .tag) (r .word)
+      → CuObeys (obeyCuc u command m) m r m
+  unfolding obeyCuc
+  cuc-suspended r e f = rw (to-suspended (cuNext (cuc command) (cuState (u .cu))) e) (record { unit = f; memory = refl })
+
+  pub cuc-active : (r : CuObeyed) (scb first : Offset) → scb .0 ≡ u .scb .0
+      → (cuNumber (cuNext (cuc command) (cuState (u .cu))) ≡ 0 → ⊥) → (cuNumber (cuNext (cuc command) (cuState (u .cu))) ≡ 1 → ⊥)
+      → first .0 ≡ firstOf base scb (eqb (cuc command) 1) 4 n m → CuIs (cuActive first (u .cu)) (r .tag) (r .word)
+      → CuObeys (obeyCuc u command m) m r m
+  unfolding obeyCuc cuFirst
+  cuc-active r scb first s e0 e1 f i =
+      let o : first ≡ cuFirst u command m =
+      offset-of (cuFirst u command m) (first .0) (f ∙ from u base scb m b s (eqb (cuc command) 1) 4 n (resumesAt (u .cu)) (ap (λ (x : Offset). x .0) (resumes-at (u .cu) tag n h))) in
+      rw (to-active (cuNext (cuc command) (cuState (u .cu))) e0 e1) (record { unit = rw o at i; memory = refl })

@@ -1,0 +1,225 @@
+-- RUC over the receive unit's numbers: each case of a tag is a case of the unit. Assumes nothing.
+use mathlib.Core.Path.{_≡_, refl, sym, ap, _∙_}
+use mathlib.Core.Bool.{cond}
+use mathlib.Core.List.{List, [], _∷_}
+use Prim.Native.Nat.{ℕ, _%_, _<_, _≤_}
+use native.Mathlib.Omega.{arith}
+use lib.Bits.{bitOr}
+use lib.Dec.{eqb, ltb}
+use Rattle.memory.specs.Address.{place}
+use Rattle.memory.specs.Memory.{Write, wordTo, apply}
+use Rattle.memory.specs.declared.Offset.{Offset}
+use Rattle.memory.specs.declared.RealAddress.{RealAddress}
+use Rattle.scb.specs.Control.{ruNext}
+use Rattle.scb.specs.Words.{ruc}
+use Rattle.scb.specs.Numbers.{ruColumn}
+use Rattle.scb.specs.declared.RuState.{RuState}
+use Rattle.scb.specs.declared.RuState.the-variants as rus
+use Rattle.device.specs.State.{ruState}
+use Rattle.device.specs.declared.Ru.{Ru}
+use Rattle.device.specs.declared.Ru.the-variants as ru
+use Rattle.device.specs.declared.Units.{Units}
+use Rattle.phases.specs.Phases.{numberOf, ruTag, ruWord, ruRest}
+use Rattle.packed.specs.Packed.{RuIs}
+use Rattle.control.specs.Control.{ruSuspended, ruReady, readyAt, abortedRu}
+use Rattle.control.specs.Obey.{ruFirst, obeyRuc}
+use Rattle.code_control.specs.Obeys.{ofWord, aborted, firstOf, RuObeys}
+use Rattle.code_control.specs.declared.RuObeyed.{RuObeyed}
+use Rattle.code_control.proofs.Flags.{at-is, first-set, plain-wide, offset-of, real-of, from}
+
+-- ---- the receive unit
+
+pub ru-column-past : (v : Ru) → 3 < ruTag v → 3 ≡ ruColumn (ruState v)
+ru-column-past ru.Idle h = absurd (omega arith)
+ru-column-past ru.NoResources h = absurd (omega arith)
+ru-column-past (ru.Suspended o) h = absurd (omega arith)
+ru-column-past (ru.Ready o) h = refl
+ru-column-past (ru.Held o f p) h = refl
+ru-column-past (ru.Filling s w) h = refl
+ru-column-past (ru.Closing s o full) h = refl
+ru-column-past (ru.Lacking s) h = refl
+
+pub ru-column-own : (v : Ru) → ruTag v ≤ 3 → ruTag v ≡ ruColumn (ruState v)
+ru-column-own ru.Idle h = refl
+ru-column-own ru.NoResources h = refl
+ru-column-own (ru.Suspended o) h = refl
+ru-column-own (ru.Ready o) h = refl
+ru-column-own (ru.Held o f p) h = absurd (omega arith)
+ru-column-own (ru.Filling s w) h = absurd (omega arith)
+ru-column-own (ru.Closing s o full) h = absurd (omega arith)
+ru-column-own (ru.Lacking s) h = absurd (omega arith)
+
+pub suspend-unready : (v : Ru) → ruTag v < 3 → ruSuspended v ≡ v
+suspend-unready ru.Idle h = refl
+suspend-unready ru.NoResources h = refl
+suspend-unready (ru.Suspended o) h = refl
+suspend-unready (ru.Ready o) h = absurd (omega arith)
+suspend-unready (ru.Held o f p) h = absurd (omega arith)
+suspend-unready (ru.Filling s w) h = absurd (omega arith)
+suspend-unready (ru.Closing s o full) h = absurd (omega arith)
+suspend-unready (ru.Lacking s) h = absurd (omega arith)
+
+pub suspend-ready : (v : Ru) (tag n rest : ℕ) → ruTag v ≡ 3 → RuIs v tag n rest → RuIs (ruSuspended v) 1 n rest
+unfolding ruWord ruRest
+suspend-ready ru.Idle tag n rest e h = absurd (omega arith)
+suspend-ready ru.NoResources tag n rest e h = absurd (omega arith)
+suspend-ready (ru.Suspended o) tag n rest e h = absurd (omega arith)
+suspend-ready (ru.Ready o) tag n rest e h = record { tag-is = refl; word-is = h .word-is; rest-is = h .rest-is; wide = h .wide; filling = tt }
+suspend-ready (ru.Held o f p) tag n rest e h = absurd (omega arith)
+suspend-ready (ru.Filling s w) tag n rest e h = absurd (omega arith)
+suspend-ready (ru.Closing s o full) tag n rest e h = absurd (omega arith)
+suspend-ready (ru.Lacking s) tag n rest e h = absurd (omega arith)
+
+pub suspend-held : (v : Ru) (tag n rest : ℕ) → 3 < ruTag v → RuIs v tag n rest → RuIs (ruSuspended v) tag (bitOr n 65536) rest
+unfolding ruWord ruRest
+suspend-held ru.Idle tag n rest l h = absurd (omega arith)
+suspend-held ru.NoResources tag n rest l h = absurd (omega arith)
+suspend-held (ru.Suspended o) tag n rest l h = absurd (omega arith)
+suspend-held (ru.Ready o) tag n rest l h = absurd (omega arith)
+suspend-held (ru.Held o f p) tag n rest l h =
+    record {
+      tag-is = h .tag-is;
+      word-is = rw (h .word-is) (first-set _ _ _ _ _ _ _ _ _ _ (h .wide .at));
+      rest-is = h .rest-is;
+      wide = record { at = h .wide .at; kind = h .wide .kind; size = h .wide .size; next = h .wide .next };
+      filling = tt;
+    }
+suspend-held (ru.Filling s w) tag n rest l h =
+    record {
+      tag-is = h .tag-is;
+      word-is = rw (h .word-is) (first-set _ _ _ _ _ _ _ _ _ _ (h .wide .at));
+      rest-is = h .rest-is;
+      wide = record { at = h .wide .at; kind = h .wide .kind; size = h .wide .size; next = h .wide .next };
+      filling = h .filling;
+    }
+suspend-held (ru.Closing s o full) tag n rest l h =
+    record {
+      tag-is = h .tag-is;
+      word-is = rw (h .word-is) (first-set _ _ _ _ _ _ _ _ _ _ (h .wide .at));
+      rest-is = h .rest-is;
+      wide = record { at = h .wide .at; kind = h .wide .kind; size = h .wide .size; next = h .wide .next };
+      filling = tt;
+    }
+suspend-held (ru.Lacking s) tag n rest l h =
+    record {
+      tag-is = h .tag-is;
+      word-is = rw (h .word-is) (first-set _ _ _ _ _ _ _ _ _ _ (h .wide .at));
+      rest-is = h .rest-is;
+      wide = record { at = h .wide .at; kind = h .wide .kind; size = h .wide .size; next = h .wide .next };
+      filling = tt;
+    }
+
+ready-is : (first : Offset) → first .0 < 65536 → RuIs (ru.Ready first) 3 (first .0) 0
+unfolding numberOf ruWord ruRest
+ready-is first h = record { tag-is = refl; word-is = omega arith; rest-is = refl; wide = plain-wide (first .0) h; filling = tt }
+
+pub ready-from : (first : Offset) (v : Ru) → first .0 < 65536 → ruTag v < 3 → RuIs (ruReady first v) 3 (first .0) 0
+ready-from first ru.Idle w h = ready-is first w
+ready-from first ru.NoResources w h = ready-is first w
+ready-from first (ru.Suspended o) w h = ready-is first w
+ready-from first (ru.Ready o) w h = absurd (omega arith)
+ready-from first (ru.Held o f p) w h = absurd (omega arith)
+ready-from first (ru.Filling s k) w h = absurd (omega arith)
+ready-from first (ru.Closing s o full) w h = absurd (omega arith)
+ready-from first (ru.Lacking s) w h = absurd (omega arith)
+
+pub ready-stays : (first : Offset) (v : Ru) → 3 ≤ ruTag v → ruReady first v ≡ v
+ready-stays first ru.Idle h = absurd (omega arith)
+ready-stays first ru.NoResources h = absurd (omega arith)
+ready-stays first (ru.Suspended o) h = absurd (omega arith)
+ready-stays first (ru.Ready o) h = refl
+ready-stays first (ru.Held o f p) h = refl
+ready-stays first (ru.Filling s w) h = refl
+ready-stays first (ru.Closing s o full) h = refl
+ready-stays first (ru.Lacking s) h = refl
+
+pub ru-idle-is : RuIs ru.Idle 0 0 0
+unfolding numberOf ruWord ruRest
+ru-idle-is = record { tag-is = refl; word-is = refl; rest-is = refl; wide = plain-wide 0 (omega arith); filling = tt }
+
+-- the offset in its word
+ru-at : (v : Ru) → readyAt v .0 ≡ ruWord v .at
+unfolding ruWord
+ru-at ru.Idle = refl
+ru-at ru.NoResources = refl
+ru-at (ru.Suspended o) = refl
+ru-at (ru.Ready o) = refl
+ru-at (ru.Held o f p) = refl
+ru-at (ru.Filling s w) = refl
+ru-at (ru.Closing s o full) = refl
+ru-at (ru.Lacking s) = refl
+
+pub ready-at : (v : Ru) (tag n rest : ℕ) → RuIs v tag n rest → ofWord n ≡ readyAt v
+ready-at v tag n rest h = offset-of (readyAt v) (n % 65536) (rw (h .word-is) (at-is (ruWord v) (h .wide)) ∙ sym (ru-at v))
+
+pub aborts-ru : (base : RealAddress) (v : Ru) (tag n rest : ℕ) → RuIs v tag n rest → aborted base (ltb 4 tag) n 0 ≡ abortedRu base v
+aborts-ru base v tag n rest h = rw (ready-at v tag n rest h, h .tag-is) (by v)
+  where
+    by : (x : Ru) → cond (ltb 4 (ruTag x)) (wordTo (place base (readyAt x) 0) 0 ∷ []) [] ≡ abortedRu base x
+    by ru.Idle = refl
+    by ru.NoResources = refl
+    by (ru.Suspended o) = refl
+    by (ru.Ready o) = refl
+    by (ru.Held o f p) = refl
+    by (ru.Filling s w) = refl
+    by (ru.Closing s o full) = refl
+    by (ru.Lacking s) = refl
+
+-- the state of a column
+pub ru-to-idle : (s : RuState) → 0 ≡ ruColumn s → s ≡ rus.Idle
+ru-to-idle rus.Idle e = refl
+ru-to-idle rus.Suspended e = absurd (omega arith)
+ru-to-idle rus.NoResources e = absurd (omega arith)
+ru-to-idle rus.Ready e = absurd (omega arith)
+
+pub ru-to-suspended : (s : RuState) → 1 ≡ ruColumn s → s ≡ rus.Suspended
+ru-to-suspended rus.Idle e = absurd (omega arith)
+ru-to-suspended rus.Suspended e = refl
+ru-to-suspended rus.NoResources e = absurd (omega arith)
+ru-to-suspended rus.Ready e = absurd (omega arith)
+
+pub ru-to-none : (s : RuState) → 2 ≡ ruColumn s → s ≡ rus.NoResources
+ru-to-none rus.Idle e = absurd (omega arith)
+ru-to-none rus.Suspended e = absurd (omega arith)
+ru-to-none rus.NoResources e = refl
+ru-to-none rus.Ready e = absurd (omega arith)
+
+pub ru-to-ready : (s : RuState) → (ruColumn s ≡ 0 → ⊥) → (ruColumn s ≡ 1 → ⊥) → (ruColumn s ≡ 2 → ⊥) → s ≡ rus.Ready
+ru-to-ready rus.Idle a b c = absurd (a refl)
+ru-to-ready rus.Suspended a b c = absurd (b refl)
+ru-to-ready rus.NoResources a b c = absurd (c refl)
+ru-to-ready rus.Ready a b c = refl
+
+-- ---- RUC obeyed, by the column of the next state
+
+module _ (u : Units) (base : RealAddress) (command tag n rest : ℕ) (m : List ℕ) (b : base .0 ≡ u .base .0) (h : RuIs (u .ru) tag n rest) where
+  pub ruc-idle : (left : List ℕ) → 0 ≡ ruColumn (ruNext (ruc command) (ruState (u .ru))) → left ≡ apply (aborted base (ltb 4 tag) n 0) m
+      → RuObeys (obeyRuc u command m) m (record { tag = 0; word = 0; rest = 0 }) left
+  unfolding obeyRuc
+  ruc-idle left e f =
+      let w : aborted base (ltb 4 tag) n 0 ≡ abortedRu (u .base) (u .ru) = rw (real-of base (u .base) b) (aborts-ru (u .base) (u .ru) tag n rest h) in
+      rw (ru-to-idle (ruNext (ruc command) (ruState (u .ru))) e)
+      (record {
+        unit = ru-idle-is;
+        memory = f ∙ ap (λ (ws : List Write). apply ws m) w;
+      })
+
+  pub ruc-suspended : (r : RuObeyed) → 1 ≡ ruColumn (ruNext (ruc command) (ruState (u .ru))) → RuIs (ruSuspended (u .ru)) (r .tag) (r .word) (r .rest)
+      → RuObeys (obeyRuc u command m) m r m
+  unfolding obeyRuc
+  ruc-suspended r e f = rw (ru-to-suspended (ruNext (ruc command) (ruState (u .ru))) e) (record { unit = f; memory = refl })
+
+  pub ruc-none : 2 ≡ ruColumn (ruNext (ruc command) (ruState (u .ru))) → RuObeys (obeyRuc u command m) m (record { tag = tag; word = n; rest = rest }) m
+  unfolding obeyRuc
+  ruc-none e = rw (ru-to-none (ruNext (ruc command) (ruState (u .ru))) e) (record { unit = h; memory = refl })
+
+  pub ruc-ready : (r : RuObeyed) (scb first : Offset) → scb .0 ≡ u .scb .0
+      → (ruColumn (ruNext (ruc command) (ruState (u .ru))) ≡ 0 → ⊥) → (ruColumn (ruNext (ruc command) (ruState (u .ru))) ≡ 1 → ⊥)
+      → (ruColumn (ruNext (ruc command) (ruState (u .ru))) ≡ 2 → ⊥)
+      → first .0 ≡ firstOf base scb (eqb (ruc command) 1) 6 n m → RuIs (ruReady first (u .ru)) (r .tag) (r .word) (r .rest)
+      → RuObeys (obeyRuc u command m) m r m
+  unfolding obeyRuc ruFirst
+  ruc-ready r scb first s e0 e1 e2 f i =
+      let o : first ≡ ruFirst u command m =
+      offset-of (ruFirst u command m) (first .0) (f ∙ from u base scb m b s (eqb (ruc command) 1) 6 n (readyAt (u .ru)) (ap (λ (x : Offset). x .0) (ready-at (u .ru) tag n rest h))) in
+      rw (ru-to-ready (ruNext (ruc command) (ruState (u .ru))) e0 e1 e2) (record { unit = rw o at i; memory = refl })

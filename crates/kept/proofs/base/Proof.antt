@@ -1,7 +1,0 @@
--- `kept::base` meets its contract. Assumes nothing.
-use borrow.Author.Needs.{needs}
-use Rattle.kept.proofs.base.Statement.{statement}
-use Rattle.kept.proofs.base.Tie as tie
-
-pub base-spec : {M : Type 1} → statement M
-base-spec = tie.close (tie.spec (λ c. search needs) (λ c κs. search needs) (λ c. rw (c .recalled .ensures)))

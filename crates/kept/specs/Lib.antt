@@ -1,3 +1,0 @@
--- The units' state as numbers, for the contracts of this crate and the crates above it.
-pub mod Kept
-pub mod SetUp

@@ -1,0 +1,3 @@
+-- The units' state as numbers, for the contracts of this crate and the crates above it.
+pub mod Packed
+pub mod SetUp

@@ -1,0 +1,90 @@
+-- The units' state as four numbers, which is how the record keeps it and how a call carries it. Assumes nothing.
+use mathlib.Core.Path.{_≡_}
+use mathlib.Core.Bool.{Bool, true, false}
+use Prim.Native.Nat.{ℕ, _+_, _*_, _/_, _%_, _<_}
+use Rattle.scb.specs.Words.{one, eventBits, raise}
+use Rattle.scb.specs.declared.Events.{Events}
+use Rattle.device.specs.Change.{withCu, withRu, withEvents, servedRu}
+use Rattle.device.specs.declared.Cu.{Cu}
+use Rattle.device.specs.declared.Ru.{Ru}
+use Rattle.device.specs.declared.Units.{Units}
+use Rattle.phases.specs.Phases.{numberOf, cuTag, cuWord, ruTag, ruWord, ruRest, WordWide, FillingWide}
+use Rattle.packed.specs.declared.Packed.{Packed}
+
+-- ---- a state's numbers
+
+-- bit 0 initialised, bit 1 RU served last, bits 7-4 CX, FR, CNA, RNR
+abbrev pub flagsBy : Bool → Bool → Events → ℕ
+flagsBy initialised rulast events = one initialised + 2 * one rulast + 16 * eventBits events
+
+abbrev pub flagsOf : Units → ℕ
+flagsOf u = flagsBy (u .initialised) (u .rulast) (u .events)
+
+-- eight bytes, in the order of the record from byte 5 on: bits 7-4 the events; bits 2-0 the CU's tag, bit 4 initialised, bit 5 RU served last; the
+-- RU's tag; two bytes of the SCB's offset; three of the base
+abbrev pub statusBy : (scb flags cu ru base : ℕ) → ℕ
+statusBy scb flags cu ru base =
+    16 * (flags / 16) + 256 * cu + 4096 * (flags % 4) + 65536 * ru + 16777216 * scb + 1099511627776 * base
+
+abbrev pub statusOf : Units → ℕ
+statusOf u = statusBy (u .scb .0) (flagsOf u) (cuTag (u .cu)) (ruTag (u .ru)) (u .base .0)
+
+-- all of the state but the settings and the addresses, which stand beside it
+unfoldable pub packedOf : Units → Packed
+packedOf u =
+    record {
+      status = statusOf u;
+      cu = numberOf (cuWord (u .cu));
+      ru = numberOf (ruWord (u .ru));
+      rest = ruRest (u .ru);
+    }
+
+-- ---- a unit was served, and events came up: what every working turn does with a service
+
+abbrev pub cuServed : Units → Cu → Events → Units
+cuServed u c by = withEvents (servedRu (withCu u c) false) (raise (u .events) by)
+
+abbrev pub ruServed : Units → Ru → Events → Units
+ruServed u v by = withEvents (servedRu (withRu u v) true) (raise (u .events) by)
+
+-- ---- what is read of the status
+
+abbrev pub scbIn : Packed → ℕ
+scbIn k = k .status / 16777216 % 65536
+
+abbrev pub flagsIn : Packed → ℕ
+flagsIn k = k .status / 4096 % 4 + 16 * (k .status / 16 % 16)
+
+abbrev pub cuTagIn : Packed → ℕ
+cuTagIn k = k .status / 256 % 8
+
+abbrev pub ruTagIn : Packed → ℕ
+ruTagIn k = k .status / 65536 % 256
+
+abbrev pub baseIn : Packed → ℕ
+baseIn k = k .status / 1099511627776
+
+-- ---- numbers that are a state's: every field is as wide as the code's types and a real address make it
+
+pub record CuIs (c : Cu) (tag n : ℕ) : Type 0 where
+  pub tag-is : tag ≡ cuTag c
+  pub word-is : n ≡ numberOf (cuWord c)
+  pub wide : WordWide (cuWord c)
+
+pub record RuIs (u : Ru) (tag n rest : ℕ) : Type 0 where
+  pub tag-is : tag ≡ ruTag u
+  pub word-is : n ≡ numberOf (ruWord u)
+  pub rest-is : rest ≡ ruRest u
+  pub wide : WordWide (ruWord u)
+  pub filling : FillingWide u
+
+pub record UnitsWide (u : Units) : Type 0 where
+  pub scb-wide : u .scb .0 < 65536
+  pub base-wide : u .base .0 < 16777216
+  pub cu-wide : WordWide (cuWord (u .cu))
+  pub ru-wide : WordWide (ruWord (u .ru))
+  pub filling-wide : FillingWide (u .ru)
+
+pub record PackedIs (u : Units) (k : Packed) : Type 0 where
+  pub same : k ≡ packedOf u
+  pub wide : UnitsWide u
