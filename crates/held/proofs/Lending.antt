@@ -28,7 +28,7 @@ use Rattle.chip.specs.Call.{reset, attention, turn}
 use Rattle.chip.specs.Cases.{Word, _is_, put, passes}
 use Rattle.chip.specs.Turn.{servedBy, concluded, commandTurn, receiveTurn, turnBy, turnOf}
 use Rattle.chip.specs.World.{World, worldOf}
-use Rattle.calls.specs.Calls.{Areas, areasOf, Called, answerNumber, areasRight, refusalOf, keptBy, attentionCall, turnCall, resetCall}
+use Rattle.calls.specs.Calls.{Areas, areasOf, Called, answerNumber, areasRight, refusalOf, onBytes, attentionCall, turnCall, resetCall}
 use Rattle.calls.proofs.Laws.{accepted}
 use Rattle.traces.specs.Event.{call, isTurn}
 use Rattle.traces.specs.Bytes.{called, number, isRefused}
@@ -153,11 +153,11 @@ module _ (m h : List ℕ) (r : Right m h) (d : Device) (g : Good d) where
   back : worldIn (lentOn m h d) ≡ on m h d
   back = rw (decode-image d (g .wide) (g .range), device-back d (g .wide))
 
-  same : turnCall (lentOn m h d) 0 ≡ keptBy (turnOf (on m h d) 0)
+  same : turnCall (lentOn m h d) 0 ≡ onBytes (turnOf (on m h d) 0)
   unfolding turnCall
   same =
       accepted (lentOn m h d) [] (λ w. turnOf w 0) (d .units) (r .size) (lengths h m d (r .long) (g .wide)) refl (decode-image d (g .wide) (g .range))
-      ∙ ap (λ (x : Device). keptBy (turnOf (on m h x) 0)) (device-back d (g .wide))
+      ∙ ap (λ (x : Device). onBytes (turnOf (on m h x) 0)) (device-back d (g .wide))
 
   taken : isAccepted (turnOn m h d) ≡ true
   taken = ap (λ (x : Called). not (isRefused x)) same ∙ rw (number-zero (turnOf (on m h d) 0 .outcome .answer) (turn-accepted (on m h d) 0))

@@ -30,7 +30,7 @@ use Rattle.chip.specs.World.{World, Ran}
 use Rattle.chip.specs.Arrival.{arrivalOf}
 use Rattle.chip.specs.Call.{Call, reset, attention, arrive, turn, ran}
 use Rattle.chip.specs.Turn.{turnOf}
-use Rattle.calls.specs.Calls.{Areas, Called, answerNumber, isImage, refusalOf, keptBy, calledOn, calledBy, arrivalCall, turnCall}
+use Rattle.calls.specs.Calls.{Areas, Called, answerNumber, isImage, refusalOf, onBytes, calledOn, calledBy, arrivalCall, turnCall}
 use Rattle.traces.specs.Event.{call, step, isTurn, isCalm}
 use Rattle.traces.specs.Bytes.{called, isRefused}
 use Rattle.progress.specs.Machine.{turns}
@@ -53,7 +53,7 @@ use Rattle.held.proofs.Held.{Note, notes, a-note, no-note, nothing, hol
 -- the record is the image of the state that it says, and the call leaves what the definition leaves
 pub record Taken (run : World → Ran) (a : Areas) (c : Called) : Type 0 where
   pub decoded : decodeOf (a .kept) ≡ is.Units (unitsOf (a .kept))
-  pub leaves : c ≡ keptBy (run (worldIn a))
+  pub leaves : c ≡ onBytes (run (worldIn a))
 
 taken-on : (d : Found) (run : World → Ran) (a : Areas) → decodeOf (a .kept) ≡ d → isRefused (calledOn run a d) ≡ false
     → Taken run a (calledOn run a (decodeOf (a .kept)))

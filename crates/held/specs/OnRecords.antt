@@ -16,7 +16,7 @@ use Rattle.image.specs.Found as is
 use Rattle.chip.specs.World.{World, worldOf}
 use Rattle.chip.specs.Call.{Call, reset, attention, arrive, turn}
 use Rattle.chip.specs.Turn.{turnOf}
-use Rattle.calls.specs.Calls.{Areas, Called, keptBy, turnCall}
+use Rattle.calls.specs.Calls.{Areas, Called, onBytes, turnCall}
 use Rattle.traces.specs.Event.{call, isTurn, isCalm}
 use Rattle.traces.specs.Bytes.{called, isRefused}
 use Rattle.closure.specs.Driven.{Lending, lending}
@@ -119,7 +119,7 @@ pub record Settled (n : ℕ) (f : Frame) (ls : List Lending) (r : List ℕ) : Ty
   pub holds : Holds f before r
   pub accepted : isAccepted (lending (turn report) areas) ≡ true
   pub kept : areas .kept ≡ run stepKept before r
-  pub leaves : turnCall areas report ≡ keptBy (turnOf (worldIn areas) report)
+  pub leaves : turnCall areas report ≡ onBytes (turnOf (worldIn areas) report)
   pub settled : isSettled (turnOf (worldIn areas) report .outcome .fate) ≡ true
   pub free : frameKept (turnCall areas report .areas .kept) ≡ none
 
