@@ -22,7 +22,7 @@ use Rattle.chip.specs.Arrival.{arrivalOf}
 use Rattle.chip.specs.Turn.{turnOf}
 use Rattle.calls.specs.Calls as exported
 use Rattle.calls.proofs.Laws.{no-image}
-use Rattle.board.specs.declared.Lent.{Lent}
+use Rattle.board.specs.declared.Returned.{Returned}
 use Rattle.board.specs.Front.{areasWith, Fronted}
 use Rattle.board.specs.declared.Board.{Board}
 use Rattle.board.specs.declared.Said.{Said}
@@ -50,7 +50,7 @@ drop-least (suc n) (x ∷ xs) =
     ap (λ (k : ℕ). drop k (x ∷ xs)) e ∙ drop-least n xs
 
 -- a call that was lent the first n bytes, n being N or the length of a shorter memory, has done what it does of the first N
-leaves : (x : exported.Areas → exported.Called) (b : Board) (n : ℕ) (m h out : List ℕ) (l : Lent) (s : Said) (m′ h′ out′ : List ℕ)
+leaves : (x : exported.Areas → exported.Called) (b : Board) (n : ℕ) (m h out : List ℕ) (l : Returned) (s : Said) (m′ h′ out′ : List ℕ)
     → n ≡ min (b .size) (length m)
     → Fronted (x (areasWith (b .kept) (take n m) h out)) (l .kept) (l .answer) m′ h′ out′
     → s ≡ saidOf b (l .kept) (l .answer)
@@ -76,7 +76,7 @@ each-call (arrive f v) b m h out = refl
 each-call (turn report) b m h out = refl
 each-call (run report budget) b m h out = refl
 
-pub leaves-call : (c : Call) (b : Board) (n : ℕ) (m h out : List ℕ) (l : Lent) (s : Said) (m′ h′ out′ : List ℕ) → n ≡ min (b .size) (length m)
+pub leaves-call : (c : Call) (b : Board) (n : ℕ) (m h out : List ℕ) (l : Returned) (s : Said) (m′ h′ out′ : List ℕ) → n ≡ min (b .size) (length m)
     → Fronted (exportedOf c (areasWith (b .kept) (take n m) h out)) (l .kept) (l .answer) m′ h′ out′
     → s ≡ saidOf b (l .kept) (l .answer)
     → Leaves (onBoard c b m h out) s (m′ ++ drop n m) h′ out′

@@ -17,11 +17,11 @@ use denote.Steps.{owned}
 use denote.Struct.Steps.{spelt}
 use denote.Struct.Laws as LL
 use Rattle.board.specs.declared.Record.{Record}
-use Rattle.board.specs.declared.Lent.{Lent}
+use Rattle.board.specs.declared.Returned.{Returned}
 use Rattle.board.proofs.Record as D
 use Rattle.board.proofs.Record.Laws as D′
-use Rattle.board.proofs.Lent as O
-use Rattle.board.proofs.Lent.Laws as O′
+use Rattle.board.proofs.Returned as O
+use Rattle.board.proofs.Returned.Laws as O′
 
 -- ---- machine values
 
@@ -33,15 +33,15 @@ dvals = LL.vals D.the-type D′.the-laws
 
 -- ---- what a call leaves: what whoever holds it knows of its parts
 
-pub kept-is : (r : Lent) (w : Val) → Is O.the-row r (w ∷ []) → Is D.the-row (r .kept) (dvals (r .kept))
+pub kept-is : (r : Returned) (w : Val) → Is O.the-row r (w ∷ []) → Is D.the-row (r .kept) (dvals (r .kept))
 kept-is r w is = LL.owed O.the-type O′.the-laws r _ is .0
 
-pub answer-is : (r : Lent) (w : Val) → Is O.the-row r (w ∷ []) → r .answer < 2 ^ 64
+pub answer-is : (r : Returned) (w : Val) → Is O.the-row r (w ∷ []) → r .answer < 2 ^ 64
 answer-is r w is = LL.owed O.the-type O′.the-laws r _ is .1 .0 .1
 
 -- and what a lender makes
 
-abbrev pub made : ℕ → Record → Lent
+abbrev pub made : ℕ → Record → Returned
 made r k = record { kept = k; answer = r }
 
 pub made-is : (r : ℕ) (k : Record) → r < 2 ^ 64 → Is D.the-row k (dvals k) → Is O.the-row (made r k) (LL.vals O.the-type O′.the-laws (made r k))

@@ -9,8 +9,8 @@ pub struct Record {
     pub bytes: [u8; 256],
 }
 
-// What a call through the front leaves: the record, and its answer as one number.
-pub struct Lent {
+// What a call gives back to a program that holds its record by value: the record, and the answer as one number.
+pub struct Returned {
     pub kept: Record,
     pub answer: u64,
 }
@@ -87,7 +87,7 @@ pub fn lent_length(size: usize, most: usize) -> usize
 }
 
 // What a call leaves of the board, and its answer.
-pub fn answering(b: Board, l: Lent) -> Said
+pub fn answering(b: Board, l: Returned) -> Said
     ensures { λ r. ⌜ r ≡ board.saidOf b (l .kept) (l .answer) ⌝ }
 {
     let kept = l.kept;

@@ -2,8 +2,8 @@
 // all else is the scene's. Memory, holding and outgoing area are lent whole; the first N bytes of memory go on to the front. It takes every
 // line, every board and slices of every length.
 use board::Asked;
-use board::Lent;
 use board::Record;
+use board::Returned;
 use board::Which;
 use scene::Deed;
 use scene::Play;
@@ -13,7 +13,7 @@ ghost use Rattle.board.specs.Board.{callOf, exportedOf};
 ghost use Rattle.board.specs.Front.{areasWith, Fronted};
 ghost use Rattle.scene.specs.Scene.{Plays, sceneOf, called, callsOf, obeyed};
 
-// The call that is asked for, through the front; reset takes the record alone.
+// The call that is asked for, through the front; reset and run go by value.
 fn lent(
     asked: Asked,
     kept: Record,
@@ -21,8 +21,9 @@ fn lent(
     holding: &mut [u8],
     outgoing: &mut [u8],
     frame: &[u8],
-) -> Lent
-    ensures { λ r. ⌜ Fronted (exportedOf (callOf asked (now (frame .entry))) (areasWith kept (now (memory .entry)) (now (holding .entry)) (now (outgoing .entry)))) (r .kept) (r .answer) (now (memory .exit)) (now (holding .exit)) (now (outgoing .exit)) ⌝ }
+) -> Returned
+    ensures { λ r. ⌜ Fronted (exportedOf (callOf asked (now (frame .entry))) (areasWith kept (now (memory .entry)) (now (holding .entry)) (now (outgoing .entry))))
+        (r .kept) (r .answer) (now (memory .exit)) (now (holding .exit)) (now (outgoing .exit)) ⌝ }
 {
     let which = asked.which;
     match which {
@@ -32,14 +33,7 @@ fn lent(
             front::receive_through(kept, memory, holding, outgoing, frame, asked.verdict)
         }
         Which::Turn => turning::turn_through(kept, memory, holding, outgoing, asked.report),
-        Which::Run => turning::run_through(
-            kept,
-            memory,
-            holding,
-            outgoing,
-            asked.report,
-            asked.budget,
-        ),
+        Which::Run => turning::run(kept, memory, holding, outgoing, asked.report, asked.budget),
     }
 }
 
@@ -53,7 +47,8 @@ fn call(
     own: &[u8],
     out: &mut [u8],
 ) -> Play
-    ensures { λ r. ⌜ Plays (called (callOf asked (now (own .entry))) (sceneOf p (now (memory .entry)) (now (holding .entry)) (now (outgoing .entry)) (now (out .entry)))) r (now (memory .exit)) (now (holding .exit)) (now (outgoing .exit)) (now (out .exit)) ⌝ }
+    ensures { λ r. ⌜ Plays (called (callOf asked (now (own .entry))) (sceneOf p (now (memory .entry)) (now (holding .entry)) (now (outgoing .entry)) (now (out .entry))))
+        r (now (memory .exit)) (now (holding .exit)) (now (outgoing .exit)) (now (out .exit)) ⌝ }
 {
     let b = p.board;
     let n = board::lent_length(b.size, memory.len());
@@ -72,7 +67,8 @@ fn calls(
     own: &[u8],
     out: &mut [u8],
 ) -> Play
-    ensures { λ r. ⌜ Plays (callsOf (asked .times) (callOf asked (now (own .entry))) (sceneOf p (now (memory .entry)) (now (holding .entry)) (now (outgoing .entry)) (now (out .entry)))) r (now (memory .exit)) (now (holding .exit)) (now (outgoing .exit)) (now (out .exit)) ⌝ }
+    ensures { λ r. ⌜ Plays (callsOf (asked .times) (callOf asked (now (own .entry))) (sceneOf p (now (memory .entry)) (now (holding .entry)) (now (outgoing .entry)) (now (out .entry))))
+        r (now (memory .exit)) (now (holding .exit)) (now (outgoing .exit)) (now (out .exit)) ⌝ }
 {
     let mut q = p;
     let mut i: u16 = 0;
@@ -94,7 +90,8 @@ pub fn obey(
     own: &[u8],
     out: &mut [u8],
 ) -> Play
-    ensures { λ r. ⌜ Plays (obeyed verb line (now (own .entry)) (sceneOf p (now (memory .entry)) (now (holding .entry)) (now (outgoing .entry)) (now (out .entry)))) r (now (memory .exit)) (now (holding .exit)) (now (outgoing .exit)) (now (out .exit)) ⌝ }
+    ensures { λ r. ⌜ Plays (obeyed verb line (now (own .entry)) (sceneOf p (now (memory .entry)) (now (holding .entry)) (now (outgoing .entry)) (now (out .entry))))
+        r (now (memory .exit)) (now (holding .exit)) (now (outgoing .exit)) (now (out .exit)) ⌝ }
 {
     let deed = scene::deed_of(verb);
     match deed {

@@ -1,32 +1,33 @@
-// The thin front: attention and arrival on one device record that is lent and changed in place, and reset; turn and run are in the room
-// `turning`. Each makes the call that C makes, on the record by value, and stores the record that it gives. A program holds its record by
-// value, and calls the lenders, which lend it for one call and give it back.
-use board::Lent;
+// The thin front: attention and arrival on one device record that is lent and changed in place; the third, turn, is in the room `turning`.
+// Each hands the record by value to the core, which is the call that C makes, and stores the record that it gives. Above each stands a
+// lender, for a program that holds its record by value: it lends it for one call and gives it back. Reset goes by value alone.
 use board::Record;
+use board::Returned;
 ghost use Rattle.calls.specs.Calls as calls;
 ghost use Rattle.board.specs.Front as front;
 
-// ---- the calls of C, on a record by value
+// ---- the core: the calls of C, on a record by value
 
 // Reset takes the record alone.
-pub fn reset(d: Record) -> Lent
+pub fn reset(d: Record) -> Returned
     ensures { λ r. ⌜ calls.Renews (calls.resetCall (d .bytes)) (r .answer) (r .kept .bytes) ⌝ }
 {
     let mut bytes = d.bytes;
     let answer = lentoquist::lq_reset(&mut bytes);
-    Lent {
+    Returned {
         kept: Record { bytes },
         answer,
     }
 }
 
 // A channel attention to the device of a record.
-fn attention_on(d: Record, memory: &mut [u8], holding: &mut [u8], outgoing: &mut [u8]) -> Lent
-    ensures { λ r. ⌜ front.Fronted (calls.attentionCall (front.areasWith d (now (memory .entry)) (now (holding .entry)) (now (outgoing .entry)))) (r .kept) (r .answer) (now (memory .exit)) (now (holding .exit)) (now (outgoing .exit)) ⌝ }
+fn attention_on(d: Record, memory: &mut [u8], holding: &mut [u8], outgoing: &mut [u8]) -> Returned
+    ensures { λ r. ⌜ front.Attends d (now (memory .entry)) (now (holding .entry)) (now (outgoing .entry)) (r .kept) (r .answer)
+        (now (memory .exit)) (now (holding .exit)) (now (outgoing .exit)) ⌝ }
 {
     let mut bytes = d.bytes;
     let answer = lentoquist::lq_attention(memory, holding, outgoing, &mut bytes);
-    Lent {
+    Returned {
         kept: Record { bytes },
         answer,
     }
@@ -40,12 +41,13 @@ fn arrival_on(
     outgoing: &mut [u8],
     frame: &[u8],
     verdict: u32,
-) -> Lent
-    ensures { λ r. ⌜ front.Fronted (calls.arrivalCall (front.areasWith d (now (memory .entry)) (now (holding .entry)) (now (outgoing .entry))) (now (frame .entry)) verdict) (r .kept) (r .answer) (now (memory .exit)) (now (holding .exit)) (now (outgoing .exit)) ⌝ }
+) -> Returned
+    ensures { λ r. ⌜ front.Receives d (now (memory .entry)) (now (holding .entry)) (now (outgoing .entry)) (now (frame .entry)) verdict (r .kept) (r .answer)
+        (now (memory .exit)) (now (holding .exit)) (now (outgoing .exit)) ⌝ }
 {
     let mut bytes = d.bytes;
     let answer = lentoquist::lq_arrival(memory, holding, outgoing, &mut bytes, frame, verdict);
-    Lent {
+    Returned {
         kept: Record { bytes },
         answer,
     }
@@ -55,7 +57,8 @@ fn arrival_on(
 
 // A channel attention.
 pub fn attend(d: &mut Record, memory: &mut [u8], holding: &mut [u8], outgoing: &mut [u8]) -> u64
-    ensures { λ r. ⌜ front.Fronted (calls.attentionCall (front.areasWith (now (d .entry)) (now (memory .entry)) (now (holding .entry)) (now (outgoing .entry)))) (now (d .exit)) r (now (memory .exit)) (now (holding .exit)) (now (outgoing .exit)) ⌝ }
+    ensures { λ r. ⌜ front.Attends (now (d .entry)) (now (memory .entry)) (now (holding .entry)) (now (outgoing .entry)) (now (d .exit)) r
+        (now (memory .exit)) (now (holding .exit)) (now (outgoing .exit)) ⌝ }
 {
     let attended = attention_on(*d, memory, holding, outgoing);
     *d = attended.kept;
@@ -71,7 +74,8 @@ pub fn receive(
     frame: &[u8],
     verdict: u32,
 ) -> u64
-    ensures { λ r. ⌜ front.Fronted (calls.arrivalCall (front.areasWith (now (d .entry)) (now (memory .entry)) (now (holding .entry)) (now (outgoing .entry))) (now (frame .entry)) verdict) (now (d .exit)) r (now (memory .exit)) (now (holding .exit)) (now (outgoing .exit)) ⌝ }
+    ensures { λ r. ⌜ front.Receives (now (d .entry)) (now (memory .entry)) (now (holding .entry)) (now (outgoing .entry)) (now (frame .entry)) verdict (now (d .exit)) r
+        (now (memory .exit)) (now (holding .exit)) (now (outgoing .exit)) ⌝ }
 {
     let arrived = arrival_on(*d, memory, holding, outgoing, frame, verdict);
     *d = arrived.kept;
@@ -86,12 +90,13 @@ pub fn attend_through(
     memory: &mut [u8],
     holding: &mut [u8],
     outgoing: &mut [u8],
-) -> Lent
-    ensures { λ r. ⌜ front.Fronted (calls.attentionCall (front.areasWith kept (now (memory .entry)) (now (holding .entry)) (now (outgoing .entry)))) (r .kept) (r .answer) (now (memory .exit)) (now (holding .exit)) (now (outgoing .exit)) ⌝ }
+) -> Returned
+    ensures { λ r. ⌜ front.Attends kept (now (memory .entry)) (now (holding .entry)) (now (outgoing .entry)) (r .kept) (r .answer)
+        (now (memory .exit)) (now (holding .exit)) (now (outgoing .exit)) ⌝ }
 {
     let mut d = kept;
     let answer = attend(&mut d, memory, holding, outgoing);
-    Lent { kept: d, answer }
+    Returned { kept: d, answer }
 }
 
 // A frame's arrival, through the front.
@@ -102,10 +107,11 @@ pub fn receive_through(
     outgoing: &mut [u8],
     frame: &[u8],
     verdict: u32,
-) -> Lent
-    ensures { λ r. ⌜ front.Fronted (calls.arrivalCall (front.areasWith kept (now (memory .entry)) (now (holding .entry)) (now (outgoing .entry))) (now (frame .entry)) verdict) (r .kept) (r .answer) (now (memory .exit)) (now (holding .exit)) (now (outgoing .exit)) ⌝ }
+) -> Returned
+    ensures { λ r. ⌜ front.Receives kept (now (memory .entry)) (now (holding .entry)) (now (outgoing .entry)) (now (frame .entry)) verdict (r .kept) (r .answer)
+        (now (memory .exit)) (now (holding .exit)) (now (outgoing .exit)) ⌝ }
 {
     let mut d = kept;
     let answer = receive(&mut d, memory, holding, outgoing, frame, verdict);
-    Lent { kept: d, answer }
+    Returned { kept: d, answer }
 }

@@ -70,7 +70,8 @@ fn write(
     place: usize,
     own: &[u8],
 )
-    ensures { λ _. ⌜ scene.Writes (scene.areasBy area (now (memory .entry)) (now (holding .entry)) (now (outgoing .entry)) place (now (own .entry))) (now (memory .exit)) (now (holding .exit)) (now (outgoing .exit)) ⌝ }
+    ensures { λ _. ⌜ scene.Writes (scene.areasBy area (now (memory .entry)) (now (holding .entry)) (now (outgoing .entry)) place (now (own .entry)))
+        (now (memory .exit)) (now (holding .exit)) (now (outgoing .exit)) ⌝ }
 {
     match area {
         Area::Memory => memory::put_run(memory, place, own),
@@ -196,7 +197,8 @@ fn print(
     out: &mut [u8],
     at: usize,
 ) -> usize
-    ensures { λ r. ⌜ Puts (scene.textBy verb area b (now (memory .entry)) (now (holding .entry)) (now (outgoing .entry)) (now (own .entry)) place count) at (now (out .entry)) r (now (out .exit)) ⌝ }
+    ensures { λ r. ⌜ Puts (scene.textBy verb area b (now (memory .entry)) (now (holding .entry)) (now (outgoing .entry)) (now (own .entry)) place count)
+        at (now (out .entry)) r (now (out .exit)) ⌝ }
 {
     match verb {
         Verb::Nothing => at,
@@ -228,7 +230,8 @@ pub fn host(
     own: &[u8],
     out: &mut [u8],
 ) -> Play
-    ensures { λ r. ⌜ Plays (scene.hostBy part verb line (now (own .entry)) (scene.sceneOf p (now (memory .entry)) (now (holding .entry)) (now (outgoing .entry)) (now (out .entry)))) r (now (memory .exit)) (now (holding .exit)) (now (outgoing .exit)) (now (out .exit)) ⌝ }
+    ensures { λ r. ⌜ Plays (scene.hostBy part verb line (now (own .entry)) (scene.sceneOf p (now (memory .entry)) (now (holding .entry)) (now (outgoing .entry)) (now (out .entry))))
+        r (now (memory .exit)) (now (holding .exit)) (now (outgoing .exit)) (now (out .exit)) ⌝ }
 {
     let area = line.area;
     let b = p.board;

@@ -1,10 +1,11 @@
-// The thin front, as in the room `front`: turn and run on one device record that is lent and changed in place, and their lenders.
-use board::Lent;
+// The thin front, as in the room `front`: turn, on one device record that is lent and changed in place, with its core and its lender; and a
+// run of turns, which goes by value.
 use board::Record;
+use board::Returned;
 ghost use Rattle.calls.specs.Calls as calls;
 ghost use Rattle.board.specs.Front as front;
 
-// ---- the calls of C, on a record by value
+// ---- the core: the calls of C, on a record by value
 
 // A turn of the device of a record.
 fn turn_on(
@@ -13,31 +14,33 @@ fn turn_on(
     holding: &mut [u8],
     outgoing: &mut [u8],
     report: u16,
-) -> Lent
-    ensures { λ r. ⌜ front.Fronted (calls.turnCall (front.areasWith d (now (memory .entry)) (now (holding .entry)) (now (outgoing .entry))) report) (r .kept) (r .answer) (now (memory .exit)) (now (holding .exit)) (now (outgoing .exit)) ⌝ }
+) -> Returned
+    ensures { λ r. ⌜ front.Turns d (now (memory .entry)) (now (holding .entry)) (now (outgoing .entry)) report (r .kept) (r .answer)
+        (now (memory .exit)) (now (holding .exit)) (now (outgoing .exit)) ⌝ }
 {
     let mut bytes = d.bytes;
     let answer = lentoquist::lq_turn(memory, holding, outgoing, &mut bytes, report);
-    Lent {
+    Returned {
         kept: Record { bytes },
         answer,
     }
 }
 
-// A run of turns of the device of a record.
-fn run_on(
+// A run of turns, each with the same line report. It goes by value alone, as reset does.
+pub fn run(
     d: Record,
     memory: &mut [u8],
     holding: &mut [u8],
     outgoing: &mut [u8],
     report: u16,
     budget: u16,
-) -> Lent
-    ensures { λ r. ⌜ front.Fronted (calls.runCall (front.areasWith d (now (memory .entry)) (now (holding .entry)) (now (outgoing .entry))) report budget) (r .kept) (r .answer) (now (memory .exit)) (now (holding .exit)) (now (outgoing .exit)) ⌝ }
+) -> Returned
+    ensures { λ r. ⌜ front.Runs d (now (memory .entry)) (now (holding .entry)) (now (outgoing .entry)) report budget (r .kept) (r .answer)
+        (now (memory .exit)) (now (holding .exit)) (now (outgoing .exit)) ⌝ }
 {
     let mut bytes = d.bytes;
     let answer = lentoquist::lq_run(memory, holding, outgoing, &mut bytes, report, budget);
-    Lent {
+    Returned {
         kept: Record { bytes },
         answer,
     }
@@ -53,30 +56,15 @@ pub fn turn(
     outgoing: &mut [u8],
     report: u16,
 ) -> u64
-    ensures { λ r. ⌜ front.Fronted (calls.turnCall (front.areasWith (now (d .entry)) (now (memory .entry)) (now (holding .entry)) (now (outgoing .entry))) report) (now (d .exit)) r (now (memory .exit)) (now (holding .exit)) (now (outgoing .exit)) ⌝ }
+    ensures { λ r. ⌜ front.Turns (now (d .entry)) (now (memory .entry)) (now (holding .entry)) (now (outgoing .entry)) report (now (d .exit)) r
+        (now (memory .exit)) (now (holding .exit)) (now (outgoing .exit)) ⌝ }
 {
     let turned = turn_on(*d, memory, holding, outgoing, report);
     *d = turned.kept;
     turned.answer
 }
 
-// A run of turns, each with the same line report.
-pub fn run(
-    d: &mut Record,
-    memory: &mut [u8],
-    holding: &mut [u8],
-    outgoing: &mut [u8],
-    report: u16,
-    budget: u16,
-) -> u64
-    ensures { λ r. ⌜ front.Fronted (calls.runCall (front.areasWith (now (d .entry)) (now (memory .entry)) (now (holding .entry)) (now (outgoing .entry))) report budget) (now (d .exit)) r (now (memory .exit)) (now (holding .exit)) (now (outgoing .exit)) ⌝ }
-{
-    let ran = run_on(*d, memory, holding, outgoing, report, budget);
-    *d = ran.kept;
-    ran.answer
-}
-
-// ---- the lenders: the same calls for a caller that holds the record by value, in a loop or not
+// ---- the lender: the same call for a caller that holds the record by value, in a loop or not
 
 // A turn, through the front.
 pub fn turn_through(
@@ -85,26 +73,11 @@ pub fn turn_through(
     holding: &mut [u8],
     outgoing: &mut [u8],
     report: u16,
-) -> Lent
-    ensures { λ r. ⌜ front.Fronted (calls.turnCall (front.areasWith kept (now (memory .entry)) (now (holding .entry)) (now (outgoing .entry))) report) (r .kept) (r .answer) (now (memory .exit)) (now (holding .exit)) (now (outgoing .exit)) ⌝ }
+) -> Returned
+    ensures { λ r. ⌜ front.Turns kept (now (memory .entry)) (now (holding .entry)) (now (outgoing .entry)) report (r .kept) (r .answer)
+        (now (memory .exit)) (now (holding .exit)) (now (outgoing .exit)) ⌝ }
 {
     let mut d = kept;
     let answer = turn(&mut d, memory, holding, outgoing, report);
-    Lent { kept: d, answer }
-}
-
-// A run of turns, through the front.
-pub fn run_through(
-    kept: Record,
-    memory: &mut [u8],
-    holding: &mut [u8],
-    outgoing: &mut [u8],
-    report: u16,
-    budget: u16,
-) -> Lent
-    ensures { λ r. ⌜ front.Fronted (calls.runCall (front.areasWith kept (now (memory .entry)) (now (holding .entry)) (now (outgoing .entry))) report budget) (r .kept) (r .answer) (now (memory .exit)) (now (holding .exit)) (now (outgoing .exit)) ⌝ }
-{
-    let mut d = kept;
-    let answer = run(&mut d, memory, holding, outgoing, report, budget);
-    Lent { kept: d, answer }
+    Returned { kept: d, answer }
 }

@@ -44,11 +44,11 @@ use Rattle.calls.specs.Calls.{attentionCall}
 use Rattle.board.specs.Front.{areasWith, Fronted}
 use Rattle.board.proofs.Parts.{dvals, kept-is, answer-is}
 use Rattle.board.specs.declared.Record.{Record}
-use Rattle.board.specs.declared.Lent.{Lent}
+use Rattle.board.specs.declared.Returned.{Returned}
 use Rattle.board.proofs.Record as D
 use Rattle.board.proofs.Record.Laws as D′
-use Rattle.board.proofs.Lent as O
-use Rattle.board.proofs.Lent.Laws as O′
+use Rattle.board.proofs.Returned as O
+use Rattle.board.proofs.Returned.Laws as O′
 use Rattle.front.proofs.attention_on as callee
 use Rattle.front.proofs.attention_on.Symbol as callee-def
 use Rattle.front.proofs.attention_on.Symbol.{name as #front·attention-on}
@@ -107,10 +107,10 @@ module _ {M : Type 1} (𝓤 : URA M) (H : Heap 𝓤) (A : Atoms 𝓤) (W : Given
       qed W ((‵ (flft κ₁ q₁) ⊛ ‵ (flft κ₂ q₂) ⊛ ‵ (flft κ₃ q₃) ⊛ ‵ ftrue) ∷ ‵ (owns (MutSlice (named 1) κ₁ u8 ∷ MutSlice (named 2) κ₂ u8 ∷ MutSlice (named 3) κ₃ u8 ∷ []) rest rest-vals) ∷ []) ∵ move ! (1 ∷ []) $ owned ! D.the-row (Is D.the-row) (LL.makes D.the-type D′.the-plain 𝓤 H A) h _ is $ fjoin ! $ move ! (1 ∷ 0 ∷ []) $ join ! $ frame ! $ done !
 
   -- what the core's contract says of what it returns, r, and of the last lists
-  abbrev Said : Lent → List ℕ → List ℕ → List ℕ → Type 0
+  abbrev Said : Returned → List ℕ → List ℕ → List ℕ → Type 0
   Said r zs₁ zs₂ zs₃ = Fronted (attentionCall (areasWith h ys₁ ys₂ ys₃)) (r .kept) (r .answer) (zs₁) (zs₂) (zs₃)
 
-  exits : (r : Lent) (zs₁ zs₂ zs₃ : List ℕ) → Said r zs₁ zs₂ zs₃ → length zs₁ ≡ length ys₁ → length zs₂ ≡ length ys₂ → length zs₃ ≡ length ys₃ → r .answer < 2 ^ 64 → ent 𝓤 (⋆ 𝓤 H A (‵ (fobs γ (D.the-row .coded .code (r .kept))) ∷ ‵ (fbor κ₀ (Body (mem D.the-row) b o γ)) ∷ ‵ (flft κ₀ q₀) ∷ (‵ (flft κ₁ q₁) ⊛ ‵ (flft κ₂ q₂) ⊛ ‵ (flft κ₃ q₃) ⊛ ‵ ftrue) ∷ ‵ (finally u8 γ₃ zs₃) ∷ ‵ (finally u8 γ₂ zs₂) ∷ ‵ (finally u8 γ₁ zs₁) ∷ [])) (Post (vint w64 (r .answer)))
+  exits : (r : Returned) (zs₁ zs₂ zs₃ : List ℕ) → Said r zs₁ zs₂ zs₃ → length zs₁ ≡ length ys₁ → length zs₂ ≡ length ys₂ → length zs₃ ≡ length ys₃ → r .answer < 2 ^ 64 → ent 𝓤 (⋆ 𝓤 H A (‵ (fobs γ (D.the-row .coded .code (r .kept))) ∷ ‵ (fbor κ₀ (Body (mem D.the-row) b o γ)) ∷ ‵ (flft κ₀ q₀) ∷ (‵ (flft κ₁ q₁) ⊛ ‵ (flft κ₂ q₂) ⊛ ‵ (flft κ₃ q₃) ⊛ ‵ ftrue) ∷ ‵ (finally u8 γ₃ zs₃) ∷ ‵ (finally u8 γ₂ zs₂) ∷ ‵ (finally u8 γ₁ zs₁) ∷ [])) (Post (vint w64 (r .answer)))
   exits r zs₁ zs₂ zs₃ e l-1 l-2 l-3 fine =
       qed W (‵ (fobs γ (D.the-row .coded .code (r .kept))) ∷ ‵ (fbor κ₀ (Body (mem D.the-row) b o γ)) ∷ ‵ (flft κ₀ q₀) ∷ (‵ (flft κ₁ q₁) ⊛ ‵ (flft κ₂ q₂) ⊛ ‵ (flft κ₃ q₃) ⊛ ‵ ftrue) ∷ ‵ (finally u8 γ₃ zs₃) ∷ ‵ (finally u8 γ₂ zs₂) ∷ ‵ (finally u8 γ₁ zs₁) ∷ []) ∵
       suffices ! _ (ends-at 𝓤 H A self.ended stayed (self.clauses 𝓤 H A at-mem run) W (((κ₀, (κ₁, (κ₂, (κ₃, tt)))), (q₀, (q₁, (q₂, (q₃, tt)))), tt, a, (vptr b o ∷ [], rest-vals)), tt) (vint w64 (r .answer)) (r .answer) ((r .kept), (zs₁, (zs₂, (zs₃, tt)))) (tt, (l-1, (l-2, (l-3, tt))))) $
@@ -143,7 +143,7 @@ module _ {M : Type 1} (𝓤 : URA M) (H : Heap 𝓤) (A : Atoms 𝓤) (W : Given
         -- the call
         move ! (5 ∷ 6 ∷ []) $ use2 W (raw (Callee 𝓤 H A at-mem run .pre to-core)) (goes-core is) $
         calls-at ! fm (Callee 𝓤 H A at-mem run) known to-core (and-then ! (load ! (from ! (stop !)) (look ! 18 refl)) (and-then ! (load ! (from ! (stop !)) (look ! 14 refl)) (and-then ! (load ! (from ! (stop !)) (look ! 10 refl)) (and-then ! (load ! (from ! (stop !)) (look ! 6 refl)) (no-more !))))) (λ w.
-        use1 W (later (some (λ (r : Lent). ((‵ (flft κ₁ q₁) ⊛ ‵ (flft κ₂ q₂) ⊛ ‵ (flft κ₃ q₃) ⊛ ‵ ftrue) ⊛ ‵ (O.the-row .own r (w ∷ []))) ⊛ raw (ensured 𝓤 H A callee.ended (callee.clauses 𝓤 H A at-mem run) (κ₁, (κ₂, (κ₃, tt))) (h, rest) tt r)))) (id⊢ 𝓤 _) $ await ! tt $ pick ! (λ r.
+        use1 W (later (some (λ (r : Returned). ((‵ (flft κ₁ q₁) ⊛ ‵ (flft κ₂ q₂) ⊛ ‵ (flft κ₃ q₃) ⊛ ‵ ftrue) ⊛ ‵ (O.the-row .own r (w ∷ []))) ⊛ raw (ensured 𝓤 H A callee.ended (callee.clauses 𝓤 H A at-mem run) (κ₁, (κ₂, (κ₃, tt))) (h, rest) tt r)))) (id⊢ 𝓤 _) $ await ! tt $ pick ! (λ r.
         -- what the core ensures, at some last lists
         split ! $ move ! (1 ∷ []) $ use1 W (some (λ (zs : Unit {0} × (List ℕ × (List ℕ × (List ℕ × Unit {0})))). ‵ (lasts callee.ended (κ₁, (κ₂, (κ₃, tt))) (h, rest) zs) ⊛ raw (fact 𝓤 (Fronted (attentionCall (areasWith h ys₁ ys₂ ys₃)) (r .kept) (r .answer) (zs .1 .0) (zs .1 .1 .0) (zs .1 .1 .1 .0))))) (id⊢ 𝓤 _) $ pick ! (λ zs.
         split ! $ move ! (1 ∷ []) $ heard ! (Fronted (attentionCall (areasWith h ys₁ ys₂ ys₃)) (r .kept) (r .answer) (zs .1 .0) (zs .1 .1 .0) (zs .1 .1 .1 .0)) (λ e-1.

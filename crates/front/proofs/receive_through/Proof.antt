@@ -48,8 +48,8 @@ use Rattle.board.proofs.Parts.{dval, dvals, lies-in, lies-out, made, made-is}
 use Rattle.board.specs.declared.Record.{Record}
 use Rattle.board.proofs.Record as D
 use Rattle.board.proofs.Record.Laws as D′
-use Rattle.board.proofs.Lent as O
-use Rattle.board.proofs.Lent.Laws as O′
+use Rattle.board.proofs.Returned as O
+use Rattle.board.proofs.Returned.Laws as O′
 use Rattle.front.proofs.receive as callee
 use Rattle.front.proofs.receive.Symbol as callee-def
 use Rattle.front.proofs.receive.Symbol.{name as #front·receive}
