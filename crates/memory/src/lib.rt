@@ -1,5 +1,6 @@
 // Shared memory: bytes, words and real addresses in a slice of any length, each address taken modulo that length, byte by byte.
-// The only room that makes a real address, and the only one that indexes shared memory; copies stands on its slot, read, write and copy_run.
+// The only room that makes a real address. All that the chip reads and writes in shared memory goes through here or through copies, which
+// stands on slot, read, write and copy_run; the replay program's host goes by an index, with put_run in scene, and with its own reads in texts.
 ghost use mathlib.Core.Path.{_≡_};
 ghost use mathlib.Core.List.{[], _∷_};
 ghost use Prim.Native.Nat.{_+_, _-_, _*_, _%_, _≤_, _<_, min};
