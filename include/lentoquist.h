@@ -127,6 +127,7 @@ static inline unsigned lq_turns(uint64_t answer)
 /* Byte 5 has the events, in every version; its low four bits are 0. It says nothing of a record that is refused by
    LQ_REFUSED_FOREIGN. */
 #define LQ_RECORD_EVENTS_AT 5
+/* The first attention after a reset sets CX and CNA, whatever happened. */
 #define LQ_EVENT_CX  0x80 /* a command with I was completed */
 #define LQ_EVENT_FR  0x40 /* a frame was received */
 #define LQ_EVENT_CNA 0x20 /* the command unit left Active */
