@@ -107,6 +107,7 @@ module _ (base : RealAddress) (m₀ : List ℕ) (big : 8192 ≤ length m₀) whe
         left = cs;
         stands = g .stands out;
         part = g .part;
+        setup = g .setup;
         noted = ap (λ (t : List Tag). done c ∷ t) (g .todo);
         fewer = g .rank;
       }
@@ -122,6 +123,7 @@ module _ (base : RealAddress) (m₀ : List ℕ) (big : 8192 ≤ length m₀) whe
         left = cs;
         stands = g .stands out;
         part = g .part;
+        setup = g .setup;
         noted = ap (λ (t : List Tag). done c ∷ t) (g .todo);
         fewer = g .rank;
       }
@@ -137,6 +139,7 @@ module _ (base : RealAddress) (m₀ : List ℕ) (big : 8192 ≤ length m₀) whe
         left = cs;
         stands = g .stands out;
         part = g .part;
+        setup = g .setup;
         noted = ap (λ (t : List Tag). done c ∷ t) (g .todo);
         fewer = g .rank;
       }

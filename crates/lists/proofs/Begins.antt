@@ -23,7 +23,7 @@ use Rattle.command.specs.Service.{service}
 use Rattle.progress.specs.Machine.{Tag, begun, done, eachOnce}
 use Rattle.progress.specs.Same.{range, Same}
 use Rattle.progress.proofs.Same.{Sub, sub-nil, in-left, in-right, same-apply, same-field}
-use Rattle.lists.specs.Uses.{block, from, wordOf, addressLengthOf, headerBytes, headerLengthOf, marked, uses, chainBytes, firstBytes, listBytes}
+use Rattle.lists.specs.Uses.{block, from, wordOf, addressLengthOf, headerBytes, headerLengthOf, marked, uses, chainBytes, firstBytes, listSetup, listBytes}
 use Rattle.lists.specs.Unit.{beginReads, readsBy}
 use Rattle.lists.proofs.Laws.{begun-setup, begun-base}
 use Rattle.lists.proofs.Blocks.{sub-refl, sub-append, command-in, own-in, word-targets, status-result, later}
@@ -131,6 +131,7 @@ module _ (base : RealAddress) (m₀ : List ℕ) where
           subst (λ (x : Setup). Lies base m₀ x c cs (apply ws q)) k lies,
         );
         part = subst (λ (x : Setup). Sub (listBytes base x m₀ (c ∷ cs)) (listBytes base s m₀ (c ∷ cs))) k (sub-refl (listBytes base s m₀ (c ∷ cs)));
+        setup = ap (λ (x : Setup). listSetup base x m₀ (c ∷ cs)) (begun-setup t p b w q);
         noted = ap (λ (x : List Tag). begun c ∷ x) (begun-todo t p b w q c cs);
         fewer = begun-rank t p b w q (length cs);
       }

@@ -92,6 +92,7 @@ module _ (base : RealAddress) (m₀ : List ℕ) where
           l,
         );
         part = sub-refl (listBytes base s m₀ (c ∷ cs));
+        setup = refl;
         noted = rw e (next-todo (fits d w) (d .eof) (isNone (d .next)) (isLast (w .used)) b (past d w) c cs);
         fewer = rw e (next-rank (fits d w) (d .eof) (isNone (d .next)) (isLast (w .used)) b (past d w) (w .used) (k .0) (length cs) refl (k .1));
       }

@@ -25,7 +25,7 @@ use Rattle.command.specs.End.{afterEnd, nextAfter}
 use Rattle.progress.specs.Machine.{eachOnce}
 use Rattle.progress.specs.Same.{targets, Same}
 use Rattle.progress.proofs.Same.{Sub, sub-nil, in-left, in-right, same-trans, same-part, same-field, apart-writes}
-use Rattle.lists.specs.Uses.{block, from, wordOf, marked, uses, resultBytes, tdrBytes, setupAfter, listBytes, stops}
+use Rattle.lists.specs.Uses.{block, from, wordOf, marked, uses, resultBytes, tdrBytes, setupAfter, listSetup, listBytes, stops}
 use Rattle.lists.proofs.Blocks.{sub-refl, word-targets, targets-append, link-in, status-result, tdr-result, link-apart, marked-same, marked-size, later, rest-in}
 use Rattle.lists.proofs.Stands.{todo, rank, Lies, Stands, partWith}
 
@@ -125,6 +125,7 @@ module _ (base : RealAddress) (m₀ : List ℕ) (big : 8192 ≤ length m₀) whe
   pub record Goes (s x : Setup) (unit : Cu) (c : ℕ) (cs : List ℕ) (q : List ℕ) : Type 0 where
     pub stands : (out : List ℕ) → Stands base m₀ cs (partWith base unit x out) q
     pub part : Sub (listBytes base x m₀ cs) (listBytes base s m₀ (c ∷ cs))
+    pub setup : listSetup base x m₀ cs ≡ listSetup base s m₀ (c ∷ cs)
     pub todo : todo unit cs ≡ eachOnce cs
     pub rank : rank unit (length cs) < 1 + 66 * length cs
 
@@ -146,6 +147,7 @@ module _ (base : RealAddress) (m₀ : List ℕ) (big : 8192 ≤ length m₀) whe
       record {
         stands = λ out. h;
         part = rest-in base s (a .setup) m₀ c [] u;
+        setup = u;
         todo = refl;
         rank = rw (rank-out (unitAfter c a q) h) (omega arith);
       }
@@ -165,6 +167,7 @@ module _ (base : RealAddress) (m₀ : List ℕ) (big : 8192 ≤ length m₀) whe
             subst (λ (y : Setup). Stands base m₀ (d ∷ ds) (partWith base (unitAfter c a q) y out) p) (sym u)
             (subst (λ (z : Cu). Stands base m₀ (d ∷ ds) (partWith base z (setupAfter base s m₀ c) out) p) (sym e) (next-stands s c d ds p out i));
         part = rest-in base s (a .setup) m₀ c (d ∷ ds) u;
+        setup = ap (λ (x : Setup). listSetup base x m₀ (d ∷ ds)) u;
         todo = rw e;
         rank = rw e (omega arith);
       }

@@ -1,5 +1,5 @@
 -- A command list, once started, is done in list order, each command once, within 132 turns a command: demand 3, first half. Assumes nothing.
-use mathlib.Core.Path.{_≡_, refl, sym, _∙_, subst}
+use mathlib.Core.Path.{_≡_, refl, sym, ap, _∙_, subst}
 use mathlib.Core.Bool.{true, false, false≢true}
 use mathlib.Core.List.{List, [], _∷_}
 use Prim.Native.Nat.{ℕ, suc, _*_, _≤_, _<_}
@@ -14,12 +14,12 @@ use Rattle.actions.specs.Setup.{Setup, setupOf}
 use Rattle.command.specs.Part.{Part, partOf}
 use Rattle.chip.specs.World.{World}
 use Rattle.traces.specs.Event.{Event}
-use Rattle.progress.specs.Machine.{Laws, Listing, Covers, eachOnce, part′, mem′, Finished}
+use Rattle.progress.specs.Machine.{Laws, Listing, Covers, eachOnce, run, reports, part′, mem′, Finished}
 use Rattle.progress.proofs.Same.{Sub, in-left, same-refl}
 use Rattle.progress.proofs.Machine.{finish, ordered}
-use Rattle.lists.specs.Uses.{block, uses, setupAfter, listBytes}
+use Rattle.lists.specs.Uses.{block, uses, setupAfter, listSetup, listBytes}
 use Rattle.lists.specs.Unit.{tag, readsBy, machine}
-use Rattle.lists.specs.Done.{Started, Apart, Premises, Done, bytesOf}
+use Rattle.lists.specs.Done.{Started, bytesOf, setupLeft, Apart, Premises, Done}
 use Rattle.lists.proofs.Blocks.{sub-refl}
 use Rattle.lists.proofs.Stands.{todo, rank, Now, Lies, Stands, Leads, partWith}
 use Rattle.lists.proofs.Begins.{at-begin, begin-reads}
@@ -77,6 +77,12 @@ module _ (base : RealAddress) (m₀ : List ℕ) (big : 8192 ≤ length m₀) whe
   over [] p q i a = refl
   over (c ∷ cs) p q i a = absurd (false≢true (sym a ∙ busy (p .unit) (p .setup) c q (i .1)))
 
+  -- out of Active no block is left to do
+  none-left : (bs : List ℕ) (p : Part) (q : List ℕ) → Stands base m₀ bs p q → isActive (cuState (p .unit)) ≡ false
+      → listSetup base (p .setup) m₀ bs ≡ p .setup
+  none-left [] p q i a = refl
+  none-left (c ∷ cs) p q i a = absurd (false≢true (sym a ∙ busy (p .unit) (p .setup) c q (i .1)))
+
   -- what a service reads is among the bytes of the command in work
   reads-at : (unit : Cu) (s : Setup) (out : List ℕ) (c : ℕ) (q : List ℕ) → Now base m₀ unit s c q
       → Sub (readsBy unit (partWith base unit s out) q) (uses base s m₀ c)
@@ -95,10 +101,11 @@ module _ (base : RealAddress) (m₀ : List ℕ) (big : 8192 ≤ length m₀) whe
       subst (λ (x : Part). Sub (readsBy (x .unit) x q) L) (whole p (i .0))
       (λ y k. u y (in-left (listBytes base (setupAfter base (p .setup) m₀ c) m₀ cs) (reads-at (p .unit) (p .setup) (p .outgoing) c q (i .1) y k)))
 
-  -- L are the bytes of the whole list: those of the blocks to do, under the unit's own setup, are among them
-  module _ (May : Event → World → Type 0) (L : List ℕ) where
+  -- L are the bytes of the whole list, and x the setup that it leaves: under the unit's own setup the bytes of the blocks to do are among L, and
+  -- they leave x
+  module _ (May : Event → World → Type 0) (L : List ℕ) (x : Setup) where
     Inv : List ℕ → Part → List ℕ → Type 0
-    Inv bs p q = Stands base m₀ bs p q × Sub (listBytes base (p .setup) m₀ bs) L
+    Inv bs p q = Stands base m₀ bs p q × Sub (listBytes base (p .setup) m₀ bs) L × (listSetup base (p .setup) m₀ bs ≡ x)
 
     listing : Listing (machine May)
     unfolding Inv
@@ -108,7 +115,9 @@ module _ (base : RealAddress) (m₀ : List ℕ) (big : 8192 ≤ length m₀) whe
           Inv = Inv;
           todo = λ bs p. todo (p .unit) bs;
           rank = λ bs p. rank (p .unit) (length bs);
-          next = λ bs p q r i a. let n = next bs p q r (i .0) a in (n .left, (n .stands, λ x j. i .1 x (n .part x j)), n .noted, n .fewer);
+          next = λ bs p q r i a.
+              let n = next bs p q r (i .0) a in
+              (n .left, (n .stands, (λ y j. i .1 y (n .part y j)), n .setup ∙ i .2), n .noted, n .fewer);
           some = λ bs p q i a. some bs p q (i .0) a;
           over = λ bs p q i a. over bs p q (i .0) a;
         }
@@ -145,23 +154,27 @@ module _ (May : Event → World → Type 0) where
       let base = w .device .units .base in
       let p = partOf (w .device) (w .outgoing) in
       let L = bytesOf w bs in
-      let o = ordered (machine May) (listing base (w .memory) big May L) rs bs p (w .memory) (st, sub-refl L) live in
+      let o = ordered (machine May) (listing base (w .memory) big May L (setupLeft w bs)) rs bs p (w .memory) (st, sub-refl L, refl) live in
       covers-at base (w .memory) big L (o .0) (part′ (machine May) rs p (w .memory)) (mem′ (machine May) rs p (w .memory))
       (o .1 .0 .0) (o .1 .0 .1) act
+
+  list-finished : Laws (machine May) → (bs : List ℕ) (es : List Event) (w : World) → Started bs w → (pr : Premises May bs es w)
+      → Finished (machine May) (listing (w .device .units .base) (w .memory) (pr .size) May (bytesOf w bs) (setupLeft w bs)) (bytesOf w bs) bs es w
+  unfolding listing Inv
+  list-finished laws bs es w st pr =
+      let h = stands-start bs w st (pr .apart) in
+      let L = bytesOf w bs in
+      finish (machine May) (listing (w .device .units .base) (w .memory) (pr .size) May L (setupLeft w bs)) laws L bs es w (h, sub-refl L, refl)
+      (covers-list bs w (pr .size) h) (pr .events) (pr .kept) (omega (arith, start-rank bs w st, pr .turns))
 
   -- Let a list of the blocks bs be started, the last the first that ends or suspends it; let no result be a byte of a later command; let the
   -- events of a trace be such as may occur, and nothing write into the list, as it stands at the start, but each command's own results. Once
   -- 132 times as many turns have come as there are blocks, all are done, once each, in list order, exactly as the command unit alone does them
   -- on the memory at the start, and nothing else is begun. May is any choice of events under which the units keep to the laws of taking turns
   pub listDone : Laws (machine May) → (bs : List ℕ) (es : List Event) (w : World) → Started bs w → Premises May bs es w → Done May bs es w
-  unfolding listing Inv
+  unfolding listing
   listDone laws bs es w st pr =
-      let base = w .device .units .base in
-      let h = stands-start bs w st (pr .apart) in
-      let L = bytesOf w bs in
-      let f : Finished (machine May) (listing base (w .memory) (pr .size) May L) L bs es w =
-      finish (machine May) (listing base (w .memory) (pr .size) May L) laws L bs es w (h, sub-refl L) (covers-list bs w (pr .size) h)
-      (pr .events) (pr .kept) (omega (arith, start-rank bs w st, pr .turns)) in
+      let f = list-finished laws bs es w st pr in
       record {
         order = f .order ∙ start-todo bs w st;
         notes = f .alone .notes;
@@ -169,3 +182,22 @@ module _ (May : Event → World → Type 0) where
         bytes = f .alone .bytes;
         stopped = f .stopped;
       }
+
+  -- and the setup that then stands is the one by which the bytes of the list are said, after its last command
+  pub setup-done : Laws (machine May) → (bs : List ℕ) (es : List Event) (w : World) → Started bs w → Premises May bs es w
+      → setupOf (run (machine May) es w .device) ≡ setupLeft w bs
+  unfolding listing Inv
+  setup-done laws bs es w st pr =
+      let f = list-finished laws bs es w st pr in
+      let base = w .device .units .base in
+      let m = w .memory in
+      let p = partOf (w .device) (w .outgoing) in
+      let rs = reports (machine May) es w in
+      let o =
+      ordered (machine May) (listing base m (pr .size) May (bytesOf w bs) (setupLeft w bs)) rs bs p m
+      (stands-start bs w st (pr .apart), sub-refl (bytesOf w bs), refl) (f .alone .live) in
+      let v : Part = part′ (machine May) rs p m in
+      let a : isActive (cuState (v .unit)) ≡ false = subst (λ (x : Part). isActive (cuState (x .unit)) ≡ false) (f .alone .part) (f .stopped) in
+      ap (λ (x : Part). x .setup) (f .alone .part)
+      ∙ sym (none-left base m (pr .size) (o .0) v (mem′ (machine May) rs p m) (o .1 .0 .0) a)
+      ∙ o .1 .0 .2

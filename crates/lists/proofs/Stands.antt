@@ -22,7 +22,7 @@ use Rattle.command.specs.Service.{service}
 use Rattle.progress.specs.Machine.{Tag, begun, done, eachOnce}
 use Rattle.progress.specs.Same.{Same}
 use Rattle.progress.proofs.Same.{Sub}
-use Rattle.lists.specs.Uses.{block, wordOf, marked, uses, chainBytes, setupAfter, listBytes, NoClash, Listed}
+use Rattle.lists.specs.Uses.{block, wordOf, marked, uses, chainBytes, setupAfter, listSetup, listBytes, NoClash, Listed}
 use Rattle.lists.specs.Unit.{noteBy, tag}
 
 -- what is still to be noted, with these blocks to do
@@ -80,12 +80,13 @@ module _ (base : RealAddress) (m₀ : List ℕ) where
   Stands [] p q = isActive (cuState (p .unit)) ≡ false
   Stands (c ∷ cs) p q = (p .base ≡ base) × Now (p .unit) (p .setup) c q × Lies (p .setup) c cs q
 
-  -- a service leads on: with the blocks left to do, whose bytes are among those before; what it notes was the next to be noted; fewer services
-  -- are left
+  -- a service leads on: with the blocks left to do, whose bytes are among those before, and which leave the setup that was to be left; what it
+  -- notes was the next to be noted; fewer services are left
   pub record Leads (bs : List ℕ) (p : Part) (q : List ℕ) (r : ℕ) : Type 0 where
     pub left : List ℕ
     pub stands : Stands left (service p q r .part) (apply (service p q r .writes) q)
     pub part : Sub (listBytes base (service p q r .part .setup) m₀ left) (listBytes base (p .setup) m₀ bs)
+    pub setup : listSetup base (service p q r .part .setup) m₀ left ≡ listSetup base (p .setup) m₀ bs
     pub noted : map tag (noteBy (p .unit) p q r) ++ todo (service p q r .part .unit) left ≡ todo (p .unit) bs
     pub fewer : rank (service p q r .part .unit) (length left) < rank (p .unit) (length bs)
 

@@ -8,14 +8,14 @@ use Rattle.memory.specs.Memory.{wordAt}
 use Rattle.scb.specs.Words.{scbCommandAt, cuc, resets}
 use Rattle.device.specs.State.{cuState, isActive}
 use Rattle.device.specs.declared.Cu.the-variants as cu
-use Rattle.actions.specs.Setup.{setupOf}
+use Rattle.actions.specs.Setup.{Setup, setupOf}
 use Rattle.command.specs.Part.{partOf}
 use Rattle.control.specs.Obey.{ofScb}
 use Rattle.chip.specs.World.{World}
 use Rattle.traces.specs.Event.{Event, call, host, step, isTurn, isCalm}
 use Rattle.progress.specs.Machine.{eachOnce, turns, run, log, log′, reports, part′, mem′, Undisturbed, Mays}
 use Rattle.progress.specs.Same.{Same}
-use Rattle.lists.specs.Uses.{block, listBytes, NoClash, Listed, firstOf}
+use Rattle.lists.specs.Uses.{block, listSetup, listBytes, NoClash, Listed, firstOf}
 use Rattle.lists.specs.Unit.{machine, tag}
 
 -- ---- which events may occur
@@ -47,6 +47,10 @@ pub record Started (bs : List ℕ) (w : World) : Type 0 where
 
 abbrev pub bytesOf : World → List ℕ → List ℕ
 bytesOf w bs = listBytes (w .device .units .base) (setupOf (w .device)) (w .memory) bs
+
+-- the setup that the list leaves
+abbrev pub setupLeft : World → List ℕ → Setup
+setupLeft w bs = listSetup (w .device .units .base) (setupOf (w .device)) (w .memory) bs
 
 -- no result is a later command's byte
 abbrev pub Apart : List ℕ → World → Type 0

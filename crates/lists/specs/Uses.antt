@@ -119,6 +119,11 @@ setupBy false base s m c = act (actionOf (cmd (wordOf base m c))) base s (block 
 unfoldable pub setupAfter : RealAddress → Setup → List ℕ → ℕ → Setup
 setupAfter base s m c = setupBy (eqb (cmd (wordOf base m c)) transmit) base s m c
 
+-- and the setup that a list leaves, command after command
+abbrev pub listSetup : RealAddress → Setup → List ℕ → List ℕ → Setup
+listSetup base s m [] = s
+listSetup base s m (c ∷ cs) = listSetup base (setupAfter base s m c) m cs
+
 -- each command's bytes, under the setup that those before it leave
 abbrev pub listBytes : RealAddress → Setup → List ℕ → List ℕ → List ℕ
 listBytes base s m [] = []
