@@ -43,9 +43,9 @@ use Rattle.frames.proofs.Arrival as arrivals
 use Rattle.frames.proofs.Held as holdings
 use Rattle.frames.proofs.Stands as exits
 use Rattle.frames.proofs.Fates as fates
-use Rattle.lists.specs.Uses.{NoClash, Listed, firstOf}
+use Rattle.lists.specs.Uses.{Listed, firstOf}
 use Rattle.lists.specs.Unit.{machine}
-use Rattle.lists.specs.Done.{Calm, Starts, Premises, Done, bytesOf}
+use Rattle.lists.specs.Done.{Calm, Starts, Apart, Premises, Done, bytesOf}
 use Rattle.lists.specs.Lent.{left, turnsOf, eventsOf, worldIn, Shows, AllLend, AllCalmly}
 use Rattle.lists.specs.Runs as list-runs
 use Rattle.lists.proofs.Whole as whole
@@ -181,7 +181,7 @@ pub a-list-is-done-on-bytes : (bs : List ℕ) (ls : List Lending) (a : Areas) (d
     → isRefused (called attention a) ≡ false → Starts (worldIn d a) → firstOf bs ≡ wordAt (a .memory) (ofScb (d .units) cblAt)
     → Listed (d .units .base) (step (call attention) (worldIn d a) .memory) bs
     → AllLend carry.carries ls (called attention a .areas) → AllCalmly ls (called attention a .areas)
-    → NoClash (length (a .memory)) (d .units .base) (step (call attention) (worldIn d a) .memory) bs
+    → Apart bs (step (call attention) (worldIn d a))
     → Undisturbed (machine Calm) (bytesOf (step (call attention) (worldIn d a)) bs) (eventsOf ls) (step (call attention) (worldIn d a))
     → 132 * length bs ≤ turnsOf ls
     → Done Calm bs (eventsOf ls) (step (call attention) (worldIn d a))
@@ -193,7 +193,7 @@ pub a-list-is-done-by-runs : (bs : List ℕ) (ds : List Drive) (a : Areas) (d : 
     → isRefused (called attention a) ≡ false → Starts (worldIn d a) → firstOf bs ≡ wordAt (a .memory) (ofScb (d .units) cblAt)
     → Listed (d .units .base) (step (call attention) (worldIn d a) .memory) bs
     → list-runs.AllDrive carry.carries ds (called attention a .areas)
-    → NoClash (length (a .memory)) (d .units .base) (step (call attention) (worldIn d a) .memory) bs
+    → Apart bs (step (call attention) (worldIn d a))
     → Undisturbed (machine Calm) (bytesOf (step (call attention) (worldIn d a)) bs) (eventsOf (unrolled ds)) (step (call attention) (worldIn d a))
     → 132 * length bs ≤ list-runs.turnsDriven ds
     → Done Calm bs (eventsOf (unrolled ds)) (step (call attention) (worldIn d a))

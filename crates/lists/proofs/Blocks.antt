@@ -14,10 +14,11 @@ use Rattle.memory.proofs.Laws.{apart, length-apply}
 use Rattle.device.specs.Numbers.{transmit, actionNumber}
 use Rattle.device.specs.declared.Action.the-variants as action
 use Rattle.actions.specs.Block.{blockStatusAt, blockCommandAt, blockLinkAt, argumentAt}
+use Rattle.actions.specs.Setup.{Setup}
 use Rattle.command.specs.Begin.{cmd}
 use Rattle.progress.specs.Same.{In, here, there, range, targets, Same}
 use Rattle.progress.proofs.Same.{Sub, sub-nil, each-nil, each-cons, in-left, in-right, same-trans, apart-writes}
-use Rattle.lists.specs.Uses.{block, from, wordOf, marked, uses, ownBytes, resultBytes, tdrBytes, listBytes, NoClash}
+use Rattle.lists.specs.Uses.{block, from, wordOf, marked, uses, ownBytes, resultBytes, tdrBytes, setupAfter, listBytes, NoClash}
 
 -- ---- parts of lists
 
@@ -31,10 +32,6 @@ each-append T (x ∷ s) f g = each-cons T (f x here) (each-append T s (λ b j. f
 
 pub sub-append : (s : List ℕ) {t G : List ℕ} → Sub s G → Sub t G → Sub (s ++ t) G
 sub-append s {G = G} f g = each-append (λ a. In a G) s f g
-
-pub in-list : (base : RealAddress) (m : List ℕ) {c : ℕ} {cs : List ℕ} → In c cs → Sub (uses base m c) (listBytes base m cs)
-in-list base m (here {l = l}) a i = in-left (listBytes base m l) i
-in-list base m (there {b = b} j) a i = in-right (uses base m b) (in-list base m j a i)
 
 -- ---- runs of addresses
 
@@ -76,18 +73,18 @@ fields-apart n big base c f k g l h t x y i j e =
     apart y (x - y) n (omega (arith, p .0, r .1)) (omega (arith, p .1, r .0)) (rw s e)
 
 -- what a command uses besides its status word
-pub command-in : (base : RealAddress) (m : List ℕ) (c : ℕ) → Sub (from base c blockCommandAt 2) (uses base m c)
+pub command-in : (base : RealAddress) (s : Setup) (m : List ℕ) (c : ℕ) → Sub (from base c blockCommandAt 2) (uses base s m c)
 unfolding uses range
-command-in base m c a i = in-right (from base c blockStatusAt 2) (in-left _ i)
+command-in base s m c a i = in-right (from base c blockStatusAt 2) (in-left _ i)
 
-pub link-in : (base : RealAddress) (m : List ℕ) (c : ℕ) → Sub (from base c blockLinkAt 2) (uses base m c)
+pub link-in : (base : RealAddress) (s : Setup) (m : List ℕ) (c : ℕ) → Sub (from base c blockLinkAt 2) (uses base s m c)
 unfolding uses range
-link-in base m c a i = in-right (from base c blockStatusAt 2) (in-right (from base c blockCommandAt 2) (in-left _ i))
+link-in base s m c a i = in-right (from base c blockStatusAt 2) (in-right (from base c blockCommandAt 2) (in-left _ i))
 
-pub own-in : (base : RealAddress) (m : List ℕ) (c : ℕ) (t : Bool) → eqb (cmd (wordOf base m c)) transmit ≡ t
-    → Sub (ownBytes t base m c) (uses base m c)
+pub own-in : (base : RealAddress) (s : Setup) (m : List ℕ) (c : ℕ) (t : Bool) → eqb (cmd (wordOf base m c)) transmit ≡ t
+    → Sub (ownBytes t base s m c) (uses base s m c)
 unfolding uses range
-own-in base m c t e =
+own-in base s m c t e =
     rw (← e) (λ a i. in-right (from base c blockStatusAt 2) (in-right (from base c blockCommandAt 2) (in-right (from base c blockLinkAt 2) i)))
 
 -- the status word, and a TDR's word, are results
@@ -129,8 +126,13 @@ unfolding marked
 marked-size base m c = length-apply (wordTo (place base (block c) blockStatusAt) 0x4000 ∷ []) m
 
 -- a result of c leaves the bytes of later commands as they were
-pub later : (base : RealAddress) (m : List ℕ) (c : ℕ) (ws : List Write) (cs q : List ℕ) → Sub (targets ws) (resultBytes base m c)
-    → length q ≡ length m → NoClash (length m) base m (c ∷ cs)
-    → ((b : ℕ) → In b cs → Same (uses base m b) q m) → (b : ℕ) → In b cs → Same (uses base m b) (apply ws q) m
-later base m c ws cs q t l nc h b i =
-    same-trans (apart-writes (uses base m b) ws q (λ x y j k. rw l (nc .0 b x y i j (t y k)))) (h b i)
+pub later : (base : RealAddress) (s : Setup) (m : List ℕ) (c : ℕ) (ws : List Write) (cs q : List ℕ) → Sub (targets ws) (resultBytes base m c)
+    → length q ≡ length m → NoClash (length m) base s m (c ∷ cs)
+    → Same (listBytes base (setupAfter base s m c) m cs) q m → Same (listBytes base (setupAfter base s m c) m cs) (apply ws q) m
+later base s m c ws cs q t l nc h =
+    same-trans (apart-writes (listBytes base (setupAfter base s m c) m cs) ws q (λ x y j k. rw l (nc .0 x y j (t y k)))) h
+
+-- the bytes of later commands, under the setup that c leaves, are bytes of the list
+pub rest-in : (base : RealAddress) (s x : Setup) (m : List ℕ) (c : ℕ) (cs : List ℕ) → x ≡ setupAfter base s m c
+    → Sub (listBytes base x m cs) (listBytes base s m (c ∷ cs))
+rest-in base s x m c cs e = rw e (λ a i. in-right (uses base s m c) i)

@@ -11,7 +11,6 @@ use Rattle.memory.specs.Size.{sizeAllowed}
 use Rattle.memory.proofs.Power.{allowed}
 use Rattle.scb.specs.Words.{cblAt}
 use Rattle.device.specs.declared.Device.{Device}
-use Rattle.command.specs.Part.{Part}
 use Rattle.control.specs.Obey.{ofScb}
 use Rattle.chip.specs.Call.{Call, attention}
 use Rattle.chip.specs.Attention.{attentionOf}
@@ -22,9 +21,9 @@ use Rattle.traces.specs.Bytes.{called, isRefused}
 use Rattle.traces.specs.Event.{Event, call, host, step, isTurn}
 use Rattle.progress.specs.Machine.{Laws, Mays, Undisturbed, run, turns, bit}
 use Rattle.closure.specs.Driven.{Lending}
-use Rattle.lists.specs.Uses.{Listed, firstOf, NoClash}
+use Rattle.lists.specs.Uses.{Listed, firstOf}
 use Rattle.lists.specs.Unit.{machine}
-use Rattle.lists.specs.Done.{Calm, Starts, Done, bytesOf}
+use Rattle.lists.specs.Done.{Calm, Starts, Apart, Done, bytesOf}
 use Rattle.lists.specs.Lent.{refusedAt, leftBy, left, countsBy, turnsOf, eventsBy, eventsOf, worldIn, Carried, Carries}
 use Rattle.lists.specs.Lent.{Shows, Lends, LendsBy, AllLend, LentPremises, CalmlyBy, AllCalmly}
 use Rattle.lists.proofs.Laws.{calm-laws}
@@ -143,7 +142,7 @@ module _ (C : Carries) where
       → isRefused (called attention a) ≡ false → Starts (worldIn d a) → firstOf bs ≡ wordAt (a .memory) (ofScb (d .units) cblAt)
       → Listed (step (call attention) (worldIn d a) .device .units .base) (step (call attention) (worldIn d a) .memory) bs
       → AllLend C ls (called attention a .areas) → AllCalmly ls (called attention a .areas)
-      → NoClash (length (a .memory)) (d .units .base) (step (call attention) (worldIn d a) .memory) bs
+      → Apart bs (step (call attention) (worldIn d a))
       → Undisturbed (machine Calm) (bytesOf (step (call attention) (worldIn d a)) bs) (eventsOf ls) (step (call attention) (worldIn d a))
       → 132 * length bs ≤ turnsOf ls
       → Done Calm bs (eventsOf ls) (step (call attention) (worldIn d a))
@@ -151,12 +150,11 @@ module _ (C : Carries) where
   calm-lent-list-done bs ls a d g h r s first listed lends calmly apart intact count =
       let w = worldIn d a in
       let v = step (call attention) w in
-      let b : v .device .units .base ≡ d .units .base = ap (λ (p : Part). p .base) (begins w s .part) in
       lent-list-done Calm calm-laws bs ls a d g h r s first listed
       (record {
         lends = lends;
         events = calm-events ls (called attention a .areas) v lends calmly (start-shows a d g h r);
-        apart = rw (begins w s .size, b) apart;
+        apart = apart;
         intact = intact;
         turns = count;
       })

@@ -25,9 +25,9 @@ use Rattle.closure.proofs.Refusals.{table}
 use Rattle.closure.proofs.Carried.{carry, holds-length, lent-kept, areas-as-long}
 use Rattle.progress.specs.Machine.{Undisturbed, run}
 use Rattle.closure.specs.Driven.{Lending}
-use Rattle.lists.specs.Uses.{NoClash, Listed, firstOf}
+use Rattle.lists.specs.Uses.{Listed, firstOf}
 use Rattle.lists.specs.Unit.{machine}
-use Rattle.lists.specs.Done.{Calm, Starts, Done, bytesOf}
+use Rattle.lists.specs.Done.{Calm, Starts, Apart, Done, bytesOf}
 use Rattle.lists.specs.Lent.{left, turnsOf, eventsOf, worldIn, Carries, Shows, AllLend, AllCalmly}
 use Rattle.lists.proofs.Start.{begins}
 use Rattle.lists.proofs.Bytes.{calm-lent-list-done}
@@ -53,7 +53,7 @@ pub areas-list-done : (bs : List ℕ) (ls : List Lending) (a : Areas) (d : Devic
     → isRefused (called attention a) ≡ false → Starts (worldIn d a) → firstOf bs ≡ wordAt (a .memory) (ofScb (d .units) cblAt)
     → Listed (d .units .base) (step (call attention) (worldIn d a) .memory) bs
     → AllLend carries ls (called attention a .areas) → AllCalmly ls (called attention a .areas)
-    → NoClash (length (a .memory)) (d .units .base) (step (call attention) (worldIn d a) .memory) bs
+    → Apart bs (step (call attention) (worldIn d a))
     → Undisturbed (machine Calm) (bytesOf (step (call attention) (worldIn d a)) bs) (eventsOf ls) (step (call attention) (worldIn d a))
     → 132 * length bs ≤ turnsOf ls
     → Done Calm bs (eventsOf ls) (step (call attention) (worldIn d a))

@@ -1,5 +1,5 @@
 -- An end of the command unit alone leads on in its list: to the next block, or out of Active after the last. Assumes nothing.
-use mathlib.Core.Path.{_≡_, refl, ap, _∙_}
+use mathlib.Core.Path.{_≡_, refl, sym, ap, _∙_, subst}
 use mathlib.Core.Bool.{Bool, true, false, cond, _||_, true≢false, false≢true}
 use mathlib.Core.List.{List, [], _∷_, _++_}
 use Prim.Native.Nat.{ℕ, _+_, _*_, _≤_, _<_}
@@ -23,10 +23,10 @@ use Rattle.actions.specs.Setup.{Setup}
 use Rattle.command.specs.Begin.{cmd, begunBy}
 use Rattle.command.specs.End.{afterEnd, nextAfter}
 use Rattle.progress.specs.Machine.{eachOnce}
-use Rattle.progress.specs.Same.{In, here, there, targets, Same}
-use Rattle.progress.proofs.Same.{Sub, sub-nil, same-trans, same-part, same-field, apart-writes}
-use Rattle.lists.specs.Uses.{block, from, wordOf, marked, uses, resultBytes, tdrBytes, stops}
-use Rattle.lists.proofs.Blocks.{sub-refl, word-targets, targets-append, link-in, status-result, tdr-result, link-apart, marked-same, marked-size, later}
+use Rattle.progress.specs.Same.{targets, Same}
+use Rattle.progress.proofs.Same.{Sub, sub-nil, in-left, in-right, same-trans, same-part, same-field, apart-writes}
+use Rattle.lists.specs.Uses.{block, from, wordOf, marked, uses, resultBytes, tdrBytes, setupAfter, listSetup, listBytes, stops}
+use Rattle.lists.proofs.Blocks.{sub-refl, word-targets, targets-append, link-in, status-result, tdr-result, link-apart, marked-same, marked-size, later, rest-in}
 use Rattle.lists.proofs.Stands.{todo, rank, Lies, Stands, partWith}
 
 -- ---- what an action writes besides the status: TDR its word, and no other anything
@@ -86,18 +86,18 @@ module _ (base : RealAddress) (m₀ : List ℕ) (big : 8192 ≤ length m₀) whe
       (λ a i. status-result base m₀ c a (word-targets (place base (block c) blockStatusAt) status a i))
 
   -- the link, read after them, is that of the start
-  end-link : (c : ℕ) (ws : List Write) (status : ℕ) (q : List ℕ) → Sub (targets ws) (tdrOf c) → Same (uses base m₀ c) q (marked base m₀ c)
+  end-link : (s : Setup) (c : ℕ) (ws : List Write) (status : ℕ) (q : List ℕ) → Sub (targets ws) (tdrOf c) → Same (uses base s m₀ c) q (marked base m₀ c)
       → wordAt (apply (wordTo (place base (block c) blockStatusAt) status ∷ []) (apply ws q)) (place base (block c) blockLinkAt)
       ≡ wordAt m₀ (place base (block c) blockLinkAt)
-  end-link c ws status q h s =
+  end-link s c ws status q h k =
       let last = wordTo (place base (block c) blockStatusAt) status ∷ [] in
-      let n : length q ≡ length m₀ = s .size ∙ marked-size base m₀ c in
+      let n : length q ≡ length m₀ = k .size ∙ marked-size base m₀ c in
       let a : Same (from base c blockLinkAt 2) (apply (ws ++ last) q) q =
       apart-writes (from base c blockLinkAt 2) (ws ++ last) q
       (λ x y i j. link-apart (length q) (rw n big) base m₀ c x y i (end-writes c ws status h y j)) in
       rw (← apply-append)
       (same-field 2 (place base (block c) blockLinkAt) (sub-refl (from base c blockLinkAt 2))
-      (same-trans a (same-trans (same-part (link-in base m₀ c) s) (marked-same base m₀ big c blockLinkAt 2 (omega arith) (omega arith)))))
+      (same-trans a (same-trans (same-part (link-in base s m₀ c) k) (marked-same base m₀ big c blockLinkAt 2 (omega arith) (omega arith)))))
 
   -- ---- the unit that an end leaves
 
@@ -114,34 +114,60 @@ module _ (base : RealAddress) (m₀ : List ℕ) (big : 8192 ≤ length m₀) whe
   last-stops c a q h = end-stops (bit (wordOf base m₀ c) 15) (bit (wordOf base m₀ c) 14) _ h
 
   -- any other block's end leads to the next
-  end-next : (c d : ℕ) (a : Acted) (q : List ℕ) → stops (wordOf base m₀ c) ≡ false → wordAt m₀ (place base (block c) blockLinkAt) ≡ d
-      → Sub (targets (a .writes)) (tdrOf c) → Same (uses base m₀ c) q (marked base m₀ c) → unitAfter c a q ≡ cu.Waiting (block d)
+  end-next : (s : Setup) (c d : ℕ) (a : Acted) (q : List ℕ) → stops (wordOf base m₀ c) ≡ false → wordAt m₀ (place base (block c) blockLinkAt) ≡ d
+      → Sub (targets (a .writes)) (tdrOf c) → Same (uses base s m₀ c) q (marked base m₀ c) → unitAfter c a q ≡ cu.Waiting (block d)
   unfolding nextAfter begunBy
-  end-next c d a q h e t s =
+  end-next s c d a q h e t k =
       end-goes (bit (wordOf base m₀ c) 15) (bit (wordOf base m₀ c) 14) _ h
-      ∙ ap (λ (x : ℕ). cu.Waiting (block x)) (end-link c (a .writes) (a .status) q t s ∙ e)
+      ∙ ap (λ (x : ℕ). cu.Waiting (block x)) (end-link s c (a .writes) (a .status) q t k ∙ e)
 
-  -- what follows of it, whatever the action was
-  pub record Goes (unit : Cu) (c : ℕ) (cs : List ℕ) (q : List ℕ) : Type 0 where
-    pub stands : (s : Setup) (out : List ℕ) → Stands base m₀ cs (partWith base unit s out) q
+  -- what follows of it, whatever the action was: s was in force, x is left
+  pub record Goes (s x : Setup) (unit : Cu) (c : ℕ) (cs : List ℕ) (q : List ℕ) : Type 0 where
+    pub stands : (out : List ℕ) → Stands base m₀ cs (partWith base unit x out) q
+    pub part : Sub (listBytes base x m₀ cs) (listBytes base s m₀ (c ∷ cs))
+    pub setup : listSetup base x m₀ cs ≡ listSetup base s m₀ (c ∷ cs)
     pub todo : todo unit cs ≡ eachOnce cs
     pub rank : rank unit (length cs) < 1 + 66 * length cs
 
-  pub at-end : (c : ℕ) (cs : List ℕ) (a : Acted) (q : List ℕ) → Sub (targets (a .writes)) (tdrOf c) → Same (uses base m₀ c) q (marked base m₀ c)
-      → Lies base m₀ c cs q → Goes (unitAfter c a q) c cs (apply (writesAt c a) q)
-  at-end c [] a q t s l =
+  -- the next command, and those behind it, under the setup that c leaves
+  next-stands : (s : Setup) (c d : ℕ) (ds q : List ℕ) (out : List ℕ) → Lies base m₀ s c (d ∷ ds) q
+      → Stands base m₀ (d ∷ ds) (partWith base (cu.Waiting (block d)) (setupAfter base s m₀ c) out) q
+  next-stands s c d ds q out l =
+      let x : Setup = setupAfter base s m₀ c in
+      let y : Setup = setupAfter base x m₀ d in (
+        refl,
+        (refl, same-part (λ a i. in-left (listBytes base y m₀ ds) i) (l .later)),
+        record { listed = l .listed .2; apart = l .apart .1; later = same-part (λ a i. in-right (uses base x m₀ d) i) (l .later) },
+      )
+
+  pub at-end : (s : Setup) (c : ℕ) (cs : List ℕ) (a : Acted) (q : List ℕ) → a .setup ≡ setupAfter base s m₀ c → Sub (targets (a .writes)) (tdrOf c)
+      → Same (uses base s m₀ c) q (marked base m₀ c) → Lies base m₀ s c cs q → Goes s (a .setup) (unitAfter c a q) c cs (apply (writesAt c a) q)
+  at-end s c [] a q u t k l =
       let h : isActive (cuState (unitAfter c a q)) ≡ false = last-stops c a q (l .listed) in
-      record { stands = λ x out. h; todo = refl; rank = rw (rank-out (unitAfter c a q) h) (omega arith) }
-  at-end c (d ∷ ds) a q t s l =
-      let e : unitAfter c a q ≡ cu.Waiting (block d) = end-next c d a q (l .listed .0) (l .listed .1) t s in
-      let h : (b : ℕ) → In b (d ∷ ds) → Same (uses base m₀ b) (apply (writesAt c a) q) m₀ =
-      later base m₀ c (writesAt c a) (d ∷ ds) q (end-writes c (a .writes) (a .status) t) (s .size ∙ marked-size base m₀ c) (l .apart) (l .later) in
       record {
-        stands = λ x out. (
-          refl,
-          rw e (refl, h d here),
-          record { listed = l .listed .2; apart = l .apart .1; later = λ b i. h b (there i) },
-        );
+        stands = λ out. h;
+        part = rest-in base s (a .setup) m₀ c [] u;
+        setup = u;
+        todo = refl;
+        rank = rw (rank-out (unitAfter c a q) h) (omega arith);
+      }
+  at-end s c (d ∷ ds) a q u t k l =
+      let e : unitAfter c a q ≡ cu.Waiting (block d) = end-next s c d a q (l .listed .0) (l .listed .1) t k in
+      let p : List ℕ = apply (writesAt c a) q in
+      let i : Lies base m₀ s c (d ∷ ds) p =
+      record {
+        listed = l .listed;
+        apart = l .apart;
+        later =
+            later base s m₀ c (writesAt c a) (d ∷ ds) q (end-writes c (a .writes) (a .status) t) (k .size ∙ marked-size base m₀ c)
+            (l .apart) (l .later);
+      } in
+      record {
+        stands = λ out.
+            subst (λ (y : Setup). Stands base m₀ (d ∷ ds) (partWith base (unitAfter c a q) y out) p) (sym u)
+            (subst (λ (z : Cu). Stands base m₀ (d ∷ ds) (partWith base z (setupAfter base s m₀ c) out) p) (sym e) (next-stands s c d ds p out i));
+        part = rest-in base s (a .setup) m₀ c (d ∷ ds) u;
+        setup = ap (λ (x : Setup). listSetup base x m₀ (d ∷ ds)) u;
         todo = rw e;
         rank = rw e (omega arith);
       }

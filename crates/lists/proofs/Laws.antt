@@ -38,7 +38,7 @@ use Rattle.traces.specs.Event.{Event, call, host, isTurn}
 use Rattle.progress.specs.Machine.{Laws, Served, Passed, Between}
 use Rattle.progress.specs.Same.{In, here, there, range, Same}
 use Rattle.progress.proofs.Same.{in-left, in-right, same-part, same-apply, same-bytes, same-field}
-use Rattle.lists.specs.Uses.{block, from, argumentBytes, listedBytes, descriptorBytes}
+use Rattle.lists.specs.Uses.{block, from, addressLengthOf, headerBytes, argumentBytes, listedBytes, descriptorBytes}
 use Rattle.lists.specs.Unit.{noteBy, beginReads, dataReads, endReads, readsBy, goesToCommand, commandNext, machine}
 use Rattle.lists.specs.Done.{Calm}
 
@@ -65,19 +65,19 @@ in-range a (suc k) (suc n) l =
 
 to-begun-local : (t : Bool) (p : Part) (b : Begun) (word : ℕ) (m q : List ℕ) → Same (beginReads t p (b .block .0)) m q
     → toBegun t p b word m ≡ toBegun t p b word q
-unfolding headerOf
+unfolding headerOf headerBytes addressLengthOf
 to-begun-local true p b word m q h =
     let c = b .block .0 in
     let A = from (p .base) c argumentAt 2 in
     let B = from (p .base) c destinationAt addressLength in
     let C = from (p .base) c typeAt typeLength in
     let first : wordAt m (place (p .base) (b .block) argumentAt) ≡ wordAt q (place (p .base) (b .block) argumentAt) =
-    same-at 2 (place (p .base) (b .block) argumentAt) (same-left A B (same-left (A ++ B) C h)) in
+    same-at 2 (place (p .base) (b .block) argumentAt) (same-left A (B ++ C) h) in
     let destination : bytesAt m (place (p .base) (b .block) destinationAt) addressLength
     ≡ bytesAt q (place (p .base) (b .block) destinationAt) addressLength =
-    same-bytes (place (p .base) (b .block) destinationAt) addressLength (same-right A B (same-left (A ++ B) C h)) in
+    same-bytes (place (p .base) (b .block) destinationAt) addressLength (same-left B C (same-right A (B ++ C) h)) in
     let type : bytesAt m (place (p .base) (b .block) typeAt) typeLength ≡ bytesAt q (place (p .base) (b .block) typeAt) typeLength =
-    same-bytes (place (p .base) (b .block) typeAt) typeLength (same-right (A ++ B) C h) in
+    same-bytes (place (p .base) (b .block) typeAt) typeLength (same-right B C (same-right A (B ++ C) h)) in
     rw (first, destination, type)
 to-begun-local false p b word m q h = refl
 
@@ -122,7 +122,7 @@ settings-local false false base o m q n s e₈ e₁₀ l h =
 clamped-least : (x : ℕ) → 4 ≤ clamped x
 clamped-least x = omega arith
 
-configure-local : (base : RealAddress) (s : Setup) (o : Offset) (m q : List ℕ) → Same (argumentBytes action.Configure base q (o .0)) m q
+configure-local : (base : RealAddress) (s : Setup) (o : Offset) (m q : List ℕ) → Same (argumentBytes action.Configure base s q (o .0)) m q
     → configure base s o m ≡ configure base s o q
 configure-local base s o m q h =
     let n = clamped (byteOf base o q 0) in
@@ -133,23 +133,23 @@ configure-local base s o m q h =
     settings-local (ltb 8 n) (ltb 10 n) base o m q n (s .settings) refl refl l h in
     rw (e₀, e₃, es)
 
-listing-local : (t : Bool) (base : RealAddress) (s : Setup) (o : Offset) (m q : List ℕ) (n : ℕ) → Same (listedBytes t base (o .0) n) m q
+listing-local : (t : Bool) (base : RealAddress) (s : Setup) (o : Offset) (m q : List ℕ) (n : ℕ) → Same (listedBytes t base s (o .0) n) m q
     → setting t s (record { settings = s .settings; own = s .own; listed = listing base o m n })
     ≡ setting t s (record { settings = s .settings; own = s .own; listed = listing base o q n })
-unfolding listing
+unfolding listing addressLengthOf
 listing-local true base s o m q n h = rw (same-bytes (place base o destinationAt) (n * addressLength) h)
 listing-local false base s o m q n h = refl
 
-mc-local : (base : RealAddress) (s : Setup) (o : Offset) (m q : List ℕ) → Same (argumentBytes action.McSetup base q (o .0)) m q
+mc-local : (base : RealAddress) (s : Setup) (o : Offset) (m q : List ℕ) → Same (argumentBytes action.McSetup base s q (o .0)) m q
     → mcSetup base s o m ≡ mcSetup base s o q
 mc-local base s o m q h =
     let n = groups base o q in
     let A = from base (o .0) argumentAt 2 in
-    let B = listedBytes (leb n mostListed) base (o .0) n in
+    let B = listedBytes (leb n mostListed) base s (o .0) n in
     let word : wordAt m (place base o argumentAt) ≡ wordAt q (place base o argumentAt) = same-at 2 (place base o argumentAt) (same-left A B h) in
     rw word (listing-local (leb n mostListed) base s o m q n (same-right A B h))
 
-act-local : (a : Action) (base : RealAddress) (s : Setup) (o : Offset) (m q : List ℕ) → Same (argumentBytes a base q (o .0)) m q
+pub act-local : (a : Action) (base : RealAddress) (s : Setup) (o : Offset) (m q : List ℕ) → Same (argumentBytes a base s q (o .0)) m q
     → act a base s o m ≡ act a base s o q
 unfolding act
 act-local action.Nop base s o m q h = refl
@@ -210,7 +210,7 @@ service-local cu.Idle p m q r h = refl
 service-local (cu.Suspended o) p m q r h = refl
 service-local (cu.Waiting o) p m q r h = begin-local p o m q r h
 service-local (cu.Acting b a) p m q r h =
-    let A = argumentBytes a (p .base) q (b .block .0) in
+    let A = argumentBytes a (p .base) (p .setup) q (b .block .0) in
     let B = endReads p (b .block .0) in
     rw (act-local a (p .base) (p .setup) (b .block) m q (same-left A B h))
     (end-local p b (act a (p .base) (p .setup) (b .block) q) m q (same-right A B h))
@@ -223,14 +223,18 @@ note-local cu.Idle p m q r h = refl
 note-local (cu.Suspended o) p m q r h = refl
 note-local (cu.Waiting o) p m q r h = refl
 note-local (cu.Acting b a) p m q r h =
-    rw (act-local a (p .base) (p .setup) (b .block) m q (same-left (argumentBytes a (p .base) q (b .block .0)) (endReads p (b .block .0)) h))
+    rw (act-local a (p .base) (p .setup) (b .block) m q (same-left (argumentBytes a (p .base) (p .setup) q (b .block .0)) (endReads p (b .block .0)) h))
 note-local (cu.Sending b w) p m q r h = refl
 note-local (cu.Ending b n) p m q r h = refl
 note-local (cu.Failing b) p m q r h = refl
 
 -- ---- a turn
 
--- no service changes the base
+-- a begin keeps the setup, and no service changes the base
+pub begun-setup : (t : Bool) (p : Part) (b : Begun) (word : ℕ) (m : List ℕ) → toBegun t p b word m .setup ≡ p .setup
+begun-setup true p b word m = refl
+begun-setup false p b word m = refl
+
 pub begun-base : (t : Bool) (p : Part) (b : Begun) (word : ℕ) (m : List ℕ) → toBegun t p b word m .base ≡ p .base
 begun-base true p b word m = refl
 begun-base false p b word m = refl

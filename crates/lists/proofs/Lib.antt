@@ -2,6 +2,7 @@
 pub mod Laws
 pub mod Start
 pub mod Blocks
+pub mod Setups
 pub mod Stands
 pub mod Begins
 pub mod Chain

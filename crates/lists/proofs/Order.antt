@@ -1,5 +1,5 @@
 -- A command list, once started, is done in list order, each command once, within 132 turns a command: demand 3, first half. Assumes nothing.
-use mathlib.Core.Path.{_≡_, refl, sym, _∙_, subst}
+use mathlib.Core.Path.{_≡_, refl, sym, ap, _∙_, subst}
 use mathlib.Core.Bool.{true, false, false≢true}
 use mathlib.Core.List.{List, [], _∷_}
 use Prim.Native.Nat.{ℕ, suc, _*_, _≤_, _<_}
@@ -10,18 +10,17 @@ use Rattle.memory.specs.declared.Offset.{Offset}
 use Rattle.device.specs.State.{cuState, isActive}
 use Rattle.device.specs.declared.Cu.{Cu}
 use Rattle.device.specs.declared.Cu.the-variants as cu
-use Rattle.actions.specs.Setup.{Setup}
+use Rattle.actions.specs.Setup.{Setup, setupOf}
 use Rattle.command.specs.Part.{Part, partOf}
 use Rattle.chip.specs.World.{World}
 use Rattle.traces.specs.Event.{Event}
-use Rattle.progress.specs.Machine.{Laws, Listing, Covers, eachOnce, part′, mem′, Finished}
-use Rattle.progress.specs.Same.{here}
-use Rattle.progress.proofs.Same.{Sub, same-refl}
+use Rattle.progress.specs.Machine.{Laws, Listing, Covers, eachOnce, run, reports, part′, mem′, Finished}
+use Rattle.progress.proofs.Same.{Sub, in-left, same-refl}
 use Rattle.progress.proofs.Machine.{finish, ordered}
-use Rattle.lists.specs.Uses.{block, uses, listBytes, NoClash}
+use Rattle.lists.specs.Uses.{block, uses, setupAfter, listSetup, listBytes}
 use Rattle.lists.specs.Unit.{tag, readsBy, machine}
-use Rattle.lists.specs.Done.{Started, Premises, Done, bytesOf}
-use Rattle.lists.proofs.Blocks.{sub-refl, in-list}
+use Rattle.lists.specs.Done.{Started, bytesOf, setupLeft, Apart, Premises, Done}
+use Rattle.lists.proofs.Blocks.{sub-refl}
 use Rattle.lists.proofs.Stands.{todo, rank, Now, Lies, Stands, Leads, partWith}
 use Rattle.lists.proofs.Begins.{at-begin, begin-reads}
 use Rattle.lists.proofs.Chain.{at-buffer, buffer-reads}
@@ -30,14 +29,14 @@ use Rattle.lists.proofs.Acts.{at-acting, at-ending, at-failing, acting-
 module _ (base : RealAddress) (m₀ : List ℕ) (big : 8192 ≤ length m₀) where
   -- ---- one service, whatever the unit is at
 
-  next-at : (unit : Cu) (s : Setup) (out : List ℕ) (c : ℕ) (cs q : List ℕ) (r : ℕ) → Now base m₀ unit c q → Lies base m₀ c cs q
+  next-at : (unit : Cu) (s : Setup) (out : List ℕ) (c : ℕ) (cs q : List ℕ) (r : ℕ) → Now base m₀ unit s c q → Lies base m₀ s c cs q
       → Leads base m₀ (c ∷ cs) (partWith base unit s out) q r
   next-at cu.Idle s out c cs q r now l = absurd now
   next-at (cu.Suspended o) s out c cs q r now l = absurd now
   next-at (cu.Waiting o) s out c cs q r now l =
       subst (λ (x : Offset). Leads base m₀ (c ∷ cs) (partWith base (cu.Waiting x) s out) q r) (sym (now .0))
       (at-begin base m₀ s out c cs q r (now .1) l)
-  next-at (cu.Acting b a) s out c cs q r now l = at-acting base m₀ big s out c cs q r b a (now .0) (now .2) l
+  next-at (cu.Acting b a) s out c cs q r now l = at-acting base m₀ big s out c cs q r b a (now .0) (now .1) l
   next-at (cu.Sending b w) s out c cs q r now l = at-buffer base m₀ s out c cs q r b w (now .0) (now .1) l
   next-at (cu.Ending b n) s out c cs q r now l = at-ending base m₀ big s out c cs q r b n now l
   next-at (cu.Failing b) s out c cs q r now l = at-failing base m₀ big s out c cs q r b now l
@@ -51,54 +50,62 @@ module _ (base : RealAddress) (m₀ : List ℕ) (big : 8192 ≤ length m₀) whe
   next (c ∷ cs) p q r i a =
       subst (λ (x : Part). Leads base m₀ (c ∷ cs) x q r) (whole p (i .0)) (next-at (p .unit) (p .setup) (p .outgoing) c cs q r (i .1) (i .2))
 
-  some-at : (unit : Cu) (c : ℕ) (n : ℕ) (q : List ℕ) → Now base m₀ unit c q → 0 < rank unit (suc n)
-  some-at cu.Idle c n q now = absurd now
-  some-at (cu.Suspended o) c n q now = absurd now
-  some-at (cu.Waiting o) c n q now = omega arith
-  some-at (cu.Acting b a) c n q now = omega arith
-  some-at (cu.Sending b w) c n q now = omega (arith, now .1 .1)
-  some-at (cu.Ending b k) c n q now = omega arith
-  some-at (cu.Failing b) c n q now = omega arith
+  some-at : (unit : Cu) (s : Setup) (c : ℕ) (n : ℕ) (q : List ℕ) → Now base m₀ unit s c q → 0 < rank unit (suc n)
+  some-at cu.Idle s c n q now = absurd now
+  some-at (cu.Suspended o) s c n q now = absurd now
+  some-at (cu.Waiting o) s c n q now = omega arith
+  some-at (cu.Acting b a) s c n q now = omega arith
+  some-at (cu.Sending b w) s c n q now = omega (arith, now .1 .1)
+  some-at (cu.Ending b k) s c n q now = omega arith
+  some-at (cu.Failing b) s c n q now = omega arith
 
   some : (bs : List ℕ) (p : Part) (q : List ℕ) → Stands base m₀ bs p q → isActive (cuState (p .unit)) ≡ true → 0 < rank (p .unit) (length bs)
   some [] p q i a = absurd (false≢true (sym i ∙ a))
-  some (c ∷ cs) p q i a = some-at (p .unit) c (length cs) q (i .1)
+  some (c ∷ cs) p q i a = some-at (p .unit) (p .setup) c (length cs) q (i .1)
 
   -- a unit that has a command in work is Active
-  busy : (unit : Cu) (c : ℕ) (q : List ℕ) → Now base m₀ unit c q → isActive (cuState unit) ≡ true
-  busy cu.Idle c q now = absurd now
-  busy (cu.Suspended o) c q now = absurd now
-  busy (cu.Waiting o) c q now = refl
-  busy (cu.Acting b a) c q now = refl
-  busy (cu.Sending b w) c q now = refl
-  busy (cu.Ending b k) c q now = refl
-  busy (cu.Failing b) c q now = refl
+  busy : (unit : Cu) (s : Setup) (c : ℕ) (q : List ℕ) → Now base m₀ unit s c q → isActive (cuState unit) ≡ true
+  busy cu.Idle s c q now = absurd now
+  busy (cu.Suspended o) s c q now = absurd now
+  busy (cu.Waiting o) s c q now = refl
+  busy (cu.Acting b a) s c q now = refl
+  busy (cu.Sending b w) s c q now = refl
+  busy (cu.Ending b k) s c q now = refl
+  busy (cu.Failing b) s c q now = refl
 
   over : (bs : List ℕ) (p : Part) (q : List ℕ) → Stands base m₀ bs p q → isActive (cuState (p .unit)) ≡ false → todo (p .unit) bs ≡ []
   over [] p q i a = refl
-  over (c ∷ cs) p q i a = absurd (false≢true (sym a ∙ busy (p .unit) c q (i .1)))
+  over (c ∷ cs) p q i a = absurd (false≢true (sym a ∙ busy (p .unit) (p .setup) c q (i .1)))
+
+  -- out of Active no block is left to do
+  none-left : (bs : List ℕ) (p : Part) (q : List ℕ) → Stands base m₀ bs p q → isActive (cuState (p .unit)) ≡ false
+      → listSetup base (p .setup) m₀ bs ≡ p .setup
+  none-left [] p q i a = refl
+  none-left (c ∷ cs) p q i a = absurd (false≢true (sym a ∙ busy (p .unit) (p .setup) c q (i .1)))
 
   -- what a service reads is among the bytes of the command in work
-  reads-at : (unit : Cu) (s : Setup) (out : List ℕ) (c : ℕ) (q : List ℕ) → Now base m₀ unit c q
-      → Sub (readsBy unit (partWith base unit s out) q) (uses base m₀ c)
+  reads-at : (unit : Cu) (s : Setup) (out : List ℕ) (c : ℕ) (q : List ℕ) → Now base m₀ unit s c q
+      → Sub (readsBy unit (partWith base unit s out) q) (uses base s m₀ c)
   reads-at cu.Idle s out c q now = absurd now
   reads-at (cu.Suspended o) s out c q now = absurd now
   reads-at (cu.Waiting o) s out c q now = rw (now .0) (begin-reads base m₀ (cu.Waiting (block c)) s out c q (now .1))
-  reads-at (cu.Acting b a) s out c q now = acting-reads base m₀ big (cu.Acting b a) s out c q b a (now .0) (now .1) (now .2)
+  reads-at (cu.Acting b a) s out c q now = acting-reads base m₀ big (cu.Acting b a) s out c q b a (now .0) (now .1)
   reads-at (cu.Sending b w) s out c q now = buffer-reads base m₀ (cu.Sending b w) s out c q b w (now .0) (now .1)
   reads-at (cu.Ending b k) s out c q now = end-reads base m₀ big (cu.Ending b k) s out c q b now
   reads-at (cu.Failing b) s out c q now = end-reads base m₀ big (cu.Failing b) s out c q b now
 
-  covers-at : (all bs : List ℕ) (p : Part) (q : List ℕ) → Stands base m₀ bs p q → Sub bs all → isActive (cuState (p .unit)) ≡ true
-      → Sub (readsBy (p .unit) p q) (listBytes base m₀ all)
-  covers-at all [] p q i u a = absurd (false≢true (sym i ∙ a))
-  covers-at all (c ∷ cs) p q i u a =
-      subst (λ (x : Part). Sub (readsBy (x .unit) x q) (listBytes base m₀ all)) (whole p (i .0))
-      (λ y k. in-list base m₀ (u c here) y (reads-at (p .unit) (p .setup) (p .outgoing) c q (i .1) y k))
+  covers-at : (L bs : List ℕ) (p : Part) (q : List ℕ) → Stands base m₀ bs p q → Sub (listBytes base (p .setup) m₀ bs) L
+      → isActive (cuState (p .unit)) ≡ true → Sub (readsBy (p .unit) p q) L
+  covers-at L [] p q i u a = absurd (false≢true (sym i ∙ a))
+  covers-at L (c ∷ cs) p q i u a =
+      subst (λ (x : Part). Sub (readsBy (x .unit) x q) L) (whole p (i .0))
+      (λ y k. u y (in-left (listBytes base (setupAfter base (p .setup) m₀ c) m₀ cs) (reads-at (p .unit) (p .setup) (p .outgoing) c q (i .1) y k)))
 
-  module _ (May : Event → World → Type 0) (all : List ℕ) where
+  -- L are the bytes of the whole list, and x the setup that it leaves: under the unit's own setup the bytes of the blocks to do are among L, and
+  -- they leave x
+  module _ (May : Event → World → Type 0) (L : List ℕ) (x : Setup) where
     Inv : List ℕ → Part → List ℕ → Type 0
-    Inv bs p q = Stands base m₀ bs p q × Sub bs all
+    Inv bs p q = Stands base m₀ bs p q × Sub (listBytes base (p .setup) m₀ bs) L × (listSetup base (p .setup) m₀ bs ≡ x)
 
     listing : Listing (machine May)
     unfolding Inv
@@ -108,7 +115,9 @@ module _ (base : RealAddress) (m₀ : List ℕ) (big : 8192 ≤ length m₀) whe
           Inv = Inv;
           todo = λ bs p. todo (p .unit) bs;
           rank = λ bs p. rank (p .unit) (length bs);
-          next = λ bs p q r i a. let n = next bs p q r (i .0) a in (n .left, (n .stands, λ x j. i .1 x (n .part x j)), n .noted, n .fewer);
+          next = λ bs p q r i a.
+              let n = next bs p q r (i .0) a in
+              (n .left, (n .stands, (λ y j. i .1 y (n .part y j)), n .setup ∙ i .2), n .noted, n .fewer);
           some = λ bs p q i a. some bs p q (i .0) a;
           over = λ bs p q i a. over bs p q (i .0) a;
         }
@@ -116,13 +125,17 @@ module _ (base : RealAddress) (m₀ : List ℕ) (big : 8192 ≤ length m₀) whe
 -- ---- the theorem
 
 -- a list just started: its first block is the one before which the unit waits
-stands-start : (bs : List ℕ) (w : World) → Started bs w → NoClash (length (w .memory)) (w .device .units .base) (w .memory) bs
+stands-start : (bs : List ℕ) (w : World) → Started bs w → Apart bs w
     → Stands (w .device .units .base) (w .memory) bs (partOf (w .device) (w .outgoing)) (w .memory)
 stands-start [] w st nc = absurd (st .listed)
 stands-start (c ∷ cs) w st nc =
     let base = w .device .units .base in
-    let m = w .memory in
-    (refl, rw (st .unit) (refl, same-refl (uses base m c) m), record { listed = st .listed; apart = nc; later = λ b i. same-refl (uses base m b) m })
+    let s = setupOf (w .device) in
+    let m = w .memory in (
+      refl,
+      rw (st .unit) (refl, same-refl (uses base s m c) m),
+      record { listed = st .listed; apart = nc; later = same-refl (listBytes base (setupAfter base s m c) m cs) m },
+    )
 
 start-todo : (bs : List ℕ) (w : World) → Started bs w → todo (w .device .units .cu) bs ≡ eachOnce bs
 start-todo [] w st = refl
@@ -140,22 +153,28 @@ module _ (May : Event → World → Type 0) where
   covers-list bs w big st rs live act =
       let base = w .device .units .base in
       let p = partOf (w .device) (w .outgoing) in
-      let o = ordered (machine May) (listing base (w .memory) big May bs) rs bs p (w .memory) (st, sub-refl bs) live in
-      covers-at base (w .memory) big bs (o .0) (part′ (machine May) rs p (w .memory)) (mem′ (machine May) rs p (w .memory))
+      let L = bytesOf w bs in
+      let o = ordered (machine May) (listing base (w .memory) big May L (setupLeft w bs)) rs bs p (w .memory) (st, sub-refl L, refl) live in
+      covers-at base (w .memory) big L (o .0) (part′ (machine May) rs p (w .memory)) (mem′ (machine May) rs p (w .memory))
       (o .1 .0 .0) (o .1 .0 .1) act
+
+  list-finished : Laws (machine May) → (bs : List ℕ) (es : List Event) (w : World) → Started bs w → (pr : Premises May bs es w)
+      → Finished (machine May) (listing (w .device .units .base) (w .memory) (pr .size) May (bytesOf w bs) (setupLeft w bs)) (bytesOf w bs) bs es w
+  unfolding listing Inv
+  list-finished laws bs es w st pr =
+      let h = stands-start bs w st (pr .apart) in
+      let L = bytesOf w bs in
+      finish (machine May) (listing (w .device .units .base) (w .memory) (pr .size) May L (setupLeft w bs)) laws L bs es w (h, sub-refl L, refl)
+      (covers-list bs w (pr .size) h) (pr .events) (pr .kept) (omega (arith, start-rank bs w st, pr .turns))
 
   -- Let a list of the blocks bs be started, the last the first that ends or suspends it; let no result be a byte of a later command; let the
   -- events of a trace be such as may occur, and nothing write into the list, as it stands at the start, but each command's own results. Once
   -- 132 times as many turns have come as there are blocks, all are done, once each, in list order, exactly as the command unit alone does them
   -- on the memory at the start, and nothing else is begun. May is any choice of events under which the units keep to the laws of taking turns
   pub listDone : Laws (machine May) → (bs : List ℕ) (es : List Event) (w : World) → Started bs w → Premises May bs es w → Done May bs es w
-  unfolding listing Inv
+  unfolding listing
   listDone laws bs es w st pr =
-      let base = w .device .units .base in
-      let h = stands-start bs w st (pr .apart) in
-      let f : Finished (machine May) (listing base (w .memory) (pr .size) May bs) (bytesOf w bs) bs es w =
-      finish (machine May) (listing base (w .memory) (pr .size) May bs) laws (bytesOf w bs) bs es w (h, sub-refl bs) (covers-list bs w (pr .size) h)
-      (pr .events) (pr .kept) (omega (arith, start-rank bs w st, pr .turns)) in
+      let f = list-finished laws bs es w st pr in
       record {
         order = f .order ∙ start-todo bs w st;
         notes = f .alone .notes;
@@ -163,3 +182,22 @@ module _ (May : Event → World → Type 0) where
         bytes = f .alone .bytes;
         stopped = f .stopped;
       }
+
+  -- and the setup that then stands is the one by which the bytes of the list are said, after its last command
+  pub setup-done : Laws (machine May) → (bs : List ℕ) (es : List Event) (w : World) → Started bs w → Premises May bs es w
+      → setupOf (run (machine May) es w .device) ≡ setupLeft w bs
+  unfolding listing Inv
+  setup-done laws bs es w st pr =
+      let f = list-finished laws bs es w st pr in
+      let base = w .device .units .base in
+      let m = w .memory in
+      let p = partOf (w .device) (w .outgoing) in
+      let rs = reports (machine May) es w in
+      let o =
+      ordered (machine May) (listing base m (pr .size) May (bytesOf w bs) (setupLeft w bs)) rs bs p m
+      (stands-start bs w st (pr .apart), sub-refl (bytesOf w bs), refl) (f .alone .live) in
+      let v : Part = part′ (machine May) rs p m in
+      let a : isActive (cuState (v .unit)) ≡ false = subst (λ (x : Part). isActive (cuState (x .unit)) ≡ false) (f .alone .part) (f .stopped) in
+      ap (λ (x : Part). x .setup) (f .alone .part)
+      ∙ sym (none-left base m (pr .size) (o .0) v (mem′ (machine May) rs p m) (o .1 .0 .0) a)
+      ∙ o .1 .0 .2

@@ -20,9 +20,9 @@ use Rattle.closure.proofs.Carried.{lent-kept}
 use Rattle.closure.proofs.Turns.{run-accepted, run-is-turns, taken-accepted, turn-again}
 use Rattle.progress.specs.Machine.{Undisturbed, run}
 use Rattle.closure.specs.Driven.{Lending, Drive, calls, runs, takenIn, lending, turnsFrom, unrolled}
-use Rattle.lists.specs.Uses.{NoClash, Listed, firstOf}
+use Rattle.lists.specs.Uses.{Listed, firstOf}
 use Rattle.lists.specs.Unit.{machine}
-use Rattle.lists.specs.Done.{Calm, Starts, Done, bytesOf}
+use Rattle.lists.specs.Done.{Calm, Starts, Apart, Done, bytesOf}
 use Rattle.lists.specs.Lent.{refusedAt, left, leftBy, countsBy, turnsOf, eventsOf, worldIn, Shows, Lends, AllLend, CalmlyLends, AllCalmly}
 use Rattle.lists.specs.Runs.{ranBy, leftOne, leftBehind, turnsDriven, RunLends, AllDrive}
 use Rattle.lists.proofs.Carry.{carries, areas-list-done}
@@ -103,7 +103,7 @@ pub runs-list-done : (bs : List ℕ) (ds : List Drive) (a : Areas) (d : Device) 
     → isRefused (called attention a) ≡ false → Starts (worldIn d a) → firstOf bs ≡ wordAt (a .memory) (ofScb (d .units) cblAt)
     → Listed (d .units .base) (step (call attention) (worldIn d a) .memory) bs
     → AllDrive carries ds (called attention a .areas)
-    → NoClash (length (a .memory)) (d .units .base) (step (call attention) (worldIn d a) .memory) bs
+    → Apart bs (step (call attention) (worldIn d a))
     → Undisturbed (machine Calm) (bytesOf (step (call attention) (worldIn d a)) bs) (eventsOf (unrolled ds)) (step (call attention) (worldIn d a))
     → 132 * length bs ≤ turnsDriven ds
     → Done Calm bs (eventsOf (unrolled ds)) (step (call attention) (worldIn d a))

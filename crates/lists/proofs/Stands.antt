@@ -1,7 +1,7 @@
 -- The command unit alone at work on a list: what is known of it between two of its services, what is still to be noted, and at most how many
 -- services are left. Assumes nothing.
 use mathlib.Core.Path.{_≡_}
-use mathlib.Core.Bool.{false}
+use mathlib.Core.Bool.{Bool, true, false}
 use mathlib.Core.List.{List, [], _∷_, _++_, map}
 use Prim.Native.Nat.{ℕ, suc, _+_, _-_, _*_, _<_, pred}
 use lib.Dec.{eqb}
@@ -20,9 +20,9 @@ use Rattle.command.specs.Begin.{cmd, begunBy}
 use Rattle.command.specs.Part.{Part}
 use Rattle.command.specs.Service.{service}
 use Rattle.progress.specs.Machine.{Tag, begun, done, eachOnce}
-use Rattle.progress.specs.Same.{In, Same}
+use Rattle.progress.specs.Same.{Same}
 use Rattle.progress.proofs.Same.{Sub}
-use Rattle.lists.specs.Uses.{block, wordOf, marked, uses, chainBytes, NoClash, Listed}
+use Rattle.lists.specs.Uses.{block, wordOf, marked, uses, chainBytes, setupAfter, listSetup, listBytes, NoClash, Listed}
 use Rattle.lists.specs.Unit.{noteBy, tag}
 
 -- what is still to be noted, with these blocks to do
@@ -47,43 +47,46 @@ rank (cu.Ending b filled) n = 1 + 66 * pred n
 rank (cu.Failing b) n = 1 + 66 * pred n
 
 module _ (base : RealAddress) (m₀ : List ℕ) where
-  -- the command at c is begun: its word holds, and the bytes that it uses are as its own begin left them
-  pub record Begins (b : Begun) (c : ℕ) (q : List ℕ) : Type 0 where
+  -- the command at c is begun, a Transmit or not, with the setup s in force: its word holds, and the bytes that it uses are as its own begin
+  -- left them
+  pub record Begins (transmits : Bool) (s : Setup) (b : Begun) (c : ℕ) (q : List ℕ) : Type 0 where
     pub begun : b ≡ begunBy (block c) (wordOf base m₀ c)
-    pub same : Same (uses base m₀ c) q (marked base m₀ c)
+    pub kind : eqb (cmd (wordOf base m₀ c)) transmit ≡ transmits
+    pub same : Same (uses base s m₀ c) q (marked base m₀ c)
 
   -- descriptors are left, and they are among its bytes
-  abbrev pub Walks : (used filled : ℕ) → Offset → ℕ → Type 0
-  Walks used filled next c =
-      (j : ℕ) × (used + suc j ≡ mostBuffers) × Sub (chainBytes (suc j) base (marked base m₀ c) next filled) (uses base m₀ c)
+  abbrev pub Walks : Setup → (used filled : ℕ) → Offset → ℕ → Type 0
+  Walks s used filled next c =
+      (j : ℕ) × (used + suc j ≡ mostBuffers) × Sub (chainBytes (suc j) base (marked base m₀ c) next filled) (uses base s m₀ c)
 
   -- what is known of the command in work
-  abbrev pub Now : Cu → ℕ → List ℕ → Type 0
-  Now cu.Idle c q = ⊥
-  Now (cu.Suspended o) c q = ⊥
-  Now (cu.Waiting o) c q = (o ≡ block c) × Same (uses base m₀ c) q m₀
-  Now (cu.Acting b a) c q =
-      Begins b c q × (eqb (cmd (wordOf base m₀ c)) transmit ≡ false) × (a ≡ actionOf (cmd (wordOf base m₀ c)))
-  Now (cu.Sending b w) c q = Begins b c q × Walks (w .used) (w .filled) (w .next) c
-  Now (cu.Ending b filled) c q = Begins b c q
-  Now (cu.Failing b) c q = Begins b c q
+  abbrev pub Now : Cu → Setup → ℕ → List ℕ → Type 0
+  Now cu.Idle s c q = ⊥
+  Now (cu.Suspended o) s c q = ⊥
+  Now (cu.Waiting o) s c q = (o ≡ block c) × Same (uses base s m₀ c) q m₀
+  Now (cu.Acting b a) s c q = Begins false s b c q × (a ≡ actionOf (cmd (wordOf base m₀ c)))
+  Now (cu.Sending b w) s c q = Begins true s b c q × Walks s (w .used) (w .filled) (w .next) c
+  Now (cu.Ending b filled) s c q = Begins true s b c q
+  Now (cu.Failing b) s c q = Begins true s b c q
 
-  -- the list, and its commands that are not begun: their bytes are as they were
-  pub record Lies (c : ℕ) (cs : List ℕ) (q : List ℕ) : Type 0 where
+  -- the list, and its commands that are not begun: their bytes, under the setup that c leaves, are as they were
+  pub record Lies (s : Setup) (c : ℕ) (cs : List ℕ) (q : List ℕ) : Type 0 where
     pub listed : Listed base m₀ (c ∷ cs)
-    pub apart : NoClash (length m₀) base m₀ (c ∷ cs)
-    pub later : (b : ℕ) → In b cs → Same (uses base m₀ b) q m₀
+    pub apart : NoClash (length m₀) base s m₀ (c ∷ cs)
+    pub later : Same (listBytes base (setupAfter base s m₀ c) m₀ cs) q m₀
 
-  -- with the blocks bs to do
+  -- with the blocks bs to do: the setup in force is the unit's own
   abbrev pub Stands : List ℕ → Part → List ℕ → Type 0
   Stands [] p q = isActive (cuState (p .unit)) ≡ false
-  Stands (c ∷ cs) p q = (p .base ≡ base) × Now (p .unit) c q × Lies c cs q
+  Stands (c ∷ cs) p q = (p .base ≡ base) × Now (p .unit) (p .setup) c q × Lies (p .setup) c cs q
 
-  -- a service leads on: with the blocks cs to do, a part of those before; what it notes was the next to be noted; fewer services are left
+  -- a service leads on: with the blocks left to do, whose bytes are among those before, and which leave the setup that was to be left; what it
+  -- notes was the next to be noted; fewer services are left
   pub record Leads (bs : List ℕ) (p : Part) (q : List ℕ) (r : ℕ) : Type 0 where
     pub left : List ℕ
     pub stands : Stands left (service p q r .part) (apply (service p q r .writes) q)
-    pub part : Sub left bs
+    pub part : Sub (listBytes base (service p q r .part .setup) m₀ left) (listBytes base (p .setup) m₀ bs)
+    pub setup : listSetup base (service p q r .part .setup) m₀ left ≡ listSetup base (p .setup) m₀ bs
     pub noted : map tag (noteBy (p .unit) p q r) ++ todo (service p q r .part .unit) left ≡ todo (p .unit) bs
     pub fewer : rank (service p q r .part .unit) (length left) < rank (p .unit) (length bs)
 

@@ -8,13 +8,14 @@ use Rattle.memory.specs.Memory.{wordAt}
 use Rattle.scb.specs.Words.{scbCommandAt, cuc, resets}
 use Rattle.device.specs.State.{cuState, isActive}
 use Rattle.device.specs.declared.Cu.the-variants as cu
+use Rattle.actions.specs.Setup.{Setup, setupOf}
 use Rattle.command.specs.Part.{partOf}
 use Rattle.control.specs.Obey.{ofScb}
 use Rattle.chip.specs.World.{World}
 use Rattle.traces.specs.Event.{Event, call, host, step, isTurn, isCalm}
 use Rattle.progress.specs.Machine.{eachOnce, turns, run, log, log′, reports, part′, mem′, Undisturbed, Mays}
 use Rattle.progress.specs.Same.{Same}
-use Rattle.lists.specs.Uses.{block, listBytes, NoClash, Listed, firstOf}
+use Rattle.lists.specs.Uses.{block, listSetup, listBytes, NoClash, Listed, firstOf}
 use Rattle.lists.specs.Unit.{machine, tag}
 
 -- ---- which events may occur
@@ -45,7 +46,15 @@ pub record Started (bs : List ℕ) (w : World) : Type 0 where
 -- by the definitions, on the memory as it stood at the start, with the line reports of its turns
 
 abbrev pub bytesOf : World → List ℕ → List ℕ
-bytesOf w bs = listBytes (w .device .units .base) (w .memory) bs
+bytesOf w bs = listBytes (w .device .units .base) (setupOf (w .device)) (w .memory) bs
+
+-- the setup that the list leaves
+abbrev pub setupLeft : World → List ℕ → Setup
+setupLeft w bs = listSetup (w .device .units .base) (setupOf (w .device)) (w .memory) bs
+
+-- no result is a later command's byte
+abbrev pub Apart : List ℕ → World → Type 0
+Apart bs w = NoClash (length (w .memory)) (w .device .units .base) (setupOf (w .device)) (w .memory) bs
 
 module _ (May : Event → World → Type 0) where
   pub record Done (bs : List ℕ) (es : List Event) (w : World) : Type 0 where
@@ -65,7 +74,7 @@ module _ (May : Event → World → Type 0) where
   -- 132 times n turns; the events of the trace may occur; nothing writes into the list but each command's own results
   pub record Premises (bs : List ℕ) (es : List Event) (w : World) : Type 0 where
     pub size : 8192 ≤ length (w .memory)
-    pub apart : NoClash (length (w .memory)) (w .device .units .base) (w .memory) bs
+    pub apart : Apart bs w
     pub events : Mays (machine May) es w
     pub kept : Undisturbed (machine May) (bytesOf w bs) es w
     pub turns : 132 * length bs ≤ turns (λ e v. isTurn e) step es w

@@ -12,9 +12,8 @@ use Rattle.traces.specs.Bytes.{called, isRefused}
 use Rattle.traces.specs.Event.{Event, call, host, isTurn, isCalm}
 use Rattle.closure.specs.Driven.{Lending}
 use Rattle.progress.specs.Machine.{bit, Undisturbed, Mays}
-use Rattle.lists.specs.Uses.{NoClash}
 use Rattle.lists.specs.Unit.{machine}
-use Rattle.lists.specs.Done.{bytesOf}
+use Rattle.lists.specs.Done.{bytesOf, Apart}
 
 -- ---- a trace of calls, each with what it is lent
 
@@ -91,7 +90,7 @@ module _ (C : Carries) where
   pub record LentPremises (May : Event → World → Type 0) (bs : List ℕ) (ls : List Lending) (a : Areas) (v : World) : Type 0 where
     pub lends : AllLend ls a
     pub events : Mays (machine May) (eventsOf ls) v
-    pub apart : NoClash (length (v .memory)) (v .device .units .base) (v .memory) bs
+    pub apart : Apart bs v
     -- nothing writes into the list but each command's own results, neither the host between calls nor a call; N stays
     pub intact : Undisturbed (machine May) (bytesOf v bs) (eventsOf ls) v
     pub turns : 132 * length bs ≤ turnsOf ls

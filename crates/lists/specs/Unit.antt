@@ -6,7 +6,6 @@ use lib.Dec.{eqb}
 use lib.ListN.{take}
 use Rattle.memory.specs.Address.{place}
 use Rattle.memory.specs.Memory.{wordAt}
-use Rattle.device.specs.Limits.{addressLength, typeLength}
 use Rattle.device.specs.Numbers.{transmit}
 use Rattle.device.specs.State.{cuState, isActive, isHolding}
 use Rattle.device.specs.declared.Begun.{Begun}
@@ -14,7 +13,7 @@ use Rattle.device.specs.declared.Cu.{Cu}
 use Rattle.device.specs.declared.Cu.the-variants as cu
 use Rattle.device.specs.declared.Units.{Units}
 use Rattle.actions.specs.Actions.{Acted, act, sent, notSent}
-use Rattle.actions.specs.Block.{blockCommandAt, blockLinkAt, argumentAt, destinationAt, typeAt}
+use Rattle.actions.specs.Block.{blockCommandAt, blockLinkAt, argumentAt}
 use Rattle.command.specs.Begin.{cmd}
 use Rattle.command.specs.Buffer.{descriptorAt, fits}
 use Rattle.command.specs.Part.{Part, partOf}
@@ -23,7 +22,7 @@ use Rattle.chip.specs.World.{World}
 use Rattle.traces.specs.Event.{Event, step, isTurn, report}
 use Rattle.progress.specs.Machine.{Machine, Tag, begun, done}
 use Rattle.progress.specs.Same.{range}
-use Rattle.lists.specs.Uses.{argumentBytes, descriptorBytes, from}
+use Rattle.lists.specs.Uses.{headerBytes, argumentBytes, descriptorBytes, from}
 
 -- ---- what is noted: a command is begun; it is done, with its status and the frame that was sent, if one was
 
@@ -52,8 +51,7 @@ tag (ended c status frame) = done c
 
 -- begin: the command word; of a Transmit the offset at +6, the destination and the type
 abbrev pub beginReads : (transmits : Bool) → Part → ℕ → List ℕ
-beginReads true p c =
-    from (p .base) c argumentAt 2 ++ from (p .base) c destinationAt addressLength ++ from (p .base) c typeAt typeLength
+beginReads true p c = from (p .base) c argumentAt 2 ++ headerBytes (p .base) (p .setup) c
 beginReads false p c = []
 
 -- a buffer: the descriptor, and the data if it fits
@@ -70,7 +68,7 @@ readsBy cu.Idle p m = []
 readsBy (cu.Suspended o) p m = []
 readsBy (cu.Waiting o) p m =
     from (p .base) (o .0) blockCommandAt 2 ++ beginReads (eqb (cmd (wordAt m (place (p .base) o blockCommandAt))) transmit) p (o .0)
-readsBy (cu.Acting b a) p m = argumentBytes a (p .base) m (b .block .0) ++ endReads p (b .block .0)
+readsBy (cu.Acting b a) p m = argumentBytes a (p .base) (p .setup) m (b .block .0) ++ endReads p (b .block .0)
 readsBy (cu.Sending b w) p m =
     let d = descriptorAt (p .base) (w .next) m in descriptorBytes (p .base) (w .next) ++ dataReads (fits d w) (d .buffer .0) (d .count)
 readsBy (cu.Ending b filled) p m = endReads p (b .block .0)

@@ -1,5 +1,6 @@
 -- A command list as it stands in a memory, and its bytes: 01, "Turns": its list is, as it stands after the starting attention, the n blocks with
--- all bytes their commands use, each Transmit's descriptors and their data; results are the status words and TDR's word. Assumes nothing.
+-- all bytes their commands use, each Transmit's descriptors and their data; results are the status words and TDR's word. What a command uses is
+-- said under the setup in force at it, which is the one that the commands before it leave. Assumes nothing.
 use mathlib.Core.Path.{_≡_}
 use mathlib.Core.Logic.{_≢_}
 use mathlib.Core.Bool.{Bool, true, false, _||_}
@@ -11,12 +12,13 @@ use Rattle.memory.specs.Address.{place, offsetAt, isNone}
 use Rattle.memory.specs.declared.Offset.{Offset}
 use Rattle.memory.specs.declared.RealAddress.{RealAddress}
 use Rattle.scb.specs.Words.{bit}
-use Rattle.device.specs.Limits.{addressLength, typeLength, header, longest, mostListed, mostBuffers}
+use Rattle.device.specs.Limits.{addressLength, typeLength, longest, mostListed, mostBuffers}
 use Rattle.device.specs.Numbers.{transmit, actionOf, actionNumber}
 use Rattle.device.specs.declared.Action.{Action}
 use Rattle.device.specs.declared.Action.the-variants as action
-use Rattle.actions.specs.Block.{blockStatusAt, blockCommandAt, blockLinkAt, argumentAt, destinationAt, typeAt}
-use Rattle.actions.specs.Actions.{clamped, byteOf, groups}
+use Rattle.actions.specs.Block.{blockStatusAt, blockCommandAt, blockLinkAt, argumentAt, destinationAt}
+use Rattle.actions.specs.Actions.{clamped, byteOf, groups, act}
+use Rattle.actions.specs.Setup.{Setup}
 use Rattle.command.specs.Begin.{cmd}
 use Rattle.command.specs.Buffer.{descriptorAt}
 use Rattle.progress.specs.Same.{In, range}
@@ -32,22 +34,36 @@ from base c field n = range (place base (block c) field) n
 abbrev pub wordOf : RealAddress → List ℕ → ℕ → ℕ
 wordOf base m c = wordAt m (place base (block c) blockCommandAt)
 
+-- ---- what the setup in force says of a command's bytes
+
+-- the length of an address: six under every setup, since Configure takes no other
+unfoldable pub addressLengthOf : Setup → ℕ
+addressLengthOf s = addressLength
+
+-- what a Transmit's block has of the header: destination, and the type behind it
+unfoldable pub headerBytes : RealAddress → Setup → ℕ → List ℕ
+headerBytes base s c = from base c destinationAt (addressLengthOf s) ++ from base c (destinationAt + addressLengthOf s) typeLength
+
+-- the header in the frame, before the data: destination, own address, type
+unfoldable pub headerLengthOf : Setup → ℕ
+headerLengthOf s = addressLengthOf s + addressLengthOf s + typeLength
+
 -- ---- the bytes that a command uses
 
 -- beside the six of its block, a command that is no Transmit uses what its kind and its count make it read; TDR's word is a result
-abbrev pub listedBytes : (taken : Bool) → RealAddress → ℕ → ℕ → List ℕ
-listedBytes true base c n = from base c destinationAt (n * addressLength)
-listedBytes false base c n = []
+abbrev pub listedBytes : (taken : Bool) → RealAddress → Setup → ℕ → ℕ → List ℕ
+listedBytes true base s c n = from base c destinationAt (n * addressLengthOf s)
+listedBytes false base s c n = []
 
-abbrev pub argumentBytes : Action → RealAddress → List ℕ → ℕ → List ℕ
-argumentBytes action.Nop base m c = []
-argumentBytes action.IaSetup base m c = from base c argumentAt addressLength
-argumentBytes action.Configure base m c = from base c argumentAt (clamped (byteOf base (block c) m 0))
-argumentBytes action.McSetup base m c =
-    let n = groups base (block c) m in from base c argumentAt 2 ++ listedBytes (leb n mostListed) base c n
-argumentBytes action.Tdr base m c = from base c argumentAt 2
-argumentBytes action.Dump base m c = []
-argumentBytes action.Diagnose base m c = []
+abbrev pub argumentBytes : Action → RealAddress → Setup → List ℕ → ℕ → List ℕ
+argumentBytes action.Nop base s m c = []
+argumentBytes action.IaSetup base s m c = from base c argumentAt addressLength
+argumentBytes action.Configure base s m c = from base c argumentAt (clamped (byteOf base (block c) m 0))
+argumentBytes action.McSetup base s m c =
+    let n = groups base (block c) m in from base c argumentAt 2 ++ listedBytes (leb n mostListed) base s c n
+argumentBytes action.Tdr base s m c = from base c argumentAt 2
+argumentBytes action.Dump base s m c = []
+argumentBytes action.Diagnose base s m c = []
 
 -- m, once the command at c has begun: a Transmit's chain may lead over its own status word
 unfoldable pub marked : RealAddress → List ℕ → ℕ → List ℕ
@@ -78,24 +94,40 @@ firstBytes true chain = []
 firstBytes false chain = chain
 
 -- a Transmit: the offset at +6, destination, type, and its chain of at most 64
-abbrev pub transmitBytes : RealAddress → List ℕ → ℕ → List ℕ
-transmitBytes base m c =
+abbrev pub transmitBytes : RealAddress → Setup → List ℕ → ℕ → List ℕ
+transmitBytes base s m c =
     let first = offsetAt m (place base (block c) argumentAt) in
-    from base c argumentAt 2 ++ from base c destinationAt addressLength ++ from base c typeAt typeLength
-    ++ firstBytes (isNone first) (chainBytes mostBuffers base (marked base m c) first header)
+    from base c argumentAt 2 ++ headerBytes base s c
+    ++ firstBytes (isNone first) (chainBytes mostBuffers base (marked base m c) first (headerLengthOf s))
 
-abbrev pub ownBytes : (transmits : Bool) → RealAddress → List ℕ → ℕ → List ℕ
-ownBytes true base m c = transmitBytes base m c
-ownBytes false base m c = argumentBytes (actionOf (cmd (wordOf base m c))) base m c
+abbrev pub ownBytes : (transmits : Bool) → RealAddress → Setup → List ℕ → ℕ → List ℕ
+ownBytes true base s m c = transmitBytes base s m c
+ownBytes false base s m c = argumentBytes (actionOf (cmd (wordOf base m c))) base s m c
 
 -- six bytes of a block, and what its command uses besides
-unfoldable pub uses : RealAddress → List ℕ → ℕ → List ℕ
-uses base m c =
-    from base c blockStatusAt 2 ++ from base c blockCommandAt 2 ++ from base c blockLinkAt 2 ++ ownBytes (eqb (cmd (wordOf base m c)) transmit) base m c
+unfoldable pub uses : RealAddress → Setup → List ℕ → ℕ → List ℕ
+uses base s m c =
+    from base c blockStatusAt 2 ++ from base c blockCommandAt 2 ++ from base c blockLinkAt 2 ++ ownBytes (eqb (cmd (wordOf base m c)) transmit) base s m c
 
-abbrev pub listBytes : RealAddress → List ℕ → List ℕ → List ℕ
-listBytes base m [] = []
-listBytes base m (c ∷ cs) = uses base m c ++ listBytes base m cs
+-- ---- the setup that a command leaves: a Transmit the one in force, any other what its action makes of it. No earlier result is among the bytes
+-- that the action reads (`NoClash`), so this is the setup that the command unit alone leaves
+
+abbrev pub setupBy : (transmits : Bool) → RealAddress → Setup → List ℕ → ℕ → Setup
+setupBy true base s m c = s
+setupBy false base s m c = act (actionOf (cmd (wordOf base m c))) base s (block c) (marked base m c) .setup
+
+unfoldable pub setupAfter : RealAddress → Setup → List ℕ → ℕ → Setup
+setupAfter base s m c = setupBy (eqb (cmd (wordOf base m c)) transmit) base s m c
+
+-- and the setup that a list leaves, command after command
+abbrev pub listSetup : RealAddress → Setup → List ℕ → List ℕ → Setup
+listSetup base s m [] = s
+listSetup base s m (c ∷ cs) = listSetup base (setupAfter base s m c) m cs
+
+-- each command's bytes, under the setup that those before it leave
+abbrev pub listBytes : RealAddress → Setup → List ℕ → List ℕ → List ℕ
+listBytes base s m [] = []
+listBytes base s m (c ∷ cs) = uses base s m c ++ listBytes base (setupAfter base s m c) m cs
 
 -- ---- results
 
@@ -108,10 +140,11 @@ unfoldable pub resultBytes : RealAddress → List ℕ → ℕ → List ℕ
 resultBytes base m c = from base c blockStatusAt 2 ++ tdrBytes (eqb (cmd (wordOf base m c)) (actionNumber action.Tdr)) base c
 
 -- no result may be another command's byte, addresses taken modulo N. Asked of later commands alone, which is less than the sentence grants
-abbrev pub NoClash : ℕ → RealAddress → List ℕ → List ℕ → Type 0
-NoClash n base m [] = Unit {0}
-NoClash n base m (c ∷ cs) =
-    ((b x y : ℕ) → In b cs → In x (uses base m b) → In y (resultBytes base m c) → x % n ≢ y % n) × NoClash n base m cs
+abbrev pub NoClash : ℕ → RealAddress → Setup → List ℕ → List ℕ → Type 0
+NoClash n base s m [] = Unit {0}
+NoClash n base s m (c ∷ cs) =
+    let t = setupAfter base s m c in
+    ((x y : ℕ) → In x (listBytes base t m cs) → In y (resultBytes base m c) → x % n ≢ y % n) × NoClash n base t m cs
 
 -- ---- the list
 

@@ -8,14 +8,15 @@ use Prim.Native.Nat.{ℕ, _*_, _≤_}
 use lib.Dec.{lit≤}
 use lib.ListN.{length, replicate}
 use Rattle.device.specs.State.{cuState, isActive}
+use Rattle.actions.specs.Setup.{setupOf}
 use Rattle.chip.specs.Cases.{Word, _is_, put, startOn}
 use Rattle.chip.specs.Call.{attention, arrive, turn}
 use Rattle.chip.specs.World.{World}
 use Rattle.traces.specs.Event.{Event, call, host, step, isTurn}
 use Rattle.progress.specs.Machine.{Undisturbed, Mays, log, run, turns}
-use Rattle.lists.specs.Uses.{Listed, firstOf, NoClash}
+use Rattle.lists.specs.Uses.{Listed, firstOf}
 use Rattle.lists.specs.Unit.{machine, began, ended}
-use Rattle.lists.specs.Done.{Calm, Starts, Done, bytesOf}
+use Rattle.lists.specs.Done.{Calm, Starts, Apart, Done, bytesOf}
 use Rattle.lists.proofs.Start.{cblOf}
 use Rattle.lists.proofs.Whole.{attention-list-done}
 use Rattle.worked.proofs.Tests.{keptb, kept-ok, kept-sub, sub-ok, clash-ok, calls-ok}
@@ -25,7 +26,7 @@ use Rattle.worked.proofs.Tests.{keptb, kept-ok, kept-sub, sub-ok, clash
 -- the premises on the blocks bs, the trace es and the world v after the starting attention
 pub record PremisesBy (least : ℕ → ℕ) (bs : List ℕ) (es : List Event) (v : World) : Type 0 where
   pub size : 8192 ≤ length (v .memory)
-  pub apart : NoClash (length (v .memory)) (v .device .units .base) (v .memory) bs
+  pub apart : Apart bs v
   pub events : Mays (machine Calm) es v
   pub kept : Undisturbed (machine Calm) (bytesOf v bs) es v
   pub turns : least (length bs) ≤ turns (λ e x. isTurn e) step es v
@@ -97,7 +98,7 @@ unfolding keptb
 one-premises least l =
     record {
       size = lit≤ tt;
-      apart = clash-ok (length (alone .memory)) (alone .device .units .base) (alone .memory) (0x18 ∷ []) tt;
+      apart = clash-ok (length (alone .memory)) (alone .device .units .base) (setupOf (alone .device)) (alone .memory) (0x18 ∷ []) tt;
       events = calls-ok (one 131) alone tt;
       kept = one-kept;
       turns = l;
@@ -157,7 +158,7 @@ unfolding keptb
 two-premises least l =
     record {
       size = lit≤ tt;
-      apart = clash-ok (length (pair .memory)) (pair .device .units .base) (pair .memory) both tt;
+      apart = clash-ok (length (pair .memory)) (pair .device .units .base) (setupOf (pair .device)) (pair .memory) both tt;
       events = calls-ok (two 132) pair tt;
       kept = two-kept;
       turns = l;

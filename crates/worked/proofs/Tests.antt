@@ -16,6 +16,7 @@ use Rattle.device.specs.Numbers.{actionOf, verdictOf}
 use Rattle.device.specs.State.{cuState, isActive, isHolding}
 use Rattle.filter.specs.Match.{agree, isListed, matches}
 use Rattle.actions.specs.Actions.{settingsBy, listing, act, reported, isSent, sent}
+use Rattle.actions.specs.Setup.{Setup}
 use Rattle.command.specs.Begin as command-begin
 use Rattle.command.specs.Buffer as command-buffer
 use Rattle.command.specs.End.{nextAfter, end}
@@ -37,7 +38,7 @@ use Rattle.traces.specs.Event.{Event, call, host, step, isCalm}
 use Rattle.progress.specs.Same.{In, here, there, range, Same}
 use Rattle.progress.specs.Machine.{Undisturbed, Mays, own, run}
 use Rattle.progress.proofs.Same.{Sub, same-part, same-refl}
-use Rattle.lists.specs.Uses.{marked, uses, resultBytes, NoClash}
+use Rattle.lists.specs.Uses.{addressLengthOf, headerBytes, headerLengthOf, marked, uses, setupAfter, listBytes, resultBytes, NoClash}
 use Rattle.lists.specs.Unit.{machine, commandNext, goesToCommand}
 use Rattle.lists.specs.Done.{Calm}
 
@@ -77,7 +78,7 @@ same-ok L m q t =
 
 -- who unfolds this unfolds all definitions that a call runs through
 unfoldable pub keptb : List ℕ → List Event → World → Bool
-unfolding byteAt putByte bytesAt putBytes value digits fieldAt place beyond cuNext ruNext bitsAt joined acknowledged anyOf eventBits statusWord counts actionOf verdictOf agree isListed matches command-begin.begunBy command-begin.headerOf command-begin.begin command-buffer.descriptorAt command-buffer.buffer settingsBy listing act reported isSent sent nextAfter end command-service.service lengthOf judged fateOf arrival receive-begin.begunBy receive-begin.begin receive-buffer.descriptorAt receive-buffer.buffer frameStatus settles close lack receive-service.service statusTo resetOf attentions.iscpOf attentions.initialise attentions.resetBy cuFirst obeyCuc ruFirst obeyRuc attentions.unitsAfter attentions.obey attentions.attend attentions.attention attentionOf arrivals.arrival arrivals.arrivalOf concluded commandTurn receiveTurn turnOf range marked uses resultBytes
+unfolding byteAt putByte bytesAt putBytes value digits fieldAt place beyond cuNext ruNext bitsAt joined acknowledged anyOf eventBits statusWord counts actionOf verdictOf agree isListed matches command-begin.begunBy command-begin.headerOf command-begin.begin command-buffer.descriptorAt command-buffer.buffer settingsBy listing act reported isSent sent nextAfter end command-service.service lengthOf judged fateOf arrival receive-begin.begunBy receive-begin.begin receive-buffer.descriptorAt receive-buffer.buffer frameStatus settles close lack receive-service.service statusTo resetOf attentions.iscpOf attentions.initialise attentions.resetBy cuFirst obeyCuc ruFirst obeyRuc attentions.unitsAfter attentions.obey attentions.attend attentions.attention attentionOf arrivals.arrival arrivals.arrivalOf concluded commandTurn receiveTurn turnOf range addressLengthOf headerBytes headerLengthOf marked uses setupAfter resultBytes
 keptb L [] w = true
 keptb L (e ∷ es) w = sameb L (step e w .memory) (apply (own (machine Calm) e w) (w .memory)) && keptb L es (step e w)
 
@@ -127,13 +128,10 @@ abbrev apartb : ℕ → List ℕ → List ℕ → Bool
 apartb n [] ys = true
 apartb n (x ∷ xs) ys = nearb n x ys && apartb n xs ys
 
-abbrev clearb : ℕ → RealAddress → List ℕ → List ℕ → List ℕ → Bool
-clearb n base m [] ys = true
-clearb n base m (b ∷ bs) ys = apartb n (uses base m b) ys && clearb n base m bs ys
-
-abbrev pub clashb : ℕ → RealAddress → List ℕ → List ℕ → Bool
-clashb n base m [] = true
-clashb n base m (c ∷ cs) = clearb n base m cs (resultBytes base m c) && clashb n base m cs
+abbrev pub clashb : ℕ → RealAddress → Setup → List ℕ → List ℕ → Bool
+clashb n base s m [] = true
+clashb n base s m (c ∷ cs) =
+    let t = setupAfter base s m c in apartb n (listBytes base t m cs) (resultBytes base m c) && clashb n base t m cs
 
 not-eq : (a b : ℕ) → T (not (eqb a b)) → a ≢ b
 not-eq a b t e = T-not (eqb a b) t (subst (λ (x : ℕ). T (eqb a x)) e (eqb-refl a))
@@ -146,18 +144,15 @@ apart-ok : (n : ℕ) (xs ys : List ℕ) → T (apartb n xs ys) → (x : ℕ) →
 apart-ok n (z ∷ xs) ys t x here = near-ok n z ys (and-l (nearb n z ys) (apartb n xs ys) t)
 apart-ok n (z ∷ xs) ys t x (there i) = apart-ok n xs ys (and-r (nearb n z ys) (apartb n xs ys) t) x i
 
-clear-ok : (n : ℕ) (base : RealAddress) (m bs ys : List ℕ) → T (clearb n base m bs ys)
-    → (b : ℕ) → In b bs → (x : ℕ) → In x (uses base m b) → (y : ℕ) → In y ys → x % n ≢ y % n
-clear-ok n base m (c ∷ bs) ys t b here = apart-ok n (uses base m c) ys (and-l (apartb n (uses base m c) ys) (clearb n base m bs ys) t)
-clear-ok n base m (c ∷ bs) ys t b (there i) = clear-ok n base m bs ys (and-r (apartb n (uses base m c) ys) (clearb n base m bs ys) t) b i
-
-pub clash-ok : (n : ℕ) (base : RealAddress) (m bs : List ℕ) → T (clashb n base m bs) → NoClash n base m bs
-clash-ok n base m [] t = tt
-clash-ok n base m (c ∷ cs) t = (
-  (λ b x y i j k.
-      clear-ok n base m cs (resultBytes base m c) (and-l (clearb n base m cs (resultBytes base m c)) (clashb n base m cs) t) b i x j y k),
-  clash-ok n base m cs (and-r (clearb n base m cs (resultBytes base m c)) (clashb n base m cs) t),
-)
+pub clash-ok : (n : ℕ) (base : RealAddress) (s : Setup) (m bs : List ℕ) → T (clashb n base s m bs) → NoClash n base s m bs
+clash-ok n base s m [] k = tt
+clash-ok n base s m (c ∷ cs) k =
+    let t : Setup = setupAfter base s m c in
+    let rest : List ℕ = listBytes base t m cs in
+    let own : List ℕ = resultBytes base m c in (
+      (λ x y i j. apart-ok n rest own (and-l (apartb n rest own) (clashb n base t m cs) k) x i y j),
+      clash-ok n base t m cs (and-r (apartb n rest own) (clashb n base t m cs) k),
+    )
 
 -- ---- calls that are neither attention nor reset
 

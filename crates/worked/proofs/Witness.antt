@@ -8,6 +8,7 @@ use lib.Dec.{lit≤}
 use lib.ListN.{length, replicate}
 use Rattle.memory.specs.Memory.{wordAt}
 use Rattle.device.specs.State.{cuState, isActive, isHolding}
+use Rattle.actions.specs.Setup.{setupOf}
 use Rattle.chip.specs.Cases.{Word, _is_, put, startOn}
 use Rattle.chip.specs.Call.{attention, arrive, turn}
 use Rattle.chip.specs.World.{World}
@@ -121,7 +122,7 @@ unfolding keptb
 premises =
     record {
       size = lit≤ tt;
-      apart = clash-ok (length (begun .memory)) (begun .device .units .base) (begun .memory) three tt;
+      apart = clash-ok (length (begun .memory)) (begun .device .units .base) (setupOf (begun .device)) (begun .memory) three tt;
       events = mays;
       kept =
           kept-append (bytesOf begun three) busy (replicate 383 (call (turn 0))) begun kept-busy
