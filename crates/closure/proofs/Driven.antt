@@ -17,7 +17,7 @@ use Rattle.progress.specs.Trace.{run, AllMay, bit, turns}
 use Rattle.traces.specs.Bytes.{called, isRefused}
 use Rattle.traces.specs.Event.{Event, call, step, isTurn}
 use Rattle.traces.specs.Areas.{AreBytes, Holds, unitsBy, deviceIn, worldIn, worldSaid, Shows}
-use Rattle.traces.specs.Driven.{Lending, lending, refusedAt, leftBy, left, isTaken, hostOf, eventsBy, eventsOf, Drive, calls, runs, takenIn, ranBy, leftOne}
+use Rattle.traces.specs.Driven.{Lending, lending, refusedAt, leftBy, left, isTaken, hostOf, eventsBy, eventsOf, Drive, calls, runs, takenIn, ranBy, leftDriven}
 use Rattle.traces.specs.Driven.{turnsDriven, turnsFrom, unrolled, Lends, Fair, AllFair, AllFairDrive}
 use Rattle.closure.specs.Turns.{turnsOn}
 use Rattle.closure.proofs.Carried.{holds-decoded, holds-back, lent-kept}
@@ -129,11 +129,11 @@ module _ (May : Event → World → Type 0) where
         (subst (λ (x : Areas). Spread ls x after n) same s)))
 
     -- all of them: what stands after drives, and the turns that their answers say, are those of the calls
-    pub spread : (ds : List Drive) (a : Areas) → AllFairDrive May ds a → Spread (unrolled ds) a (run leftOne ds a) (turnsDriven ds)
+    pub spread : (ds : List Drive) (a : Areas) → AllFairDrive May ds a → Spread (unrolled ds) a (run leftDriven ds a) (turnsDriven ds)
     spread [] a p = record { fair = tt; leaves = refl; counts = refl }
     spread (calls l ∷ ds) a p =
         let s = spread ds (left l a) (p .1) in
         record { fair = (p .0, s .fair); leaves = s .leaves; counts = ap (λ (n : ℕ). bit (isTaken l) + n) (s .counts) }
     spread (runs lent report budget ∷ ds) a p =
-        run-by (takenIn lent report budget) lent report budget a (unrolled ds) (run leftOne ds (leftOne (runs lent report budget) a)) (turnsDriven ds) refl
-        (p .0) (spread ds (leftOne (runs lent report budget) a) (p .1))
+        run-by (takenIn lent report budget) lent report budget a (unrolled ds) (run leftDriven ds (leftDriven (runs lent report budget) a)) (turnsDriven ds) refl
+        (p .0) (spread ds (leftDriven (runs lent report budget) a) (p .1))

@@ -29,7 +29,7 @@ use Rattle.progress.specs.Machine.{Undisturbed}
 use Rattle.traces.specs.Event.{Event, call, step, DuringList}
 use Rattle.traces.specs.Bytes.{called, number, isRefused}
 use Rattle.traces.specs.Areas.{FrameBytes, AreBytes, Holds, worldIn, Shows}
-use Rattle.traces.specs.Driven.{Lending, left, isTaken, eventsOf, Drive, leftOne, turnsDriven, unrolled, AllFair, AllFairDrive}
+use Rattle.traces.specs.Driven.{Lending, left, isTaken, eventsOf, Drive, leftDriven, turnsDriven, unrolled, AllFair, AllFairDrive}
 use Rattle.closure.specs.Sound.{Sound}
 use Rattle.closure.specs.Refusals.{When, Untouched}
 use Rattle.closure.specs.Carried.{Again}
@@ -194,7 +194,7 @@ pub a-list-is-done-by-runs : (bs : List ℕ) (ds : List Drive) (a : Areas) (d : 
     → Undisturbed machine (bytesOf (step (call attention) (worldIn d a)) bs) (eventsOf (unrolled ds)) (step (call attention) (worldIn d a))
     → 132 * length bs ≤ turnsDriven ds
     → Done bs (eventsOf (unrolled ds)) (step (call attention) (worldIn d a))
-    × Shows (run leftOne ds (called attention a .areas)) (run step (eventsOf (unrolled ds)) (step (call attention) (worldIn d a)))
+    × Shows (run leftDriven ds (called attention a .areas)) (run step (eventsOf (unrolled ds)) (step (call attention) (worldIn d a)))
 a-list-is-done-by-runs = list-bytes.runs-list-done
 
 -- 132 is exact: with 131 for one command, or 263 for two, the statement is false

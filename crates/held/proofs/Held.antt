@@ -19,7 +19,7 @@ use Rattle.progress.specs.Trace.{run, turns}
 use Rattle.progress.specs.Holder.{Holder, Went, ended, goes, Stays, Ends}
 use Rattle.progress.specs.Holder as ending
 use Rattle.traces.specs.Event.{Event, call, host, step, isTurn, WhileHeld}
-use Rattle.held.specs.Held.{frameOf, frameIn, isToHold, isSettled, fateAt, Holds, Settled, Within}
+use Rattle.held.specs.Held.{frameOf, frameIn, isToHold, isSettled, fateAt, HeldAlong, Settled, Within}
 use Rattle.progress.proofs.Holder.{ends-within}
 use Rattle.held.proofs.Service as service
 use Rattle.held.proofs.Service.{leftOf, left-positive, left-most, isFate, Serving}
@@ -155,13 +155,13 @@ nothing fate.Counted e = absurd (true≢false e)
 nothing fate.Aborted e = absurd (true≢false e)
 nothing fate.Reset e = absurd (true≢false e)
 
-all-along : (f : Frame) (es : List Event) (w : World) → ending.Holds holder (some f) es w → Holds f es w
+all-along : (f : Frame) (es : List Event) (w : World) → ending.HeldAlong holder (some f) es w → HeldAlong f es w
 all-along f [] w h = h .1
 all-along f (e ∷ es) w h =
     (h .0 .1, nothing (fateAt e w) (no-note (fateAt e w) (frameIn w) (h .1)), all-along f es (step e w) (h .2))
 
 -- at its end
-pub held-last : (f : Frame) (es : List Event) (w : World) → Holds f es w → frameIn (run step es w) ≡ some f
+pub held-last : (f : Frame) (es : List Event) (w : World) → HeldAlong f es w → frameIn (run step es w) ≡ some f
 held-last f [] w h = h
 held-last f (e ∷ es) w h = held-last f es (step e w) (h .2)
 
@@ -187,7 +187,7 @@ end-turn w report f e t φ = end-by (isReceiving (w .device .units)) w report f 
 
 -- the event at its end is a turn
 settle : (n : ℕ) (f : Frame) (es : List Event) (w : World) (before : List Event) (e : Event) (after : List Event)
-    → isToHold f ≡ true → es ≡ before ++ (e ∷ after) → turns isTurn before < n → Holds f before w → isTurn e ≡ true
+    → isToHold f ≡ true → es ≡ before ++ (e ∷ after) → turns isTurn before < n → HeldAlong f before w → isTurn e ≡ true
     → isFate (fateAt e (run step before w)) ≡ true → Settled n f es w
 settle n f es w before (call reset) after t s l h i φ = absurd (false≢true i)
 settle n f es w before (call attention) after t s l h i φ = absurd (false≢true i)

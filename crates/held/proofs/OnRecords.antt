@@ -40,7 +40,7 @@ use Rattle.traces.specs.Areas.{FrameBytes, AreBytes, unitsBy, unitsIn, worldSai
 use Rattle.traces.specs.Driven.{Lending, lending, refusedAt, leftBy, left, isTaken, Lends, Fair, AllFair}
 use Rattle.held.specs.Held.{frameOf, frameIn, isToHold}
 use Rattle.held.specs.Held as held
-use Rattle.held.specs.OnRecords.{frameKept, fateBy, fateAt, Holds, Settled, Within}
+use Rattle.held.specs.OnRecords.{frameKept, fateBy, fateAt, HeldAlong, Settled, Within}
 use Rattle.progress.proofs.Holder.{ends-within}
 use Rattle.held.proofs.Service.{leftOf, left-positive, left-most, isFate}
 use Rattle.held.proofs.Turn.{isReceiving}
@@ -277,17 +277,17 @@ fair-at : (before : List Lending) (l : Lending) (after : List Lending) (a : Area
 fair-at [] l after a y = y .0
 fair-at (b ∷ bs) l after a y = fair-at bs l after (left b a) (y .1)
 
-all-along : (f : Frame) (ls : List Lending) (a : Areas) → ending.Holds keeper (some f) ls a → Holds f ls a
+all-along : (f : Frame) (ls : List Lending) (a : Areas) → ending.HeldAlong keeper (some f) ls a → HeldAlong f ls a
 all-along f [] a h = h .1
 all-along f (l ∷ ls) a h =
     (h .0 .1, nothing (fateAt l) (no-note (fateAt l) (frameKept (a .kept)) (h .1)), all-along f ls (left l a) (h .2))
 
-pub kept-last : (f : Frame) (ls : List Lending) (a : Areas) → Holds f ls a → frameKept (run left ls a .kept) ≡ some f
+pub kept-last : (f : Frame) (ls : List Lending) (a : Areas) → HeldAlong f ls a → frameKept (run left ls a .kept) ≡ some f
 kept-last f [] a h = h
 kept-last f (l ∷ ls) a h = kept-last f ls (left l a) (h .2)
 
 settle : Closed → (n : ℕ) (f : Frame) (ls : List Lending) (a : Areas) (before : List Lending) (c : Call) (x : Areas) (after : List Lending)
-    → AllFair WhileHeld ls a → ls ≡ before ++ (lending c x ∷ after) → turns isTaken before < n → Holds f before a
+    → AllFair WhileHeld ls a → ls ≡ before ++ (lending c x ∷ after) → turns isTaken before < n → HeldAlong f before a
     → refusedAt (lending c x) ≡ false → isTurn (call c) ≡ true → isFate (fateAt (lending c x)) ≡ true → Settled n f ls a
 settle k n f ls a before reset x after y s l h e i φ = absurd (false≢true i)
 settle k n f ls a before attention x after y s l h e i φ = absurd (false≢true i)

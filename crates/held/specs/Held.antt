@@ -52,9 +52,9 @@ fateAt (call (turn report)) w = turnOf w report .outcome .fate
 fateAt (host m h out) w = fate.Nothing
 
 -- the frame f is held all along, and nothing is made of it
-abbrev pub Holds : Frame → List Event → World → Type 0
-Holds f [] w = frameIn w ≡ some f
-Holds f (e ∷ es) w = (frameIn w ≡ some f) × (fateAt e w ≡ fate.Nothing) × Holds f es (step e w)
+abbrev pub HeldAlong : Frame → List Event → World → Type 0
+HeldAlong f [] w = frameIn w ≡ some f
+HeldAlong f (e ∷ es) w = (frameIn w ≡ some f) × (fateAt e w ≡ fate.Nothing) × HeldAlong f es (step e w)
 
 -- ---- the statement
 
@@ -65,7 +65,7 @@ pub record Settled (n : ℕ) (f : Frame) (es : List Event) (w : World) : Type 0 
   pub after : List Event
   pub split : es ≡ before ++ (call (turn report) ∷ after)
   pub soon : turns isTurn before < n
-  pub holds : Holds f before w
+  pub holds : HeldAlong f before w
   pub settled : isSettled (turnOf (run step before w) report .outcome .fate) ≡ true
   pub free : frameIn (afterwards (turnOf (run step before w) report)) ≡ none
 

@@ -32,9 +32,9 @@ abbrev pub fateAt : Lending → Fate
 fateAt l = fateBy (refusedAt l) (l .made) (worldSaid (l .lent))
 
 -- the frame f is held in the record all along, and nothing is made of it; a stands
-abbrev pub Holds : Frame → List Lending → Areas → Type 0
-Holds f [] a = frameKept (a .kept) ≡ some f
-Holds f (l ∷ ls) a = (frameKept (a .kept) ≡ some f) × (fateAt l ≡ fate.Nothing) × Holds f ls (left l a)
+abbrev pub HeldAlong : Frame → List Lending → Areas → Type 0
+HeldAlong f [] a = frameKept (a .kept) ≡ some f
+HeldAlong f (l ∷ ls) a = (frameKept (a .kept) ≡ some f) × (fateAt l ≡ fate.Nothing) × HeldAlong f ls (left l a)
 
 -- ---- the statement
 
@@ -47,7 +47,7 @@ pub record Settled (n : ℕ) (f : Frame) (ls : List Lending) (a : Areas) : Type 
   pub after : List Lending
   pub split : ls ≡ before ++ (lending (turn report) areas ∷ after)
   pub soon : turns isTaken before < n
-  pub holds : Holds f before a
+  pub holds : HeldAlong f before a
   pub accepted : refusedAt (lending (turn report) areas) ≡ false
   pub kept : areas .kept ≡ run left before a .kept
   pub leaves : turnCall areas report ≡ onBytes (turnOf (worldSaid areas) report)

@@ -1,10 +1,9 @@
 -- Every state that a call leaves is in range: the premise of demand 3's proof holds, and ours has demand 3. Assumes nothing.
-use mathlib.Core.Path.{_≡_, _∙_}
-use mathlib.Core.Bool.{true}
+use mathlib.Core.Path.{_∙_}
 use Rattle.closure.proofs.Closed.{closed}
 use Rattle.closure.proofs.Lengths.{lengths-kept}
 use Rattle.kinds.specs.Chips.{Chip, ours, Meets}
-use Rattle.kinds.specs.Closed.{Right, Closed}
+use Rattle.kinds.specs.Closed.{Closed}
 use Rattle.kinds.specs.Lists.{Demand3}
 use Rattle.kinds.specs.Kinds.{Wrong}
 use Rattle.kinds.proofs.Third as third

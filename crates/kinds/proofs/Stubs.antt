@@ -14,7 +14,7 @@ use Rattle.traces.specs.Bytes.{edge}
 use Rattle.kinds.specs.Chips.{Chip, chipRun}
 use Rattle.kinds.specs.Lists.{All, turnsOf}
 use Rattle.kinds.specs.Kinds.{RefusesAll, OneAnswer, MemoryAsLent, FirstOnly, anotherEdge, Invents}
-use Rattle.kinds.proofs.Witness.{zeros, area, attending, turning, sound-on, handed-on, idly, idle-answer}
+use Rattle.kinds.proofs.Witness.{zeros, area, turning, sound-on, handed-on, idly, idle-answer}
 
 -- it leaves all as lent and answers n
 abbrev pub stub : ℕ → Chip

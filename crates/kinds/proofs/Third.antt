@@ -22,13 +22,13 @@ use Rattle.chip.specs.Call.{Call, attention, turn, ran}
 use Rattle.calls.specs.Calls.{Areas, answerNumber}
 use Rattle.traces.specs.Bytes.{edge}
 use Rattle.progress.specs.Trace.{run}
-use Rattle.traces.specs.Areas.{Hosted}
+use Rattle.traces.specs.Areas.{Hosted, shown}
 use Rattle.traces.specs.Event.{Event, call, host, step}
 use Rattle.closure.specs.Refusals.{FrameRight}
 use Rattle.kinds.specs.Chips.{Chip, ours, Given, Handed, Meets, chipRun, chipAnswers}
 use Rattle.kinds.specs.Demands.{Sound, Demand2}
 use Rattle.kinds.specs.Closed.{Right, Closed}
-use Rattle.kinds.specs.Lists.{turnsOf, AllReports, Fair, shown, DoneAsIn2, Demand3}
+use Rattle.kinds.specs.Lists.{turnsOf, AllReports, Fair, DoneAsIn2, Demand3}
 use Rattle.kinds.specs.Kinds.{InventedAlong, anotherCount, anotherEdges, InventsAlong}
 use Rattle.kinds.proofs.Equal.{all-areas}
 use Rattle.kinds.proofs.Ours.{has-demand2, ours-demand2}

@@ -23,7 +23,7 @@ use Rattle.chip.specs.World.{World, worldOf}
 use Rattle.chip.specs.Call.{attention, turn}
 use Rattle.calls.specs.Calls.{Areas}
 use Rattle.progress.specs.Trace.{run, AllMay}
-use Rattle.traces.specs.Areas.{Hosted}
+use Rattle.traces.specs.Areas.{Hosted, shown}
 use Rattle.traces.specs.Event.{Event, call, host, step, answersOf, Calm}
 use Rattle.closure.specs.Refusals.{FrameRight}
 use Rattle.kinds.specs.Chips.{Chip, Given, Handed, chipRun, chipAnswers}
@@ -95,10 +95,6 @@ Fair (host m h out ∷ es) = Hosted m h out × Fair es
 -- a block has C
 abbrev pub isDone : RealAddress → List ℕ → Offset → Type 0
 isDone base m b = bit (wordAt m (place base b blockStatusAt)) 15 ≡ true
-
--- the areas that show a world
-abbrev pub shown : World → Areas
-shown w = lentOf (w .device) (w .memory) (w .holding) (w .outgoing)
 
 -- ---- what bytes show of demand 3
 

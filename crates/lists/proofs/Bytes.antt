@@ -24,7 +24,7 @@ use Rattle.progress.specs.Machine.{Laws, Undisturbed}
 use Rattle.traces.specs.Bytes.{called, isRefused}
 use Rattle.traces.specs.Event.{Event, call, step, isTurn, DuringList}
 use Rattle.traces.specs.Areas.{AreBytes, Holds, worldIn, Shows}
-use Rattle.traces.specs.Driven.{Lending, left, isTaken, eventsOf, Drive, leftOne, turnsDriven, unrolled, AllFair, AllFairDrive}
+use Rattle.traces.specs.Driven.{Lending, left, isTaken, eventsOf, Drive, leftDriven, turnsDriven, unrolled, AllFair, AllFairDrive}
 use Rattle.closure.proofs.Runs.{carry-shown}
 use Rattle.closure.proofs.Driven.{turns-same, fair-along, LetsTurns, spread}
 use Rattle.lists.specs.Uses.{Listed, firstOf, NoClash}
@@ -109,7 +109,7 @@ pub runs-list-done : (bs : List ℕ) (ds : List Drive) (a : Areas) (d : Device) 
     → Undisturbed machine (bytesOf (step (call attention) (worldIn d a)) bs) (eventsOf (unrolled ds)) (step (call attention) (worldIn d a))
     → 132 * length bs ≤ turnsDriven ds
     → Done bs (eventsOf (unrolled ds)) (step (call attention) (worldIn d a))
-    × Shows (run leftOne ds (called attention a .areas)) (run step (eventsOf (unrolled ds)) (step (call attention) (worldIn d a)))
+    × Shows (run leftDriven ds (called attention a .areas)) (run step (eventsOf (unrolled ds)) (step (call attention) (worldIn d a)))
 runs-list-done bs ds a d l h r s first listed drives apart intact count =
     let p = spread DuringList list-turns ds (called attention a .areas) drives in
     let x = areas-list-done bs (unrolled ds) a d l h r s first listed (p .fair) apart intact (omega (arith, count, p .counts)) in

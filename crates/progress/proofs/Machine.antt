@@ -1,14 +1,13 @@
 -- The command unit alone and among others: the interleaving, list order, and how soon. Assumes nothing.
 use mathlib.Core.Path.{_≡_, refl, sym, _∙_}
 use mathlib.Core.Bool.{Bool, true, false}
-use mathlib.Core.List.{List, [], _∷_, _++_, map, map-append, append-assoc, append-nil}
-use Prim.Native.Nat.{ℕ, _+_, _*_, _≤_, _<_}
+use mathlib.Core.List.{List, [], _∷_, map-append, append-assoc, append-nil}
+use Prim.Native.Nat.{ℕ, _*_, _≤_, _<_}
 use native.Mathlib.Omega.{arith}
-use lib.ListN.{length}
-use Rattle.memory.specs.Memory.{Write, apply}
-use Rattle.progress.specs.Same.{In, Same}
+use Rattle.memory.specs.Memory.{apply}
+use Rattle.progress.specs.Same.{Same}
 use Rattle.progress.specs.Trace.{run, AllMay, bit, turns}
-use Rattle.progress.specs.Machine.{Machine, Laws, Alike, Served, Passed, Between, atService, reports, log, own, Undisturbed, part′, mem′, log′, Live, Covers, Alone, Tag, begun, done, eachOnce, Listing, Ordered, Finished}
+use Rattle.progress.specs.Machine.{Machine, Laws, Alike, Served, Passed, Between, reports, own, Undisturbed, part′, Live, Covers, Alone, Listing, Ordered, Finished}
 use Rattle.progress.proofs.Same.{same-refl, same-trans, same-part, same-apply}
 
 pub bit-le : (b : Bool) → bit b ≤ 1

@@ -48,9 +48,9 @@ module _ (H : Holder) where
     pub between : (e : E) (s : S) → may e s → held s ≡ true → isTurn e ≡ false → Stays e s × (last (step e s) ≡ last s)
 
   -- the frame x is held all along, and nothing is noted of it
-  abbrev pub Holds : F → List E → S → Type 0
-  Holds x [] s = (held s ≡ true) × (frame s ≡ x)
-  Holds x (e ∷ es) s = ((held s ≡ true) × (frame s ≡ x)) × (ends e s ≡ []) × Holds x es (step e s)
+  abbrev pub HeldAlong : F → List E → S → Type 0
+  HeldAlong x [] s = (held s ≡ true) × (frame s ≡ x)
+  HeldAlong x (e ∷ es) s = ((held s ≡ true) × (frame s ≡ x)) × (ends e s ≡ []) × HeldAlong x es (step e s)
 
   -- the frame x, held at the start, ends at one of the first n turns
   pub record Ends (n : ℕ) (x : F) (es : List E) (s : S) : Type 0 where
@@ -59,7 +59,7 @@ module _ (H : Holder) where
     pub after : List E
     pub split : es ≡ before ++ (event ∷ after)
     pub soon : turns isTurn before < n
-    pub holds : Holds x before s
+    pub holds : HeldAlong x before s
     pub turned : isTurn event ≡ true
     pub note : O
     pub noted : ends event (run step before s) ≡ note ∷ []

@@ -1,7 +1,7 @@
 -- An answer taken apart; which events are turns, and which may come; what calls and runs that are refused count for. Each is a case that another
 -- reading fails. Assumes nothing.
 use mathlib.Core.Path.{_≡_, refl, sym, _∙_}
-use mathlib.Core.Bool.{true, false, _&&_, not, true≢false, false≢true}
+use mathlib.Core.Bool.{true, false, _&&_, not, true≢false}
 use mathlib.Core.List.{List, [], _∷_, cons≢nil}
 use Prim.Native.Nat.{ℕ}
 use native.Mathlib.Omega.{arith}
@@ -14,7 +14,7 @@ use Rattle.calls.specs.Calls.{Areas, areasOf, answerNumber, refusalOf, turnCall
 use Rattle.traces.specs.Bytes.{number, sentLength, edge, turnsTaken, withoutTurns}
 use Rattle.traces.specs.Event.{Event, call, host, isTurn, isCalm, DuringList, WhileHeld}
 use Rattle.traces.specs.Areas.{FrameBytes}
-use Rattle.traces.specs.Driven.{Lending, lending, refusedAt, left, isTaken, eventsOf, Drive, runs, leftOne, turnsOne, unrolled, Lends, Fair, FairDrive}
+use Rattle.traces.specs.Driven.{Lending, lending, refusedAt, left, isTaken, eventsOf, Drive, runs, leftDriven, turnsOne, unrolled, Fair, FairDrive}
 
 -- ---- 01, "Calls, lent areas, refusals"
 
@@ -72,7 +72,7 @@ unfolding turnCall refusalOf answerNumber sizeAllowed
 refusedCall = (refl, refl, refl)
 
 -- so does a run that took no turn, whatever its budget
-pub refusedRun : (turnsOne strayRun ≡ 0) × (unrolled (strayRun ∷ []) ≡ []) × (leftOne strayRun standing ≡ standing)
+pub refusedRun : (turnsOne strayRun ≡ 0) × (unrolled (strayRun ∷ []) ≡ []) × (leftDriven strayRun standing ≡ standing)
 unfolding runCall refusalOf answerNumber sizeAllowed
 refusedRun = (refl, refl, refl)
 

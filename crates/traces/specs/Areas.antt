@@ -16,7 +16,7 @@ use Rattle.image.specs.Found as is
 use Rattle.image.specs.Ranges.{inRange, Wide}
 use Rattle.chip.specs.World.{World, worldOf}
 use Rattle.chip.specs.Call.{Call, reset, attention, arrive, turn}
-use Rattle.calls.specs.Calls.{Areas}
+use Rattle.calls.specs.Calls.{Areas, areasOf}
 
 -- ---- the frame that arrives with a call; the other calls have none
 
@@ -83,3 +83,7 @@ pub record Shows (a : Areas) (w : World) : Type 0 where
   pub holding : a .holding ≡ w .holding
   pub outgoing : a .outgoing ≡ w .outgoing
   pub kept : Holds (a .kept) (w .device)
+
+-- the areas that do, where the state is in range
+abbrev pub shown : World → Areas
+shown w = areasOf (w .memory) (w .holding) (w .outgoing) (imageOf (w .device))

@@ -64,9 +64,9 @@ abbrev pub ranBy : (taken : ℕ) → (before after : Areas) → Areas
 ranBy zero before after = before
 ranBy (suc k) before after = after
 
-abbrev pub leftOne : Drive → Areas → Areas
-leftOne (calls l) a = left l a
-leftOne (runs lent report budget) a = ranBy (takenIn lent report budget) a (runCall lent report budget .areas)
+abbrev pub leftDriven : Drive → Areas → Areas
+leftDriven (calls l) a = left l a
+leftDriven (runs lent report budget) a = ranBy (takenIn lent report budget) a (runCall lent report budget .areas)
 
 -- turns that are not refused: the turns inside a run count as turns
 abbrev pub turnsOne : Drive → ℕ
@@ -114,4 +114,4 @@ module _ (May : Event → World → Type 0) where
   FairDrive (runs lent report budget) a = 0 < takenIn lent report budget → Lends (lending (turn report) lent) a
 
   abbrev pub AllFairDrive : List Drive → Areas → Type 0
-  AllFairDrive ds a = AllMay FairDrive leftOne ds a
+  AllFairDrive ds a = AllMay FairDrive leftDriven ds a

@@ -10,7 +10,7 @@ use Rattle.progress.specs.Trace.{turns}
 use Rattle.traces.specs.Bytes.{called, isRefused}
 use Rattle.traces.specs.Event.{DuringList}
 use Rattle.traces.specs.Areas.{AreBytes}
-use Rattle.traces.specs.Driven.{Lending, lending, refusedAt, left, isTaken, Drive, calls, runs, takenIn, leftOne, turnsDriven, unrolled}
+use Rattle.traces.specs.Driven.{Lending, lending, refusedAt, left, isTaken, Drive, calls, runs, takenIn, leftDriven, turnsDriven, unrolled}
 use Rattle.traces.specs.Driven.{Lends, Fair, AllFair, FairDrive, AllFairDrive}
 use Rattle.closure.specs.Turns.{turnsOn}
 use Rattle.closure.proofs.Turns.{run-accepted, run-is-turns, run-of-one}
@@ -34,7 +34,7 @@ byRuns (l ∷ ls) = byRun (refusedAt l) (l .made) (l .lent) ∷ byRuns ls
 -- it is lent what the call is lent, leaves what the call leaves, and is unrolled to it
 record Like (d : Drive) (l : Lending) (a : Areas) : Type 0 where
   fair : FairDrive DuringList d a
-  leaves : leftOne d a ≡ left l a
+  leaves : leftDriven d a ≡ left l a
   calls-it : (ds : List Drive) → unrolled (d ∷ ds) ≡ l ∷ unrolled ds
 
 itself : (l : Lending) (a : Areas) → Fair DuringList l a → Like (calls l) l a
