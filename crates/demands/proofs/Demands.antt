@@ -108,18 +108,18 @@ pub as-document-01-says : (chip : Chip) → Meets chip → Demand2 chip
 as-document-01-says = demanded.has-demand2
 
 -- "A good frame addressed to us, arriving while the receive unit is Ready, is held to be stored"
-pub a-good-frame-is-held : (w : World) (f : List ℕ) (v : ℕ) (fd : Offset) → arrival.Lent w f → arrival.Ours w f → arrival.Good w f v
+pub a-good-frame-is-held : (w : World) (f : List ℕ) (v : ℕ) (fd : Offset) → arrival.RightLengths w f → arrival.Ours w f → arrival.Good w f v
     → arrival.unitOf w ≡ ru.Ready fd
     → arrival.IsHeld w f fd (arrival.judgedAs w f verdict.Good false) counter.Uncounted (arrivalOf w f v)
 a-good-frame-is-held = arrivals.good-ready
 
 -- "or adds one to exactly one counter", one being held: memory is as it was but for OVRNERRS, one more, "wrapping after 65,535"
-pub or-is-counted : (w : World) (f : List ℕ) (v : ℕ) → arrival.Lent w f → arrival.Ours w f → isHolding (arrival.unitOf w) ≡ true
+pub or-is-counted : (w : World) (f : List ℕ) (v : ℕ) → arrival.RightLengths w f → arrival.Ours w f → isHolding (arrival.unitOf w) ≡ true
     → arrival.NotHeld w fate.Overrun counter.Overruns (arrivalOf w f v)
 or-is-counted = arrivals.overrun
 
 -- the same exactness for every other arrival
-pub every-arrival : (w : World) (f : List ℕ) (v : ℕ) → arrival.Lent w f → arrival.ArrivalFate w f v (arrivalOf w f v)
+pub every-arrival : (w : World) (f : List ℕ) (v : ℕ) → arrival.RightLengths w f → arrival.ArrivalFate w f v (arrivalOf w f v)
 every-arrival = arrivals.arrival-fate
 
 -- a held good frame stays held, is stored, or is counted, "both, if kept with too few buffers", or is lost by an abort or a reset
@@ -132,7 +132,7 @@ pub a-held-bad-frame : (c : Call) (w : World) (f : Frame) → inRange (w .device
 a-held-bad-frame = holdings.bad-held
 
 -- stored and counted as facts about memory at exit, where no piece lies over another
-pub stored-and-counted-at-exit : (c : Call) (w : World) (f : Frame) → arrival.Lent w [] → inRange (w .device) ≡ true
+pub stored-and-counted-at-exit : (c : Call) (w : World) (f : Frame) → arrival.RightLengths w [] → inRange (w .device) ≡ true
     → heldIn (arrival.unitOf w) ≡ f ∷ [] → isGood f ≡ true
     → NoOverlap (length (w .memory)) (pieces (arrival.unitOf w) w)
     → GoodExit f c w
