@@ -1,2 +1,2 @@
 // No code: the demands and the inspector's list on one page, proofs/Demands.antt, each sentence beside the statement that says it. The rooms
-// closure, frames, lists, held and kinds have the definitions that the statements use, and the proofs.
+// traces, closure, frames, lists, held and kinds have the definitions that the statements use, and the proofs.

@@ -31,7 +31,7 @@ use Rattle.device.specs.declared.Verdict.the-variants as verdict
 use Rattle.receive.specs.Arrival as receive
 use Rattle.chip.specs.Arrival as chip
 use Rattle.chip.specs.World.{World, Ran}
-use Rattle.frames.specs.Arrival.{Lent, inScb, shortBy, settingsOf, unitOf, isOurs, Ours, Good, Bad, short, crc, misaligned, OneMore, Counts, NotHeld, IsHeld, judgedAs, ArrivalFate}
+use Rattle.frames.specs.Arrival.{RightLengths, inScb, shortBy, settingsOf, unitOf, isOurs, Ours, Good, Bad, short, crc, misaligned, OneMore, Counts, NotHeld, IsHeld, judgedAs, ArrivalFate}
 use Rattle.frames.specs.Arrival as classes
 
 -- ---- one more
@@ -53,7 +53,7 @@ counted counter.Alignment w h = one-more (w .memory) (inScb w 10) h
 counted counter.Resources w h = one-more (w .memory) (inScb w 12) h
 counted counter.Overruns w h = one-more (w .memory) (inScb w 14) h
 
-pub enough : {w : World} {f : List ℕ} → Lent w f → 2 ≤ length (w .memory)
+pub enough : {w : World} {f : List ℕ} → RightLengths w f → 2 ≤ length (w .memory)
 enough {w} l =
     let least = allowed (length (w .memory)) (l .size) .least in omega arith
 
@@ -69,7 +69,7 @@ by-fate : (w : World) (f : List ℕ) (v : ℕ) → said w f v (fated w f v) ≡ 
 unfolding said fated chip.arrivalOf chip.arrival receive.arrival
 by-fate w f v = refl
 
-not-held-said : (x : Fate) (w : World) (f : List ℕ) (v : ℕ) → isHeld x ≡ false → Lent w f → NotHeld w x (counterOf x) (said w f v x)
+not-held-said : (x : Fate) (w : World) (f : List ℕ) (v : ℕ) → isHeld x ≡ false → RightLengths w f → NotHeld w x (counterOf x) (said w f v x)
 unfolding said
 not-held-said x w f v h l =
     record {
@@ -81,7 +81,7 @@ not-held-said x w f v h l =
       memory = counted (counterOf x) w (enough l);
     }
 
-not-held : (x : Fate) (w : World) (f : List ℕ) (v : ℕ) → isHeld x ≡ false → Lent w f → fated w f v ≡ x
+not-held : (x : Fate) (w : World) (f : List ℕ) (v : ℕ) → isHeld x ≡ false → RightLengths w f → fated w f v ≡ x
     → NotHeld w x (counterOf x) (chip.arrivalOf w f v)
 not-held x w f v h l e = subst (λ (r : Ran). NotHeld w x (counterOf x) r) (ap (said w f v) (sym e) ∙ by-fate w f v) (not-held-said x w f v h l)
 
@@ -92,13 +92,13 @@ entered h f l = rw (sets-eq f h 0 (rw zero-add l), zero-add) (take-append-seam f
 stayed : (h f : List ℕ) → length f ≤ length h → drop (length f) (sets h heldFrom f) ≡ drop (length f) h
 stayed h f l = rw (sets-eq f h 0 (rw zero-add l), zero-add) (drop-append-seam f (drop (length f) h))
 
-fits : {w : World} {f : List ℕ} → Lent w f → length f ≤ length (w .holding)
+fits : {w : World} {f : List ℕ} → RightLengths w f → length f ≤ length (w .holding)
 fits {w} {f} l =
     let area = l .area in
     let frame = l .frame in
     omega arith
 
-is-held-said : (c : Counter) (w : World) (f : List ℕ) (v : ℕ) (fd : Offset) (j : Frame) → Lent w f → unitOf w ≡ ru.Ready fd
+is-held-said : (c : Counter) (w : World) (f : List ℕ) (v : ℕ) (fd : Offset) (j : Frame) → RightLengths w f → unitOf w ≡ ru.Ready fd
     → receive.judged (settingsOf w) f v ≡ j
     → IsHeld w f fd j c (said w f v (fate.Held c))
 unfolding said
@@ -113,7 +113,7 @@ is-held-said c w f v fd j l u e =
       memory = counted c w (enough l);
     }
 
-is-held : (c : Counter) (w : World) (f : List ℕ) (v : ℕ) (fd : Offset) (j : Frame) → Lent w f → unitOf w ≡ ru.Ready fd
+is-held : (c : Counter) (w : World) (f : List ℕ) (v : ℕ) (fd : Offset) (j : Frame) → RightLengths w f → unitOf w ≡ ru.Ready fd
     → receive.judged (settingsOf w) f v ≡ j
     → fated w f v ≡ fate.Held c → IsHeld w f fd j c (chip.arrivalOf w f v)
 is-held c w f v fd j l u e x =
@@ -121,17 +121,17 @@ is-held c w f v fd j l u e x =
 
 -- ---- how a frame is judged
 
-judged-as : (w : World) (f : List ℕ) (v : ℕ) (b : Bool) → Lent w f → ltb (length f + fcs) (settingsOf w .minimum) ≡ b
+judged-as : (w : World) (f : List ℕ) (v : ℕ) (b : Bool) → RightLengths w f → ltb (length f + fcs) (settingsOf w .minimum) ≡ b
     → receive.judged (settingsOf w) f v ≡ judgedAs w f (verdictOf v) b
 unfolding receive.judged receive.lengthOf
 judged-as w f v b l e = rw (min-eq-left (l .frame), e)
 
-good-judged : (w : World) (f : List ℕ) (v : ℕ) → Lent w f → Good w f v → receive.judged (settingsOf w) f v ≡ judgedAs w f verdict.Good false
+good-judged : (w : World) (f : List ℕ) (v : ℕ) → RightLengths w f → Good w f v → receive.judged (settingsOf w) f v ≡ judgedAs w f verdict.Good false
 unfolding verdictOf
 good-judged w f v l g =
     judged-as w f v false l (le-ltb _ _ (g .long)) ∙ ap (λ (n : ℕ). judgedAs w f (verdictOf n) false) (g .verdict)
 
-bad-judged : (w : World) (f : List ℕ) (v : ℕ) (c : Counter) → Lent w f → Bad w f v c
+bad-judged : (w : World) (f : List ℕ) (v : ℕ) (c : Counter) → RightLengths w f → Bad w f v c
     → receive.judged (settingsOf w) f v ≡ judgedAs w f (verdictOf v) (shortBy c)
 bad-judged w f v c l (short s) = judged-as w f v true l (lt-ltb _ _ s)
 bad-judged w f v c l (crc n e) = judged-as w f v false l (le-ltb _ _ n)
@@ -164,22 +164,22 @@ in-unit w f v u j o e g = rw (le-ltb (length f) header (o .enough), o .matched) 
 -- ---- the classes
 
 -- under 14 bytes, dropped
-pub few : (w : World) (f : List ℕ) (v : ℕ) → Lent w f → length f < header → NotHeld w fate.TooFew counter.Uncounted (chip.arrivalOf w f v)
+pub few : (w : World) (f : List ℕ) (v : ℕ) → RightLengths w f → length f < header → NotHeld w fate.TooFew counter.Uncounted (chip.arrivalOf w f v)
 unfolding fated receive.fateOf
 few w f v l h = not-held fate.TooFew w f v refl l (rw (lt-ltb (length f) header h))
 
 -- no match, dropped
-pub unmatched : (w : World) (f : List ℕ) (v : ℕ) → Lent w f → header ≤ length f → isOurs w f ≡ false
+pub unmatched : (w : World) (f : List ℕ) (v : ℕ) → RightLengths w f → header ≤ length f → isOurs w f ≡ false
     → NotHeld w fate.NoMatch counter.Uncounted (chip.arrivalOf w f v)
 unfolding fated receive.fateOf
 unmatched w f v l h n = not-held fate.NoMatch w f v refl l (rw (le-ltb (length f) header h, n))
 
 -- RU Idle or Suspended, dropped
-pub idle : (w : World) (f : List ℕ) (v : ℕ) → Lent w f → Ours w f → unitOf w ≡ ru.Idle
+pub idle : (w : World) (f : List ℕ) (v : ℕ) → RightLengths w f → Ours w f → unitOf w ≡ ru.Idle
     → NotHeld w fate.UnitIdle counter.Uncounted (chip.arrivalOf w f v)
 idle w f v l o u = not-held fate.UnitIdle w f v refl l (in-unit w f v ru.Idle _ o u refl)
 
-pub suspended : (w : World) (f : List ℕ) (v : ℕ) (fd : Offset) → Lent w f → Ours w f → unitOf w ≡ ru.Suspended fd
+pub suspended : (w : World) (f : List ℕ) (v : ℕ) (fd : Offset) → RightLengths w f → Ours w f → unitOf w ≡ ru.Suspended fd
     → NotHeld w fate.UnitSuspended counter.Uncounted (chip.arrivalOf w f v)
 suspended w f v fd l o u = not-held fate.UnitSuspended w f v refl l (in-unit w f v (ru.Suspended fd) _ o u refl)
 
@@ -194,39 +194,39 @@ overrun-fate (ru.Filling s w) j h = refl
 overrun-fate (ru.Closing s o e) j h = refl
 overrun-fate (ru.Lacking s) j h = refl
 
-pub overrun : (w : World) (f : List ℕ) (v : ℕ) → Lent w f → Ours w f → isHolding (unitOf w) ≡ true
+pub overrun : (w : World) (f : List ℕ) (v : ℕ) → RightLengths w f → Ours w f → isHolding (unitOf w) ≡ true
     → NotHeld w fate.Overrun counter.Overruns (chip.arrivalOf w f v)
 overrun w f v l o h =
     not-held fate.Overrun w f v refl l (in-unit w f v (unitOf w) (receive.judged (settingsOf w) f v) o refl refl ∙ overrun-fate (unitOf w) _ h)
 
 -- a good one is held in Ready
-pub good-ready : (w : World) (f : List ℕ) (v : ℕ) (fd : Offset) → Lent w f → Ours w f → Good w f v → unitOf w ≡ ru.Ready fd
+pub good-ready : (w : World) (f : List ℕ) (v : ℕ) (fd : Offset) → RightLengths w f → Ours w f → Good w f v → unitOf w ≡ ru.Ready fd
     → IsHeld w f fd (judgedAs w f verdict.Good false) counter.Uncounted (chip.arrivalOf w f v)
 good-ready w f v fd l o g u =
     let j = good-judged w f v l g in is-held counter.Uncounted w f v fd _ l u j (in-unit w f v (ru.Ready fd) _ o u j)
 
 -- else RSCERRS
-pub good-unready : (w : World) (f : List ℕ) (v : ℕ) → Lent w f → Ours w f → Good w f v → unitOf w ≡ ru.NoResources
+pub good-unready : (w : World) (f : List ℕ) (v : ℕ) → RightLengths w f → Ours w f → Good w f v → unitOf w ≡ ru.NoResources
     → NotHeld w fate.NoResources counter.Resources (chip.arrivalOf w f v)
 good-unready w f v l o g u =
     not-held fate.NoResources w f v refl l (in-unit w f v ru.NoResources _ o u (good-judged w f v l g))
 
 -- a bad one is held only in Ready with save-bad set; its counter moves in either case
-pub bad-saved : (w : World) (f : List ℕ) (v : ℕ) (fd : Offset) (c : Counter) → Lent w f → Ours w f → Bad w f v c → unitOf w ≡ ru.Ready fd
+pub bad-saved : (w : World) (f : List ℕ) (v : ℕ) (fd : Offset) (c : Counter) → RightLengths w f → Ours w f → Bad w f v c → unitOf w ≡ ru.Ready fd
     → settingsOf w .savebad ≡ true
     → IsHeld w f fd (judgedAs w f (verdictOf v) (shortBy c)) c (chip.arrivalOf w f v)
 bad-saved w f v fd c l o b u s =
     let j = bad-judged w f v c l b in
     is-held c w f v fd _ l u j (in-unit w f v (ru.Ready fd) _ o u j ∙ rw (bad-good w f v c b, s, bad-counter w f v c b))
 
-pub bad-unsaved : (w : World) (f : List ℕ) (v : ℕ) (fd : Offset) (c : Counter) → Lent w f → Ours w f → Bad w f v c → unitOf w ≡ ru.Ready fd
+pub bad-unsaved : (w : World) (f : List ℕ) (v : ℕ) (fd : Offset) (c : Counter) → RightLengths w f → Ours w f → Bad w f v c → unitOf w ≡ ru.Ready fd
     → settingsOf w .savebad ≡ false
     → NotHeld w (fate.Bad c) c (chip.arrivalOf w f v)
 bad-unsaved w f v fd c l o b u s =
     not-held (fate.Bad c) w f v refl l
     (in-unit w f v (ru.Ready fd) _ o u (bad-judged w f v c l b) ∙ rw (bad-good w f v c b, s, bad-counter w f v c b))
 
-pub bad-unready : (w : World) (f : List ℕ) (v : ℕ) (c : Counter) → Lent w f → Ours w f → Bad w f v c → unitOf w ≡ ru.NoResources
+pub bad-unready : (w : World) (f : List ℕ) (v : ℕ) (c : Counter) → RightLengths w f → Ours w f → Bad w f v c → unitOf w ≡ ru.NoResources
     → NotHeld w (fate.Bad c) c (chip.arrivalOf w f v)
 bad-unready w f v c l o b u =
     not-held (fate.Bad c) w f v refl l
@@ -254,19 +254,19 @@ judgement : (isShort : Bool) (w : World) (f : List ℕ) (v : ℕ) → ltb (lengt
 judgement true w f v h = is-bad counter.Uncounted (short (ltb-true (length f + fcs) (settingsOf w .minimum) h))
 judgement false w f v h = verdicts (eqb v 0) (eqb v 1) w f v (ltb-false (length f + fcs) (settingsOf w .minimum) h) refl refl
 
-ready-class : (saved : Bool) (w : World) (f : List ℕ) (v : ℕ) (fd : Offset) → Lent w f → Ours w f → unitOf w ≡ ru.Ready fd
+ready-class : (saved : Bool) (w : World) (f : List ℕ) (v : ℕ) (fd : Offset) → RightLengths w f → Ours w f → unitOf w ≡ ru.Ready fd
     → settingsOf w .savebad ≡ saved → Judgement w f v
     → ArrivalFate w f v (chip.arrivalOf w f v)
 ready-class saved w f v fd l o u s (is-good g) = classes.good-ready fd o g u (good-ready w f v fd l o g u)
 ready-class true w f v fd l o u s (is-bad c b) = classes.bad-saved fd c o b u s (bad-saved w f v fd c l o b u s)
 ready-class false w f v fd l o u s (is-bad c b) = classes.bad-unsaved fd c o b u s (bad-unsaved w f v fd c l o b u s)
 
-unready-class : (w : World) (f : List ℕ) (v : ℕ) → Lent w f → Ours w f → unitOf w ≡ ru.NoResources → Judgement w f v
+unready-class : (w : World) (f : List ℕ) (v : ℕ) → RightLengths w f → Ours w f → unitOf w ≡ ru.NoResources → Judgement w f v
     → ArrivalFate w f v (chip.arrivalOf w f v)
 unready-class w f v l o u (is-good g) = classes.good-unready o g u (good-unready w f v l o g u)
 unready-class w f v l o u (is-bad c b) = classes.bad-unready c o b u (bad-unready w f v c l o b u)
 
-our-class : (u : Ru) (w : World) (f : List ℕ) (v : ℕ) → Lent w f → Ours w f → unitOf w ≡ u → ArrivalFate w f v (chip.arrivalOf w f v)
+our-class : (u : Ru) (w : World) (f : List ℕ) (v : ℕ) → RightLengths w f → Ours w f → unitOf w ≡ u → ArrivalFate w f v (chip.arrivalOf w f v)
 our-class ru.Idle w f v l o u = classes.idle o u (idle w f v l o u)
 our-class ru.NoResources w f v l o u = unready-class w f v l o u (judgement (ltb (length f + fcs) (settingsOf w .minimum)) w f v refl)
 our-class (ru.Suspended fd) w f v l o u = classes.suspended fd o u (suspended w f v fd l o u)
@@ -277,7 +277,7 @@ our-class (ru.Filling s k) w f v l o u = classes.overrun o (ap isHolding u) (ove
 our-class (ru.Closing s free full) w f v l o u = classes.overrun o (ap isHolding u) (overrun w f v l o (ap isHolding u))
 our-class (ru.Lacking s) w f v l o u = classes.overrun o (ap isHolding u) (overrun w f v l o (ap isHolding u))
 
-class-by : (isFew matched : Bool) (w : World) (f : List ℕ) (v : ℕ) → Lent w f → ltb (length f) header ≡ isFew → isOurs w f ≡ matched
+class-by : (isFew matched : Bool) (w : World) (f : List ℕ) (v : ℕ) → RightLengths w f → ltb (length f) header ≡ isFew → isOurs w f ≡ matched
     → ArrivalFate w f v (chip.arrivalOf w f v)
 class-by true matched w f v l a b =
     let n = ltb-true (length f) header a in classes.few n (few w f v l n)
@@ -287,5 +287,5 @@ class-by false true w f v l a b =
     our-class (unitOf w) w f v l (record { enough = ltb-false (length f) header a; matched = b }) refl
 
 -- whatever arrives, where the call is not refused
-pub arrival-fate : (w : World) (f : List ℕ) (v : ℕ) → Lent w f → ArrivalFate w f v (chip.arrivalOf w f v)
+pub arrival-fate : (w : World) (f : List ℕ) (v : ℕ) → RightLengths w f → ArrivalFate w f v (chip.arrivalOf w f v)
 arrival-fate w f v l = class-by (ltb (length f) header) (isOurs w f) w f v l refl refl

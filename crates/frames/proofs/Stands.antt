@@ -25,7 +25,7 @@ use Rattle.receive.specs.Begin.{isBare}
 use Rattle.receive.specs.End.{frameStatus, bareMark}
 use Rattle.chip.specs.Call.{Call, ran}
 use Rattle.chip.specs.World.{World, Ran}
-use Rattle.frames.specs.Arrival.{Lent, inScb, unitOf}
+use Rattle.frames.specs.Arrival.{RightLengths, inScb, unitOf}
 use Rattle.frames.specs.Held.{heldIn, inFrame, headerTo, markTo, bareTo, described, onwardBy, onward, statusAfter, Stored, Counted, GoodFate, BadFate}
 use Rattle.frames.specs.Held as held
 use Rattle.frames.specs.Stands.{Separate, StoredStands, CountedStands, CountersStand, Piece, piece, Away, NoOverlap, nextFirst, barePiece, onwardPiece, lackingPieces, pieces, GoodExit, badPieces, SavedStands, BadExit}
@@ -272,7 +272,7 @@ exit-of c w f h l p (held.both s n e q b x k j) =
 exit-of c w f h l p (held.lost a k) = exit.lost a k
 
 -- every call that is not refused, while a good frame is held, where no piece that is written lies over another
-pub good-exit : (c : Call) (w : World) (f : Frame) → Lent w [] → inRange (w .device) ≡ true → heldIn (unitOf w) ≡ f ∷ [] → isGood f ≡ true
+pub good-exit : (c : Call) (w : World) (f : Frame) → RightLengths w [] → inRange (w .device) ≡ true → heldIn (unitOf w) ≡ f ∷ [] → isGood f ≡ true
     → NoOverlap (length (w .memory)) (pieces (unitOf w) w)
     → GoodExit f c w
 good-exit c w f l r h g p =
@@ -365,7 +365,7 @@ bad-exit-of c w f h l p (held.lacking s n e q x k) =
 bad-exit-of c w f h l p (held.lost a k) = exit.lost a k
 
 -- every call that is not refused, while a bad frame is held, where no piece that is written lies over another or over a counter
-pub bad-exit : (c : Call) (w : World) (f : Frame) → Lent w [] → inRange (w .device) ≡ true → heldIn (unitOf w) ≡ f ∷ [] → isGood f ≡ false
+pub bad-exit : (c : Call) (w : World) (f : Frame) → RightLengths w [] → inRange (w .device) ≡ true → heldIn (unitOf w) ≡ f ∷ [] → isGood f ≡ false
     → NoOverlap (length (w .memory)) (badPieces (unitOf w) w)
     → BadExit f c w
 bad-exit c w f l r h g p =

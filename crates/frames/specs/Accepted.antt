@@ -6,7 +6,7 @@ use Prim.Native.Nat.{ℕ}
 use Rattle.image.specs.Ranges.{inRange}
 use Rattle.chip.specs.World.{World, Ran}
 use Rattle.calls.specs.Calls.{Areas, refusalOf, onBytes, calledBy}
-use Rattle.frames.specs.Arrival.{Lent}
+use Rattle.frames.specs.Arrival.{RightLengths}
 
 -- the areas are a world's: its record is the image of a state in range, the lengths are right, and the call leaves what it leaves of that world
 pub record Runs (a : Areas) (f : List ℕ) : Type 0 where
@@ -15,5 +15,5 @@ pub record Runs (a : Areas) (f : List ℕ) : Type 0 where
   pub holding : world .holding ≡ a .holding
   pub outgoing : world .outgoing ≡ a .outgoing
   pub range : inRange (world .device) ≡ true
-  pub lent : Lent world f
+  pub lent : RightLengths world f
   pub runs : (run : World → Ran) → calledBy (refusalOf a f) run a ≡ onBytes (run world)

@@ -30,7 +30,7 @@ use Rattle.chip.specs.World.{World, Ran}
 -- ---- which frame arrives
 
 -- 01, "Calls, lent areas, refusals": what the lengths are where neither 1, 2 nor 3 is given
-pub record Lent (w : World) (f : List ℕ) : Type 0 where
+pub record RightLengths (w : World) (f : List ℕ) : Type 0 where
   pub size : sizeAllowed (length (w .memory)) ≡ true
   pub area : length (w .holding) ≡ areaSize
   pub frame : length f ≤ longest

@@ -15,12 +15,11 @@ use Rattle.device.specs.declared.Ru.the-variants as ru
 use Rattle.chip.specs.World.{World, afterwards}
 use Rattle.chip.specs.Call.{reset, attention, arrive, turn}
 use Rattle.chip.specs.Turn.{turnOf}
-use Rattle.traces.specs.Event.{Event, call, host, step, isTurn, isCalm}
-use Rattle.progress.specs.Machine.{turns}
-use Rattle.progress.specs.Holder.{Holder, Went, ended, goes, Stays, Mays}
-use Rattle.progress.specs.Holder.{run, Ends}
+use Rattle.progress.specs.Trace.{run, turns}
+use Rattle.progress.specs.Holder.{Holder, Went, ended, goes, Stays, Ends}
 use Rattle.progress.specs.Holder as ending
-use Rattle.held.specs.Held.{frameOf, frameIn, isToHold, isSettled, turnsIn, Calm, fateAt, Holds, Settled, Within}
+use Rattle.traces.specs.Event.{Event, call, host, step, isTurn, WhileHeld}
+use Rattle.held.specs.Held.{frameOf, frameIn, isToHold, isSettled, fateAt, HeldAlong, Settled, Within}
 use Rattle.progress.proofs.Holder.{ends-within}
 use Rattle.held.proofs.Service as service
 use Rattle.held.proofs.Service.{leftOf, left-positive, left-most, isFate, Serving}
@@ -45,8 +44,7 @@ holder =
       S = World;
       E = Event;
       step = step;
-      may = λ e w. isCalm e ≡ true;
-      isTurn = λ e w. isTurn e;
+      isTurn = isTurn;
       held = λ w. isHolding (w .device .units .ru);
       served = λ w. isReceiving (w .device .units);
       last = λ w. w .device .units .rulast;
@@ -74,7 +72,7 @@ went : (w : World) (report : ℕ) → isReceiving (w .device .units) ≡ true
 went w report v (service.goes z h f l) = goes (rw z) h f l (serve-last w report v)
 went w report v (service.ended z s n) = ended (record { fate = turnOf w report .outcome .fate; frame = frameIn w }) (rw z) refl
 
-serve : (e : Event) (w : World) → isCalm e ≡ true → isHolding (w .device .units .ru) ≡ true → isTurn e ≡ true
+serve : (e : Event) (w : World) → WhileHeld e w → isHolding (w .device .units .ru) ≡ true → isTurn e ≡ true
     → isReceiving (w .device .units) ≡ true → Went holder e w
 serve (call reset) w y h t v = absurd (false≢true t)
 serve (call attention) w y h t v = absurd (false≢true t)
@@ -93,7 +91,7 @@ stays e w h z k = record { none = rw z; holds = rw k h; same = ap frameOf k; cou
 pub passing : (w : World) (report : ℕ) → isHolding (w .device .units .ru) ≡ true → isReceiving (w .device .units) ≡ false → Passes w (turnOf w report)
 passing w report h v = rw (turn-commanded w report h v .0) (passes w report)
 
-pass : (e : Event) (w : World) → isCalm e ≡ true → isHolding (w .device .units .ru) ≡ true → isTurn e ≡ true → isReceiving (w .device .units) ≡ false
+pass : (e : Event) (w : World) → WhileHeld e w → isHolding (w .device .units .ru) ≡ true → isTurn e ≡ true → isReceiving (w .device .units) ≡ false
     → Stays holder e w × (w .device .units .rulast ≡ true) × (step e w .device .units .rulast ≡ false)
 pass (call reset) w y h t v = absurd (false≢true t)
 pass (call attention) w y h t v = absurd (false≢true t)
@@ -103,7 +101,7 @@ pass (call (turn report)) w y h t v =
     (stays (call (turn report)) w h (p .fate) (p .unit), turn-commanded w report h v .1, p .last)
 pass (host m g out) w y h t v = absurd (false≢true t)
 
-between : (e : Event) (w : World) → isCalm e ≡ true → isHolding (w .device .units .ru) ≡ true → isTurn e ≡ false
+between : (e : Event) (w : World) → WhileHeld e w → isHolding (w .device .units .ru) ≡ true → isTurn e ≡ false
     → Stays holder e w × (step e w .device .units .rulast ≡ w .device .units .rulast)
 between (call reset) w y h t = absurd (false≢true y)
 between (call attention) w y h t = absurd (false≢true y)
@@ -111,19 +109,10 @@ between (call (arrive f x)) w y h t = (stays (call (arrive f x)) w h refl (arriv
 between (call (turn report)) w y h t = absurd (true≢false t)
 between (host m g out) w y h t = (stays (host m g out) w h refl refl, refl)
 
-pub laws : ending.Laws holder
+pub laws : ending.Laws holder WhileHeld
 laws = record { positive = λ w. left-positive (w .device .units .ru); serve = serve; pass = pass; between = between }
 
 -- ---- the statement
-
--- the trace and the unit as the general theorem has them
-turns-in : (es : List Event) (w : World) → turns (λ e w. isTurn e) step es w ≡ turnsIn es
-turns-in [] w = refl
-turns-in (e ∷ es) w = rw (turns-in es (step e w))
-
-calm : (es : List Event) (w : World) → Calm es → Mays holder es w
-calm [] w c = tt
-calm (e ∷ es) w c = (c .0, calm es (step e w) (c .1))
 
 pub holding : (u : Ru) (f : Frame) → frameOf u ≡ some f → isHolding u ≡ true
 holding ru.Idle f e = absurd (Option·none-ne-some f e)
@@ -166,13 +155,13 @@ nothing fate.Counted e = absurd (true≢false e)
 nothing fate.Aborted e = absurd (true≢false e)
 nothing fate.Reset e = absurd (true≢false e)
 
-all-along : (f : Frame) (es : List Event) (w : World) → ending.Holds holder (some f) es w → Holds f es w
+all-along : (f : Frame) (es : List Event) (w : World) → ending.HeldAlong holder (some f) es w → HeldAlong f es w
 all-along f [] w h = h .1
 all-along f (e ∷ es) w h =
     (h .0 .1, nothing (fateAt e w) (no-note (fateAt e w) (frameIn w) (h .1)), all-along f es (step e w) (h .2))
 
 -- at its end
-pub held-last : (f : Frame) (es : List Event) (w : World) → Holds f es w → frameIn (run step es w) ≡ some f
+pub held-last : (f : Frame) (es : List Event) (w : World) → HeldAlong f es w → frameIn (run step es w) ≡ some f
 held-last f [] w h = h
 held-last f (e ∷ es) w h = held-last f es (step e w) (h .2)
 
@@ -198,7 +187,7 @@ end-turn w report f e t φ = end-by (isReceiving (w .device .units)) w report f 
 
 -- the event at its end is a turn
 settle : (n : ℕ) (f : Frame) (es : List Event) (w : World) (before : List Event) (e : Event) (after : List Event)
-    → isToHold f ≡ true → es ≡ before ++ (e ∷ after) → turnsIn before < n → Holds f before w → isTurn e ≡ true
+    → isToHold f ≡ true → es ≡ before ++ (e ∷ after) → turns isTurn before < n → HeldAlong f before w → isTurn e ≡ true
     → isFate (fateAt e (run step before w)) ≡ true → Settled n f es w
 settle n f es w before (call reset) after t s l h i φ = absurd (false≢true i)
 settle n f es w before (call attention) after t s l h i φ = absurd (false≢true i)
@@ -220,15 +209,15 @@ settle n f es w before (host m g out) after t s l h i φ = absurd (false≢true 
 settled : (n : ℕ) (f : Frame) (es : List Event) (w : World) → isToHold f ≡ true → Ends holder n (some f) es w → Settled n f es w
 settled n f es w t r =
     let at = run step (r .before) w in
-    settle n f es w (r .before) (r .event) (r .after) t (r .split) (rw (turns-in (r .before) w) at (r .soon))
+    settle n f es w (r .before) (r .event) (r .after) t (r .split) (r .soon)
     (all-along f (r .before) w (r .holds)) (r .turned) (a-note (fateAt (r .event) at) (frameIn at) (r .note) (r .noted))
 
 -- twice the services that a held frame can take are enough
 pub within : (n : ℕ) → 132 ≤ n → Within n
 within n m w f es e t c l =
     settled n f es w t
-    (rw e at (ends-within holder laws n es w (calm es w c) (holding (w .device .units .ru) f e)
-    (omega (arith, m, left-most (w .device .units .ru))) (rw (turns-in es w) l)))
+    (rw e at (ends-within holder WhileHeld laws n es w c (holding (w .device .units .ru) f e)
+    (omega (arith, m, left-most (w .device .units .ru))) l))
 
 -- demand 3: a held frame is stored or counted within 132 turns
 pub held-frame : Within 132

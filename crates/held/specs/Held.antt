@@ -3,7 +3,7 @@ use mathlib.Core.Path.{_≡_}
 use mathlib.Core.Bool.{Bool, true, _||_}
 use mathlib.Core.List.{List, [], _∷_, _++_}
 use mathlib.Core.Option.{Option, none, some}
-use Prim.Native.Nat.{ℕ, _+_, _≤_, _<_}
+use Prim.Native.Nat.{ℕ, _≤_, _<_}
 use Rattle.device.specs.Answers.{counterOf, isStored, isCounter}
 use Rattle.device.specs.State.{isGood}
 use Rattle.device.specs.declared.Fate.{Fate}
@@ -14,9 +14,8 @@ use Rattle.device.specs.declared.Ru.the-variants as ru
 use Rattle.chip.specs.World.{World, afterwards}
 use Rattle.chip.specs.Call.{reset, attention, arrive, turn}
 use Rattle.chip.specs.Turn.{turnOf}
-use Rattle.traces.specs.Event.{Event, call, host, step, isTurn, isCalm}
-use Rattle.progress.specs.Machine.{bit}
-use Rattle.progress.specs.Holder.{run}
+use Rattle.progress.specs.Trace.{run, AllMay, turns}
+use Rattle.traces.specs.Event.{Event, call, host, step, isTurn, WhileHeld}
 
 -- ---- the held frame
 
@@ -44,15 +43,6 @@ isSettled f = isStored f || isCounter (counterOf f)
 
 -- ---- a trace
 
-abbrev pub turnsIn : List Event → ℕ
-turnsIn [] = 0
-turnsIn (e ∷ es) = bit (isTurn e) + turnsIn es
-
--- no attention or reset comes
-abbrev pub Calm : List Event → Type 0
-Calm [] = Unit {0}
-Calm (e ∷ es) = (isCalm e ≡ true) × Calm es
-
 -- what an event makes of a held frame: where no attention or reset comes, turns alone bring it to its end
 abbrev pub fateAt : Event → World → Fate
 fateAt (call reset) w = fate.Nothing
@@ -62,9 +52,9 @@ fateAt (call (turn report)) w = turnOf w report .outcome .fate
 fateAt (host m h out) w = fate.Nothing
 
 -- the frame f is held all along, and nothing is made of it
-abbrev pub Holds : Frame → List Event → World → Type 0
-Holds f [] w = frameIn w ≡ some f
-Holds f (e ∷ es) w = (frameIn w ≡ some f) × (fateAt e w ≡ fate.Nothing) × Holds f es (step e w)
+abbrev pub HeldAlong : Frame → List Event → World → Type 0
+HeldAlong f [] w = frameIn w ≡ some f
+HeldAlong f (e ∷ es) w = (frameIn w ≡ some f) × (fateAt e w ≡ fate.Nothing) × HeldAlong f es (step e w)
 
 -- ---- the statement
 
@@ -74,8 +64,8 @@ pub record Settled (n : ℕ) (f : Frame) (es : List Event) (w : World) : Type 0 
   pub report : ℕ
   pub after : List Event
   pub split : es ≡ before ++ (call (turn report) ∷ after)
-  pub soon : turnsIn before < n
-  pub holds : Holds f before w
+  pub soon : turns isTurn before < n
+  pub holds : HeldAlong f before w
   pub settled : isSettled (turnOf (run step before w) report .outcome .fate) ≡ true
   pub free : frameIn (afterwards (turnOf (run step before w) report)) ≡ none
 
@@ -83,4 +73,5 @@ pub record Settled (n : ℕ) (f : Frame) (es : List Event) (w : World) : Type 0 
 -- the host makes of memory, of its size and of both areas before each call
 abbrev pub Within : ℕ → Type 0
 Within n =
-    (w : World) (f : Frame) (es : List Event) → frameIn w ≡ some f → isToHold f ≡ true → Calm es → n ≤ turnsIn es → Settled n f es w
+    (w : World) (f : Frame) (es : List Event) → frameIn w ≡ some f → isToHold f ≡ true → AllMay WhileHeld step es w → n ≤ turns isTurn es
+    → Settled n f es w

@@ -103,11 +103,11 @@ module _ (base : RealAddress) (m₀ : List ℕ) (big : 8192 ≤ length m₀) whe
 
   -- L are the bytes of the whole list, and x the setup that it leaves: under the unit's own setup the bytes of the blocks to do are among L, and
   -- they leave x
-  module _ (May : Event → World → Type 0) (L : List ℕ) (x : Setup) where
+  module _ (L : List ℕ) (x : Setup) where
     Inv : List ℕ → Part → List ℕ → Type 0
     Inv bs p q = Stands base m₀ bs p q × Sub (listBytes base (p .setup) m₀ bs) L × (listSetup base (p .setup) m₀ bs ≡ x)
 
-    listing : Listing (machine May)
+    listing : Listing machine
     unfolding Inv
     listing =
         record {
@@ -144,60 +144,59 @@ start-todo (c ∷ cs) w st = rw (st .unit)
 start-rank : (bs : List ℕ) (w : World) → Started bs w → rank (w .device .units .cu) (length bs) ≡ 66 * length bs
 start-rank bs w st = rw (st .unit)
 
-module _ (May : Event → World → Type 0) where
-  -- the bytes of the list hold all that its commands read when they run alone
-  covers-list : (bs : List ℕ) (w : World) → 8192 ≤ length (w .memory)
-      → Stands (w .device .units .base) (w .memory) bs (partOf (w .device) (w .outgoing)) (w .memory)
-      → Covers (machine May) (bytesOf w bs) (partOf (w .device) (w .outgoing)) (w .memory)
-  unfolding listing Inv
-  covers-list bs w big st rs live act =
-      let base = w .device .units .base in
-      let p = partOf (w .device) (w .outgoing) in
-      let L = bytesOf w bs in
-      let o = ordered (machine May) (listing base (w .memory) big May L (setupLeft w bs)) rs bs p (w .memory) (st, sub-refl L, refl) live in
-      covers-at base (w .memory) big L (o .0) (part′ (machine May) rs p (w .memory)) (mem′ (machine May) rs p (w .memory))
-      (o .1 .0 .0) (o .1 .0 .1) act
+-- the bytes of the list hold all that its commands read when they run alone
+covers-list : (bs : List ℕ) (w : World) → 8192 ≤ length (w .memory)
+    → Stands (w .device .units .base) (w .memory) bs (partOf (w .device) (w .outgoing)) (w .memory)
+    → Covers machine (bytesOf w bs) (partOf (w .device) (w .outgoing)) (w .memory)
+unfolding listing Inv
+covers-list bs w big st rs live act =
+    let base = w .device .units .base in
+    let p = partOf (w .device) (w .outgoing) in
+    let L = bytesOf w bs in
+    let o = ordered machine (listing base (w .memory) big L (setupLeft w bs)) rs bs p (w .memory) (st, sub-refl L, refl) live in
+    covers-at base (w .memory) big L (o .0) (part′ machine rs p (w .memory)) (mem′ machine rs p (w .memory))
+    (o .1 .0 .0) (o .1 .0 .1) act
 
-  list-finished : Laws (machine May) → (bs : List ℕ) (es : List Event) (w : World) → Started bs w → (pr : Premises May bs es w)
-      → Finished (machine May) (listing (w .device .units .base) (w .memory) (pr .size) May (bytesOf w bs) (setupLeft w bs)) (bytesOf w bs) bs es w
-  unfolding listing Inv
-  list-finished laws bs es w st pr =
-      let h = stands-start bs w st (pr .apart) in
-      let L = bytesOf w bs in
-      finish (machine May) (listing (w .device .units .base) (w .memory) (pr .size) May L (setupLeft w bs)) laws L bs es w (h, sub-refl L, refl)
-      (covers-list bs w (pr .size) h) (pr .events) (pr .kept) (omega (arith, start-rank bs w st, pr .turns))
+list-finished : (May : Event → World → Type 0) → Laws machine May → (bs : List ℕ) (es : List Event) (w : World) → Started bs w → (pr : Premises May bs es w)
+    → Finished machine (listing (w .device .units .base) (w .memory) (pr .size) (bytesOf w bs) (setupLeft w bs)) (bytesOf w bs) bs es w
+unfolding listing Inv
+list-finished May laws bs es w st pr =
+    let h = stands-start bs w st (pr .apart) in
+    let L = bytesOf w bs in
+    finish machine (listing (w .device .units .base) (w .memory) (pr .size) L (setupLeft w bs)) May laws L bs es w (h, sub-refl L, refl)
+    (covers-list bs w (pr .size) h) (pr .events) (pr .kept) (omega (arith, start-rank bs w st, pr .turns))
 
-  -- Let a list of the blocks bs be started, the last the first that ends or suspends it; let no result be a byte of a later command; let the
-  -- events of a trace be such as may occur, and nothing write into the list, as it stands at the start, but each command's own results. Once
-  -- 132 times as many turns have come as there are blocks, all are done, once each, in list order, exactly as the command unit alone does them
-  -- on the memory at the start, and nothing else is begun. May is any choice of events under which the units keep to the laws of taking turns
-  pub listDone : Laws (machine May) → (bs : List ℕ) (es : List Event) (w : World) → Started bs w → Premises May bs es w → Done May bs es w
-  unfolding listing
-  listDone laws bs es w st pr =
-      let f = list-finished laws bs es w st pr in
-      record {
-        order = f .order ∙ start-todo bs w st;
-        notes = f .alone .notes;
-        part = f .alone .part;
-        bytes = f .alone .bytes;
-        stopped = f .stopped;
-      }
+-- Let a list of the blocks bs be started, the last the first that ends or suspends it; let no result be a byte of a later command; let the
+-- events of a trace be such as may occur, and nothing write into the list, as it stands at the start, but each command's own results. Once
+-- 132 times as many turns have come as there are blocks, all are done, once each, in list order, exactly as the command unit alone does them
+-- on the memory at the start, and nothing else is begun. May is any choice of events under which the units keep to the laws of taking turns
+pub listDone : (May : Event → World → Type 0) → Laws machine May → (bs : List ℕ) (es : List Event) (w : World) → Started bs w → Premises May bs es w → Done bs es w
+unfolding listing
+listDone May laws bs es w st pr =
+    let f = list-finished May laws bs es w st pr in
+    record {
+      order = f .order ∙ start-todo bs w st;
+      notes = f .alone .notes;
+      part = f .alone .part;
+      bytes = f .alone .bytes;
+      stopped = f .stopped;
+    }
 
-  -- and the setup that then stands is the one by which the bytes of the list are said, after its last command
-  pub setup-done : Laws (machine May) → (bs : List ℕ) (es : List Event) (w : World) → Started bs w → Premises May bs es w
-      → setupOf (run (machine May) es w .device) ≡ setupLeft w bs
-  unfolding listing Inv
-  setup-done laws bs es w st pr =
-      let f = list-finished laws bs es w st pr in
-      let base = w .device .units .base in
-      let m = w .memory in
-      let p = partOf (w .device) (w .outgoing) in
-      let rs = reports (machine May) es w in
-      let o =
-      ordered (machine May) (listing base m (pr .size) May (bytesOf w bs) (setupLeft w bs)) rs bs p m
-      (stands-start bs w st (pr .apart), sub-refl (bytesOf w bs), refl) (f .alone .live) in
-      let v : Part = part′ (machine May) rs p m in
-      let a : isActive (cuState (v .unit)) ≡ false = subst (λ (x : Part). isActive (cuState (x .unit)) ≡ false) (f .alone .part) (f .stopped) in
-      ap (λ (x : Part). x .setup) (f .alone .part)
-      ∙ sym (none-left base m (pr .size) (o .0) v (mem′ (machine May) rs p m) (o .1 .0 .0) a)
-      ∙ o .1 .0 .2
+-- and the setup that then stands is the one by which the bytes of the list are said, after its last command
+pub setup-done : (May : Event → World → Type 0) → Laws machine May → (bs : List ℕ) (es : List Event) (w : World) → Started bs w → Premises May bs es w
+    → setupOf (run step es w .device) ≡ setupLeft w bs
+unfolding listing Inv
+setup-done May laws bs es w st pr =
+    let f = list-finished May laws bs es w st pr in
+    let base = w .device .units .base in
+    let m = w .memory in
+    let p = partOf (w .device) (w .outgoing) in
+    let rs = reports machine es w in
+    let o =
+    ordered machine (listing base m (pr .size) (bytesOf w bs) (setupLeft w bs)) rs bs p m
+    (stands-start bs w st (pr .apart), sub-refl (bytesOf w bs), refl) (f .alone .live) in
+    let v : Part = part′ machine rs p m in
+    let a : isActive (cuState (v .unit)) ≡ false = subst (λ (x : Part). isActive (cuState (x .unit)) ≡ false) (f .alone .part) (f .stopped) in
+    ap (λ (x : Part). x .setup) (f .alone .part)
+    ∙ sym (none-left base m (pr .size) (o .0) v (mem′ machine rs p m) (o .1 .0 .0) a)
+    ∙ o .1 .0 .2
