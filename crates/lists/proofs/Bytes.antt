@@ -12,6 +12,7 @@ use Rattle.memory.proofs.Bytes.{bytes-nil}
 use Rattle.memory.proofs.Power.{allowed}
 use Rattle.scb.specs.Words.{cblAt}
 use Rattle.device.specs.declared.Device.{Device}
+use Rattle.command.specs.Part.{Part}
 use Rattle.control.specs.Obey.{ofScb}
 use Rattle.chip.specs.Call.{attention}
 use Rattle.chip.specs.Attention.{attentionOf}

@@ -13,8 +13,9 @@ use Rattle.device.specs.declared.Cu.the-variants as cu
 use Rattle.actions.specs.Setup.{Setup, setupOf}
 use Rattle.command.specs.Part.{Part, partOf}
 use Rattle.chip.specs.World.{World}
-use Rattle.traces.specs.Event.{Event}
-use Rattle.progress.specs.Machine.{Laws, Listing, Covers, eachOnce, run, reports, part′, mem′, Finished}
+use Rattle.traces.specs.Event.{Event, step}
+use Rattle.progress.specs.Machine.{Laws, Listing, Covers, eachOnce, reports, part′, mem′, Finished}
+use Rattle.progress.specs.Trace.{run}
 use Rattle.progress.proofs.Same.{Sub, in-left, same-refl}
 use Rattle.progress.proofs.Machine.{finish, ordered}
 use Rattle.lists.specs.Uses.{block, uses, setupAfter, listSetup, listBytes}
