@@ -2,8 +2,7 @@
 -- state in range is a premise of each statement here, `Closed`. Assumes nothing.
 use mathlib.Core.Path.{_≡_, refl, sym, ap, _∙_}
 use mathlib.Core.Bool.{Bool, true, false, not, _&&_, _||_, true≢false, false≢true}
-use mathlib.Core.List.{List, [], _∷_, _++_}
-use mathlib.Core.Option.{Option, none, some, Option·none-ne-some, Option·some-injective}
+use mathlib.Core.List.{List, [], _∷_, _++_, nil≢cons, head-eq-of-cons-eq}
 use Prim.Native.Nat.{ℕ, _≤_, _<_}
 use native.Mathlib.Omega.{arith}
 use borrow.Author.Tests.{eqb-true}
@@ -11,7 +10,7 @@ use lib.Dec.{eqb, leb, ltb, lit≤}
 use lib.ListN.{length}
 use Rattle.memory.proofs.Bytes.{Bytes}
 use Rattle.device.specs.Limits.{header, recordSize}
-use Rattle.device.specs.State.{isHolding}
+use Rattle.device.specs.State.{isHolding, heldIn}
 use Rattle.device.specs.declared.Device.{Device}
 use Rattle.device.specs.declared.Fate.{Fate}
 use Rattle.device.specs.declared.Frame.{Frame}
@@ -38,15 +37,15 @@ use Rattle.progress.specs.Holder.{Holder, Went, ended, goes, Stays, Mays}
 use Rattle.progress.specs.Holder.{run, Ends}
 use Rattle.progress.specs.Holder as ending
 use Rattle.closure.specs.Driven.{Lending, lending}
-use Rattle.held.specs.Held.{frameOf, frameIn, isToHold}
+use Rattle.held.specs.Held.{framesIn, isToHold}
 use Rattle.held.specs.Held as held
-use Rattle.held.specs.OnRecords.{unitsBy, unitsOf, frameKept, isAccepted, worldIn, keptAfter, stepKept, isTaken, fateBy, fateAt}
+use Rattle.held.specs.OnRecords.{unitsBy, unitsOf, framesKept, isAccepted, worldIn, keptAfter, stepKept, isTaken, fatesBy, fatesAt}
 use Rattle.held.specs.OnRecords.{turnsIn, frameBytes, AreBytes, Fair, AllFair, Holds, Settled, Within}
 use Rattle.progress.proofs.Holder.{ends-within}
-use Rattle.held.proofs.Service.{leftOf, left-positive, left-most, isFate}
+use Rattle.held.proofs.Service.{leftOf, left-positive, left-most}
 use Rattle.held.proofs.Turn.{isReceiving}
 use Rattle.held.proofs.Held as states
-use Rattle.held.proofs.Held.{Note, notes, a-note, no-note, nothing, holder, holding}
+use Rattle.held.proofs.Held.{Note, notes, a-note, no-note, holder, holding}
 
 -- ---- what an accepted call does
 
@@ -103,25 +102,25 @@ frame-to-hold : (f : Frame) → frameFits f ≡ true → isToHold f ≡ true
 unfolding frameFits
 frame-to-hold f e = both (sized (f .length)) (isToHold f) e .1
 
-unit-to-hold : (u : Ru) (f : Frame) → ruFits u ≡ true → frameOf u ≡ some f → isToHold f ≡ true
+unit-to-hold : (u : Ru) (f : Frame) → ruFits u ≡ true → heldIn u ≡ f ∷ [] → isToHold f ≡ true
 unfolding ruFits
-unit-to-hold ru.Idle f e h = absurd (Option·none-ne-some f h)
-unit-to-hold ru.NoResources f e h = absurd (Option·none-ne-some f h)
-unit-to-hold (ru.Suspended o) f e h = absurd (Option·none-ne-some f h)
-unit-to-hold (ru.Ready o) f e h = absurd (Option·none-ne-some f h)
-unit-to-hold (ru.Held o g p) f e h = rw (← Option·some-injective g f h) (frame-to-hold g e)
+unit-to-hold ru.Idle f e h = absurd (nil≢cons h)
+unit-to-hold ru.NoResources f e h = absurd (nil≢cons h)
+unit-to-hold (ru.Suspended o) f e h = absurd (nil≢cons h)
+unit-to-hold (ru.Ready o) f e h = absurd (nil≢cons h)
+unit-to-hold (ru.Held o g p) f e h = rw (← head-eq-of-cons-eq h) (frame-to-hold g e)
 unit-to-hold (ru.Filling s w) f e h =
     let g = frameFits (s .frame) in
     let x = both (g && hasNext w && leb header (w .filled)) (ltb (w .filled) (s .frame .length)) e .0 in
     let y = both g (hasNext w) (both (g && hasNext w) (leb header (w .filled)) x .0) .0 in
-    rw (← Option·some-injective (s .frame) f h) (frame-to-hold (s .frame) y)
+    rw (← head-eq-of-cons-eq h) (frame-to-hold (s .frame) y)
 unit-to-hold (ru.Closing s o full) f e h =
-    rw (← Option·some-injective (s .frame) f h)
+    rw (← head-eq-of-cons-eq h)
     (frame-to-hold (s .frame) (both (frameFits (s .frame)) (ltb header (s .frame .length) || not full) e .0))
 unit-to-hold (ru.Lacking s) f e h =
-    rw (← Option·some-injective (s .frame) f h) (frame-to-hold (s .frame) (both (frameFits (s .frame)) (ltb header (s .frame .length)) e .0))
+    rw (← head-eq-of-cons-eq h) (frame-to-hold (s .frame) (both (frameFits (s .frame)) (ltb header (s .frame .length)) e .0))
 
-to-hold : (d : Device) (f : Frame) → inRange d ≡ true → frameOf (d .units .ru) ≡ some f → isToHold f ≡ true
+to-hold : (d : Device) (f : Frame) → inRange d ≡ true → heldIn (d .units .ru) ≡ f ∷ [] → isToHold f ≡ true
 unfolding inRange unitsFit
 to-hold d f e h =
     let u = d .units in
@@ -167,30 +166,32 @@ keeper =
       last = λ r. unitsOf r .rulast;
       left = λ r. leftOf (unitsOf r .ru);
       O = Note;
-      ends = λ l r. notes (fateAt l) (frameKept r);
-      F = Option Frame;
-      frame = frameKept;
-      of = λ n. n .frame;
+      ends = λ l r. notes (fatesAt l) (framesKept r);
+      F = List Frame;
+      frame = framesKept;
+      of = λ n. n .frames;
     }
 
 -- a call on a record beside an event on a world
 record Beside (l : Lending) (r : List ℕ) (w : World) : Type 0 where
   now : unitsOf r ≡ w .device .units
   then : unitsOf (stepKept l r) ≡ step (call (l .made)) w .device .units
-  fate : fateAt l ≡ held.fateAt (call (l .made)) w
+  fates : fatesAt l ≡ held.fatesAt (call (l .made)) w
 
 beside : Closed → (l : Lending) (r : List ℕ) → Fair l r → isAccepted l ≡ true → Beside l r (worldIn (l .lent))
 beside k l r h e =
     record {
       now = ap unitsOf (sym (h .kept e)) ∙ sym (units-in (l .lent));
       then = units-after k l r h e;
-      fate = ap (λ (x : Bool). fateBy x (l .made) (worldIn (l .lent))) e;
+      fates = ap (λ (x : Bool). fatesBy x (l .made) (worldIn (l .lent))) e;
     }
 
 module _ {l : Lending} {r : List ℕ} {w : World} (b : Beside l r w) where
   -- what is noted, and any fact of the units, now and then
-  noted : notes (fateAt l) (frameKept r) ≡ notes (held.fateAt (call (l .made)) w) (frameIn w)
-  noted = ap (λ (φ : Fate). notes φ (frameKept r)) (b .fate) ∙ ap (λ (u : Units). notes (held.fateAt (call (l .made)) w) (frameOf (u .ru))) (b .now)
+  noted : notes (fatesAt l) (framesKept r) ≡ notes (held.fatesAt (call (l .made)) w) (framesIn w)
+  noted =
+      ap (λ (φs : List Fate). notes φs (framesKept r)) (b .fates)
+      ∙ ap (λ (u : Units). notes (held.fatesAt (call (l .made)) w) (heldIn (u .ru))) (b .now)
 
   at-now : {X : Type 0} (f : Units → X) → f (unitsOf r) ≡ f (w .device .units)
   at-now f = ap f (b .now)
@@ -199,9 +200,9 @@ module _ {l : Lending} {r : List ℕ} {w : World} (b : Beside l r w) where
   at-then f = ap f (b .then)
 
   went : Went holder (call (l .made)) w → Went keeper l r
-  went (ended o e f) = ended o (noted ∙ e) (f ∙ sym (at-now (λ u. frameOf (u .ru))))
+  went (ended o e f) = ended o (noted ∙ e) (f ∙ sym (at-now (λ u. heldIn (u .ru))))
   went (goes z h f d t) =
-      goes (noted ∙ z) (at-then (λ u. isHolding (u .ru)) ∙ h) (at-then (λ u. frameOf (u .ru)) ∙ f ∙ sym (at-now (λ u. frameOf (u .ru))))
+      goes (noted ∙ z) (at-then (λ u. isHolding (u .ru)) ∙ h) (at-then (λ u. heldIn (u .ru)) ∙ f ∙ sym (at-now (λ u. heldIn (u .ru))))
       (omega (arith, d, at-then (λ u. leftOf (u .ru)), at-now (λ u. leftOf (u .ru)))) (at-then (λ u. u .rulast) ∙ t)
 
   stays : Stays holder (call (l .made)) w → Stays keeper l r
@@ -209,7 +210,7 @@ module _ {l : Lending} {r : List ℕ} {w : World} (b : Beside l r w) where
       record {
         none = noted ∙ s .none;
         holds = at-then (λ u. isHolding (u .ru)) ∙ s .holds;
-        same = at-then (λ u. frameOf (u .ru)) ∙ s .same ∙ sym (at-now (λ u. frameOf (u .ru)));
+        same = at-then (λ u. heldIn (u .ru)) ∙ s .same ∙ sym (at-now (λ u. heldIn (u .ru)));
         count = at-then (λ u. leftOf (u .ru)) ∙ s .count ∙ sym (at-now (λ u. leftOf (u .ru)));
       }
 
@@ -226,9 +227,9 @@ refused-stays l r e h =
     let c = called (l .made) (l .lent) in
     let same : stepKept l r ≡ r = ap (λ (x : Bool). keptAfter x c r) e in (
       record {
-        none = ap (λ (x : Bool). notes (fateBy x (l .made) (worldIn (l .lent))) (frameKept r)) e;
+        none = ap (λ (x : Bool). notes (fatesBy x (l .made) (worldIn (l .lent))) (framesKept r)) e;
         holds = ap (λ (q : List ℕ). isHolding (unitsOf q .ru)) same ∙ h;
-        same = ap frameKept same;
+        same = ap framesKept same;
         count = ap (λ (q : List ℕ). leftOf (unitsOf q .ru)) same;
       },
       ap (λ (q : List ℕ). unitsOf q .rulast) same,
@@ -284,30 +285,30 @@ fair-at : (before : List Lending) (l : Lending) (after : List Lending) (r : List
 fair-at [] l after r y = y .0
 fair-at (b ∷ bs) l after r y = fair-at bs l after (stepKept b r) (y .1)
 
-all-along : (f : Frame) (ls : List Lending) (r : List ℕ) → ending.Holds keeper (some f) ls r → Holds f ls r
+all-along : (f : Frame) (ls : List Lending) (r : List ℕ) → ending.Holds keeper (f ∷ []) ls r → Holds f ls r
 all-along f [] r h = h .1
-all-along f (l ∷ ls) r h = (h .0 .1, nothing (fateAt l) (no-note (fateAt l) (frameKept r) (h .1)), all-along f ls (stepKept l r) (h .2))
+all-along f (l ∷ ls) r h = (h .0 .1, no-note (fatesAt l) (framesKept r) (h .1), all-along f ls (stepKept l r) (h .2))
 
-pub kept-last : (f : Frame) (ls : List Lending) (r : List ℕ) → Holds f ls r → frameKept (run stepKept ls r) ≡ some f
+pub kept-last : (f : Frame) (ls : List Lending) (r : List ℕ) → Holds f ls r → framesKept (run stepKept ls r) ≡ f ∷ []
 kept-last f [] r h = h
 kept-last f (l ∷ ls) r h = kept-last f ls (stepKept l r) (h .2)
 
 settle : Closed → (n : ℕ) (f : Frame) (ls : List Lending) (r : List ℕ) (before : List Lending) (c : Call) (a : Areas) (after : List Lending)
     → AllFair ls r → ls ≡ before ++ (lending c a ∷ after) → turnsIn before < n → Holds f before r
-    → isAccepted (lending c a) ≡ true → isTurn (call c) ≡ true → isFate (fateAt (lending c a)) ≡ true → Settled n f ls r
-settle k n f ls r before reset a after y s l h e i φ = absurd (false≢true i)
-settle k n f ls r before attention a after y s l h e i φ = absurd (false≢true i)
-settle k n f ls r before (arrive g v) a after y s l h e i φ = absurd (false≢true i)
-settle k n f ls r before (turn report) a after y s l h e i φ =
+    → isAccepted (lending c a) ≡ true → isTurn (call c) ≡ true → (φ : Fate) → fatesAt (lending c a) ≡ φ ∷ [] → Settled n f ls r
+settle k n f ls r before reset a after y s l h e i φ g = absurd (false≢true i)
+settle k n f ls r before attention a after y s l h e i φ g = absurd (false≢true i)
+settle k n f ls r before (arrive x v) a after y s l h e i φ g = absurd (false≢true i)
+settle k n f ls r before (turn report) a after y s l h e i φ g =
     let x = lending (turn report) a in
     let y′ : Fair x (run stepKept before r) = fair-at before x after r (rw s at y) in
     let b = y′ .bytes e in
     let t = taken (turn report) a (not-refused (isRefused (turnCall a report)) e) refl in
     let m = image x b (t .decoded) in
-    let now : frameIn (worldIn a) ≡ some f =
-    ap (λ (u : Units). frameOf (u .ru)) (units-in a) ∙ ap frameKept (y′ .kept e) ∙ kept-last f before r h in
-    let z = states.end-turn (worldIn a) report f now (to-hold (worldIn a .device) f (m .range) now)
-    (sym (ap (λ (q : Bool). isFate (fateBy q (turn report) (worldIn a))) e) ∙ φ) in
+    let now : framesIn (worldIn a) ≡ f ∷ [] =
+    ap (λ (u : Units). heldIn (u .ru)) (units-in a) ∙ ap framesKept (y′ .kept e) ∙ kept-last f before r h in
+    let given : turnOf (worldIn a) report .outcome .fates ≡ φ ∷ [] = sym (ap (λ (q : Bool). fatesBy q (turn report) (worldIn a)) e) ∙ g in
+    let z = states.end-turn (worldIn a) report f φ now (to-hold (worldIn a .device) f (m .range) now) given in
     record {
       before = before;
       report = report;
@@ -319,17 +320,19 @@ settle k n f ls r before (turn report) a after y s l h e i φ =
       accepted = e;
       kept = y′ .kept e;
       leaves = t .leaves;
+      fate = φ;
+      given = given;
       settled = z .0;
-      free = ap (λ (u : Units). frameOf (u .ru)) (units-left k x e b refl) ∙ z .1;
+      free = ap (λ (u : Units). heldIn (u .ru)) (units-left k x e b refl) ∙ z .1;
     }
 
-settled : Closed → (n : ℕ) (f : Frame) (ls : List Lending) (r : List ℕ) → AllFair ls r → Ends keeper n (some f) ls r → Settled n f ls r
+settled : Closed → (n : ℕ) (f : Frame) (ls : List Lending) (r : List ℕ) → AllFair ls r → Ends keeper n (f ∷ []) ls r → Settled n f ls r
 settled k n f ls r y s =
     let l = s .event in
     let b = both (isAccepted l) (isTurn (call (l .made))) (s .turned) in
     settle k n f ls r (s .before) (l .made) (l .lent) (s .after) y (s .split) (rw (turns-in (s .before) r) at (s .soon))
     (all-along f (s .before) r (s .holds)) (b .0) (b .1)
-    (a-note (fateAt l) (frameKept (run stepKept (s .before) r)) (s .note) (s .noted))
+    (s .note .fate) (a-note (fatesAt l) (framesKept (run stepKept (s .before) r)) (s .note) (s .noted))
 
 -- twice the services that a held frame can take are enough
 pub within : Closed → (n : ℕ) → 132 ≤ n → Within n

@@ -2,12 +2,10 @@
 use mathlib.Core.Path.{_≡_}
 use mathlib.Core.Bool.{Bool, true, false, not, _&&_}
 use mathlib.Core.List.{List, [], _∷_, _++_}
-use mathlib.Core.Option.{Option, none, some}
 use Prim.Native.Nat.{ℕ, _+_, _≤_, _<_}
 use Rattle.memory.proofs.Bytes.{Bytes}
-use Rattle.device.specs.State.{freshUnits}
+use Rattle.device.specs.State.{heldIn, freshUnits}
 use Rattle.device.specs.declared.Fate.{Fate}
-use Rattle.device.specs.declared.Fate.the-variants as fate
 use Rattle.device.specs.declared.Frame.{Frame}
 use Rattle.device.specs.declared.Units.{Units}
 use Rattle.image.specs.Image.{decodeOf, deviceAt}
@@ -22,7 +20,7 @@ use Rattle.traces.specs.Bytes.{called, isRefused}
 use Rattle.closure.specs.Driven.{Lending, lending}
 use Rattle.progress.specs.Machine.{bit}
 use Rattle.progress.specs.Holder.{run}
-use Rattle.held.specs.Held.{frameOf, isSettled}
+use Rattle.held.specs.Held.{isSettled}
 use Rattle.held.specs.Held as held
 
 -- ---- a record
@@ -35,9 +33,9 @@ unitsBy is.Foreign = freshUnits
 abbrev pub unitsOf : List ℕ → Units
 unitsOf r = unitsBy (decodeOf r)
 
--- the frame that it holds
-abbrev pub frameKept : List ℕ → Option Frame
-frameKept r = frameOf (unitsOf r .ru)
+-- the frames that it holds
+abbrev pub framesKept : List ℕ → List Frame
+framesKept r = heldIn (unitsOf r .ru)
 
 -- ---- a call and the areas that it is lent
 
@@ -60,13 +58,13 @@ stepKept l r = keptAfter (isAccepted l) (called (l .made) (l .lent)) r
 abbrev pub isTaken : Lending → Bool
 isTaken l = isAccepted l && isTurn (call (l .made))
 
--- what a call makes of a held frame
-abbrev pub fateBy : (accepted : Bool) → Call → World → Fate
-fateBy true c w = held.fateAt (call c) w
-fateBy false c w = fate.Nothing
+-- what a call makes of held frames
+abbrev pub fatesBy : (accepted : Bool) → Call → World → List Fate
+fatesBy true c w = held.fatesAt (call c) w
+fatesBy false c w = []
 
-abbrev pub fateAt : Lending → Fate
-fateAt l = fateBy (isAccepted l) (l .made) (worldIn (l .lent))
+abbrev pub fatesAt : Lending → List Fate
+fatesAt l = fatesBy (isAccepted l) (l .made) (worldIn (l .lent))
 
 -- ---- a trace
 
@@ -102,8 +100,8 @@ AllFair (l ∷ ls) r = Fair l r × AllFair ls (stepKept l r)
 
 -- the frame f is held in the record all along, and nothing is made of it
 abbrev pub Holds : Frame → List Lending → List ℕ → Type 0
-Holds f [] r = frameKept r ≡ some f
-Holds f (l ∷ ls) r = (frameKept r ≡ some f) × (fateAt l ≡ fate.Nothing) × Holds f ls (stepKept l r)
+Holds f [] r = framesKept r ≡ f ∷ []
+Holds f (l ∷ ls) r = (framesKept r ≡ f ∷ []) × (fatesAt l ≡ []) × Holds f ls (stepKept l r)
 
 -- ---- the statement
 
@@ -120,9 +118,11 @@ pub record Settled (n : ℕ) (f : Frame) (ls : List Lending) (r : List ℕ) : Ty
   pub accepted : isAccepted (lending (turn report) areas) ≡ true
   pub kept : areas .kept ≡ run stepKept before r
   pub leaves : turnCall areas report ≡ onBytes (turnOf (worldIn areas) report)
-  pub settled : isSettled (turnOf (worldIn areas) report .outcome .fate) ≡ true
-  pub free : frameKept (turnCall areas report .areas .kept) ≡ none
+  pub fate : Fate
+  pub given : turnOf (worldIn areas) report .outcome .fates ≡ fate ∷ []
+  pub settled : isSettled fate ≡ true
+  pub free : framesKept (turnCall areas report .areas .kept) ≡ []
 
 -- the frame that a record holds is stored or counted within n turns that are not refused, if the record is kept and no attention or reset comes
 abbrev pub Within : ℕ → Type 0
-Within n = (r : List ℕ) (f : Frame) (ls : List Lending) → frameKept r ≡ some f → AllFair ls r → n ≤ turnsIn ls → Settled n f ls r
+Within n = (r : List ℕ) (f : Frame) (ls : List Lending) → framesKept r ≡ f ∷ [] → AllFair ls r → n ≤ turnsIn ls → Settled n f ls r

@@ -1,14 +1,13 @@
 -- Demand 3, second half, where the host also drives the chip by runs of turns: a run is as many turns as its answer says. Assumes nothing.
 use mathlib.Core.Path.{_≡_}
 use mathlib.Core.List.{List, [], _∷_}
-use mathlib.Core.Option.{some}
 use Prim.Native.Nat.{ℕ, zero, suc, _+_, _≤_}
 use Rattle.device.specs.declared.Frame.{Frame}
 use Rattle.chip.specs.Call.{turn}
 use Rattle.calls.specs.Calls.{Areas, runCall}
 use Rattle.closure.specs.Driven.{lending, Drive, calls, runs, takenIn, unrolled}
 use Rattle.progress.specs.Machine.{bit}
-use Rattle.held.specs.OnRecords.{frameKept, stepKept, isTaken, Fair, Settled}
+use Rattle.held.specs.OnRecords.{framesKept, stepKept, isTaken, Fair, Settled}
 
 -- the record that the host keeps: a run that took no turn leaves it, as a refused call does
 abbrev pub keptBy : (taken : ℕ) → (before after : List ℕ) → List ℕ
@@ -44,4 +43,4 @@ AllDrive (d ∷ ds) r = DriveFair d r × AllDrive ds (keptOne d r)
 -- the frame that a record holds is stored or counted within n turns, taken in calls or in runs
 abbrev pub Within : ℕ → Type 0
 Within n =
-    (r : List ℕ) (f : Frame) (ds : List Drive) → frameKept r ≡ some f → AllDrive ds r → n ≤ turnsDriven ds → Settled n f (unrolled ds) r
+    (r : List ℕ) (f : Frame) (ds : List Drive) → framesKept r ≡ f ∷ [] → AllDrive ds r → n ≤ turnsDriven ds → Settled n f (unrolled ds) r
