@@ -29,9 +29,10 @@ use Rattle.chip.specs.Call.{Call, reset, attention, arrive, turn, ran}
 use Rattle.calls.specs.Calls.{Areas, Called, answerNumber, isImage, refusalOf, onBytes, calledBy, attentionCall, arrivalCall, turnCall, resetCall}
 use Rattle.calls.proofs.Laws.{accepted}
 use Rattle.traces.specs.Bytes.{called, number, sentLength, edge, isRefused}
-use Rattle.closure.specs.Sound.{Sound, Lent, Fit}
-use Rattle.closure.specs.Refusals.{TakesAll, AreasRight, Holds, RecordRight, When}
-use Rattle.closure.specs.Carried.{AsLong, worldIn, Carried, Again, Parts}
+use Rattle.closure.specs.Sound.{Sound}
+use Rattle.traces.specs.Areas.{FrameBytes, AreBytes, Holds, worldIn}
+use Rattle.closure.specs.Refusals.{TakesAll, AreasRight, RecordRight, When}
+use Rattle.closure.specs.Carried.{AsLong, Carried, Again, Parts}
 use Rattle.closure.proofs.Closed.{closed, reset-closed}
 use Rattle.closure.proofs.Lengths.{lengths-kept}
 use Rattle.closure.proofs.Answers.{number-accepted, sent-most}
@@ -72,7 +73,7 @@ holds-bytes r d h = rw (h .image) (image-bytes d (h .wide))
 image-holds : (w : World) → Sound w → Holds (imageOf (w .device)) (w .device)
 image-holds w s = record { wide = s .wide; range = s .range; image = refl }
 
-lent-sound : (a : Areas) (d : Device) → Lent a → Holds (a .kept) d → Sound (worldIn d a)
+lent-sound : (a : Areas) (d : Device) → AreBytes a → Holds (a .kept) d → Sound (worldIn d a)
 lent-sound a d l h = record { range = h .range; wide = h .wide; memory = l .memory; holding = l .holding; outgoing = l .outgoing }
 
 -- ---- a call that is not refused
@@ -118,19 +119,19 @@ carried-by c d a g e =
     }
 
 -- where the record holds the state d the call does what it does on d, and the record left holds the state left
-pub carry : (c : Call) (a : Areas) (d : Device) → Fit c → Lent a → Holds (a .kept) d → isRefused (called c a) ≡ false → Carried c d a
+pub carry : (c : Call) (a : Areas) (d : Device) → FrameBytes c → AreBytes a → Holds (a .kept) d → isRefused (called c a) ≡ false → Carried c d a
 carry c a d f l h e =
     carried-by c d a (closed c (worldIn d a) f (lent-sound a d l h)) (called-same c a d h (not-refused c a (l .kept) e))
 
 -- reset ignores the record's content: it does what it does on any state
-pub carry-reset : (a : Areas) (d : Device) → Lent a → isRefused (called reset a) ≡ false → Carried reset d a
+pub carry-reset : (a : Areas) (d : Device) → AreBytes a → isRefused (called reset a) ≡ false → Carried reset d a
 carry-reset a d l e =
     carried-by reset d a (reset-closed (worldIn d a) (l .memory) (l .holding) (l .outgoing))
     (reset-same d a (not-refused reset a (l .kept) e .1 .0))
 
 -- ---- every call that is not refused leaves a record that is accepted again
 
-pub accepted-again : (c : Call) (a : Areas) → Fit c → Lent a → isRefused (called c a) ≡ false → Again c a
+pub accepted-again : (c : Call) (a : Areas) → FrameBytes c → AreBytes a → isRefused (called c a) ≡ false → Again c a
 accepted-again reset a f l e = record { device = fresh; held = tt; carried = carry-reset a fresh l e }
 accepted-again attention a f l e =
     let h = not-refused attention a (l .kept) e .3 in
@@ -149,7 +150,7 @@ record-right attention a d h = (d, h)
 record-right (arrive f v) a d h = (d, h)
 record-right (turn report) a d h = (d, h)
 
-pub never-foreign : (c : Call) (a : Areas) → Fit c → Lent a → isRefused (called c a) ≡ false
+pub never-foreign : (c : Call) (a : Areas) → FrameBytes c → AreBytes a → isRefused (called c a) ≡ false
     → (next : Call) (b : Areas) → b .kept ≡ called c a .areas .kept → number (called next b .answer) ≡ 4 → ⊥
 never-foreign c a f l e next b k n =
     let g = accepted-again c a f l e in
@@ -159,29 +160,29 @@ never-foreign c a f l e next b k n =
 
 -- ---- all elements of the four areas stay bytes, and the areas keep their lengths, refused or not
 
-again-sound : (c : Call) (a : Areas) → Fit c → Lent a → (d : Device) → TakesAll c (Holds (a .kept) d) → Sound (afterwards (ran c (worldIn d a)))
+again-sound : (c : Call) (a : Areas) → FrameBytes c → AreBytes a → (d : Device) → TakesAll c (Holds (a .kept) d) → Sound (afterwards (ran c (worldIn d a)))
 again-sound reset a f l d h = reset-closed (worldIn d a) (l .memory) (l .holding) (l .outgoing)
 again-sound attention a f l d h = closed attention (worldIn d a) f (lent-sound a d l h)
 again-sound (arrive x v) a f l d h = closed (arrive x v) (worldIn d a) f (lent-sound a d l h)
 again-sound (turn report) a f l d h = closed (turn report) (worldIn d a) f (lent-sound a d l h)
 
-kept-lent : (r : Ran) → Sound (afterwards r) → Lent (onBytes r .areas)
+kept-lent : (r : Ran) → Sound (afterwards r) → AreBytes (onBytes r .areas)
 kept-lent r s =
     record { memory = s .memory; holding = s .holding; outgoing = s .outgoing; kept = image-bytes (r .outcome .device) (s .wide) }
 
-lent-by : (x : Bool) (c : Call) (a : Areas) → isRefused (called c a) ≡ x → Fit c → Lent a → Lent (called c a .areas)
+lent-by : (x : Bool) (c : Call) (a : Areas) → isRefused (called c a) ≡ x → FrameBytes c → AreBytes a → AreBytes (called c a .areas)
 lent-by true c a e f l = rw (untouched c a e .areas) l
 lent-by false c a e f l =
     let g = accepted-again c a f l e in
     rw (g .carried .same) (kept-lent (ran c (worldIn (g .device) a)) (again-sound c a f l (g .device) (g .held)))
 
-pub lent-kept : (c : Call) (a : Areas) → Fit c → Lent a → Lent (called c a .areas)
+pub lent-kept : (c : Call) (a : Areas) → FrameBytes c → AreBytes a → AreBytes (called c a .areas)
 lent-kept c a f l = lent-by (isRefused (called c a)) c a refl f l
 
 length-kept : (c : Call) (a : Areas) → Bytes (a .kept) → isRefused (called c a) ≡ false → length (a .kept) ≡ 256
 length-kept c a k e = not-refused c a k e .1 .0
 
-long-by : (x : Bool) (c : Call) (a : Areas) → isRefused (called c a) ≡ x → Fit c → Lent a → AsLong a (called c a .areas)
+long-by : (x : Bool) (c : Call) (a : Areas) → isRefused (called c a) ≡ x → FrameBytes c → AreBytes a → AsLong a (called c a .areas)
 long-by true c a e f l = rw (untouched c a e .areas) (record { memory = refl; holding = refl; outgoing = refl; kept = refl })
 long-by false c a e f l =
     let g = accepted-again c a f l e in
@@ -195,12 +196,12 @@ long-by false c a e f l =
       kept = k;
     }
 
-pub areas-as-long : (c : Call) (a : Areas) → Fit c → Lent a → AsLong a (called c a .areas)
+pub areas-as-long : (c : Call) (a : Areas) → FrameBytes c → AreBytes a → AsLong a (called c a .areas)
 areas-as-long c a f l = long-by (isRefused (called c a)) c a refl f l
 
 -- ---- the answer of a call that is not refused, taken apart: number 0, the length and the edge of the call on the state
 
-pub answer-parts : (c : Call) (a : Areas) (d : Device) → Lent a → Holds (a .kept) d → isRefused (called c a) ≡ false
+pub answer-parts : (c : Call) (a : Areas) (d : Device) → AreBytes a → Holds (a .kept) d → isRefused (called c a) ≡ false
     → Parts (called c a .answer) (ran c (worldIn d a) .outcome .answer)
 answer-parts c a d l h e =
     let x = ran c (worldIn d a) .outcome .answer in

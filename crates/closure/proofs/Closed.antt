@@ -32,7 +32,8 @@ use Rattle.chip.specs.Turn.{servedBy, raisedIn, statusBy, written, concluded, c
 use Rattle.chip.specs.Call.{Call, reset, attention, arrive, turn, ran}
 use Rattle.image.specs.Ranges.{inRange, Wide}
 use Rattle.image.proofs.Exact.{fresh-range, fresh-wide, one-fresh}
-use Rattle.closure.specs.Sound.{Sound, Fit}
+use Rattle.traces.specs.Areas.{FrameBytes}
+use Rattle.closure.specs.Sound.{Sound}
 use Rattle.closure.proofs.Units.{CuGood, RuGood}
 use Rattle.closure.proofs.Command.{SetupGood, command-good, ServiceGood as CommandGood}
 use Rattle.closure.proofs.Receive.{arrival-good, area-bytes, counts-bytes, idle-stays, receive-good, ServiceGood as ReceiveGood}
@@ -211,7 +212,7 @@ turn-closed-at false d m h out report i s =
 
 -- ---- every state that a call leaves is in range, from any state in range, on any memory, holding area and outgoing area of bytes
 
-pub closed : (c : Call) (w : World) → Fit c → Sound w → Sound (afterwards (ran c w))
+pub closed : (c : Call) (w : World) → FrameBytes c → Sound w → Sound (afterwards (ran c w))
 closed reset w f s = reset-closed w (s .memory) (s .holding) (s .outgoing)
 closed attention w f s = attention-closed w s
 closed (arrive x v) w f s = arrival-closed w x v f s

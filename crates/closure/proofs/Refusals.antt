@@ -31,7 +31,8 @@ use Rattle.chip.specs.Call.{Call, reset, attention, arrive, turn}
 use Rattle.calls.specs.Calls.{Areas, Called, answerNumber, areasRight, refusalOf, refusedAnswer, refused, onBytes, calledOn, calledBy, attentionCall, arrivalCall, turnCall, renewed, resetCall}
 use Rattle.calls.proofs.Laws.{bad-size, bad-area, too-long, no-image, accepted}
 use Rattle.traces.specs.Bytes.{renewedIn, called, number, sentLength, edge, isRefused}
-use Rattle.closure.specs.Refusals.{SizeRight, AreasRight, LengthsRight, FrameRight, Holds, RecordRight, Lowest, When, Untouched}
+use Rattle.traces.specs.Areas.{Holds}
+use Rattle.closure.specs.Refusals.{SizeRight, AreasRight, LengthsRight, FrameRight, RecordRight, Lowest, When, Untouched}
 use Rattle.closure.proofs.Answers.{number-accepted}
 
 -- ---- an answer taken apart gives back its number, its length and its edge

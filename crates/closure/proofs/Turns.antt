@@ -10,7 +10,7 @@ use borrow.Author.Tests.{eq-eqb}
 use lib.Dec.{eqb}
 use lib.ListN.{length}
 use Rattle.memory.specs.Size.{Allowed}
-use Rattle.memory.proofs.Bytes.{Bytes}
+use Rattle.memory.proofs.Bytes.{Bytes, bytes-nil}
 use Rattle.memory.proofs.Power.{size-allowed}
 use Rattle.scb.specs.Words.{one}
 use Rattle.device.specs.Answers.{answered}
@@ -32,12 +32,12 @@ use Rattle.chip.proofs.Run.{Cause, going-quiet, sent-stops, edge-stops, stops-c
 use Rattle.chip.proofs.Run as cause
 use Rattle.calls.specs.Calls.{Areas, areasOf, Called, answerNumber, refusalOf, onBytes, decodedOn, unlessRefused, calledOn, calledBy, runOnBytes, turnCall, runCall}
 use Rattle.calls.proofs.Laws as laws
-use Rattle.traces.specs.Bytes.{number, edge, isRefused}
-use Rattle.closure.specs.Sound.{Sound, Lent}
-use Rattle.closure.specs.Refusals.{Holds, AreasRight, Untouched, When}
-use Rattle.closure.specs.Carried.{worldIn, Parts}
-use Rattle.closure.specs.Runs.{Shows}
-use Rattle.closure.specs.Turns.{turnsOn, lastAnswer, turnsTaken, withoutTurns, Ends, sent, edged, workless, AsTurns}
+use Rattle.traces.specs.Bytes.{number, edge, isRefused, turnsTaken, withoutTurns}
+use Rattle.closure.specs.Sound.{Sound}
+use Rattle.traces.specs.Areas.{AreBytes, Holds, worldIn, Shows}
+use Rattle.closure.specs.Refusals.{AreasRight, Untouched, When}
+use Rattle.closure.specs.Carried.{Parts}
+use Rattle.closure.specs.Turns.{turnsOn, lastAnswer, Ends, sent, edged, workless, AsTurns}
 use Rattle.closure.proofs.Closed.{closed}
 use Rattle.closure.proofs.Answers.{number-accepted, sent-most}
 use Rattle.closure.proofs.Refusals.{refusal-below, told-number, right-lengths, table, untouched}
@@ -70,7 +70,7 @@ unfolding runOf
 run-length zero w report s = omega arith
 run-length (suc n) w report s =
     length-by (stopsAt w report) (turnOf w report) (runOf n (afterwards (turnOf w report)) report) (sent-most (turn report) w s)
-    (run-length n (afterwards (turnOf w report)) report (closed (turn report) w tt s))
+    (run-length n (afterwards (turnOf w report)) report (closed (turn report) w bytes-nil s))
 
 -- ---- the answer as one number, taken apart
 
@@ -154,7 +154,7 @@ run-untouched a report budget r =
 shown-areas : (a : Areas) (w : World) → Shows a w → areasOf (w .memory) (w .holding) (w .outgoing) (imageOf (w .device)) ≡ a
 shown-areas a w s = rw (← s .memory, ← s .holding, ← s .outgoing, ← s .kept .image)
 
-shown-sound : (a : Areas) (w : World) → Lent a → Shows a w → Sound w
+shown-sound : (a : Areas) (w : World) → AreBytes a → Shows a w → Sound w
 shown-sound a w l s =
     record {
       range = s .kept .range;
@@ -165,13 +165,13 @@ shown-sound a w l s =
     }
 
 -- the next turn is not refused either
-next-accepted : (a : Areas) (w : World) (report : ℕ) → Lent a → Shows a w → isRefused (turnCall a report) ≡ false
+next-accepted : (a : Areas) (w : World) (report : ℕ) → AreBytes a → Shows a w → isRefused (turnCall a report) ≡ false
     → isRefused (turnCall (turnCall a report .areas) report) ≡ false
 next-accepted a w report l s e =
     let b = turnCall a report .areas in
     let x = not-refused (turn report) a (l .kept) e in
-    let long = areas-as-long (turn report) a tt l in
-    let v = carry-shown (turn report) a w tt l s e .0 in
+    let long = areas-as-long (turn report) a bytes-nil l in
+    let v = carry-shown (turn report) a w bytes-nil l s e .0 in
     let z : When refusal.Accepted (turn report) b = (
       subst Allowed (sym (long .memory)) (x .0),
       (
@@ -181,9 +181,9 @@ next-accepted a w report l s e =
       x .2,
       (turnOf w report .outcome .device, v .kept),
     ) in
-    ap not (eq-eqb (number (turnCall b report .answer)) 0 (table (turn report) b (lent-kept (turn report) a tt l .kept) refusal.Accepted .1 z))
+    ap not (eq-eqb (number (turnCall b report .answer)) 0 (table (turn report) b (lent-kept (turn report) a bytes-nil l .kept) refusal.Accepted .1 z))
 
-parts-shown : (a : Areas) (w : World) (report : ℕ) → Lent a → Shows a w → isRefused (turnCall a report) ≡ false
+parts-shown : (a : Areas) (w : World) (report : ℕ) → AreBytes a → Shows a w → isRefused (turnCall a report) ≡ false
     → Parts (turnCall a report .answer) (turnOf w report .outcome .answer)
 parts-shown a w report l s e =
     subst (λ (v : World). Parts (turnCall a report .answer) (turnOf v report .outcome .answer)) (shows-world a w s)
@@ -195,19 +195,19 @@ one-true : (b : Bool) → one b ≡ 1 → b ≡ true
 one-true true e = refl
 one-true false e = absurd (omega arith)
 
-cause-ends : (a : Areas) (w : World) (report : ℕ) → Lent a → Shows a w → isRefused (turnCall a report) ≡ false → Cause w (turnOf w report)
+cause-ends : (a : Areas) (w : World) (report : ℕ) → AreBytes a → Shows a w → isRefused (turnCall a report) ≡ false → Cause w (turnOf w report)
     → Ends a report
 cause-ends a w report l s e (cause.sent n) = sent (λ z. n (sym (parts-shown a w report l s e .length) ∙ z))
 cause-ends a w report l s e (cause.edge t) = edged (parts-shown a w report l s e .edge ∙ ap one t)
 cause-ends a w report l s e (cause.workless d) =
-    workless (carry-shown (turn report) a w tt l s e .0 .kept .image ∙ ap imageOf d ∙ sym (s .kept .image))
+    workless (carry-shown (turn report) a w bytes-nil l s e .0 .kept .image ∙ ap imageOf d ∙ sym (s .kept .image))
 
-ends-stops : (a : Areas) (w : World) (report : ℕ) → Lent a → Shows a w → isRefused (turnCall a report) ≡ false → Ends a report
+ends-stops : (a : Areas) (w : World) (report : ℕ) → AreBytes a → Shows a w → isRefused (turnCall a report) ≡ false → Ends a report
     → stopsAt w report ≡ true
 ends-stops a w report l s e (sent n) = sent-stops w report (λ z. n (parts-shown a w report l s e .length ∙ z))
 ends-stops a w report l s e (edged t) = edge-stops w report (one-true _ (sym (parts-shown a w report l s e .edge) ∙ t))
 ends-stops a w report l s e (workless k) =
-    let v = carry-shown (turn report) a w tt l s e .0 .kept in
+    let v = carry-shown (turn report) a w bytes-nil l s e .0 .kept in
     unchanged-stops w report
     (one-state (turnOf w report .outcome .device) (w .device) (v .wide) (v .range) (s .kept .wide) (s .kept .range)
     (sym (v .image) ∙ k ∙ s .kept .image))
@@ -227,10 +227,10 @@ unfolding answerNumber
 answerNumber-quiet = refl
 
 -- a turn before a run
-module _ (n : ℕ) (a : Areas) (w : World) (report : ℕ) (l : Lent a) (s : Shows a w) (e : isRefused (turnCall a report) ≡ false) where
+module _ (n : ℕ) (a : Areas) (w : World) (report : ℕ) (l : AreBytes a) (s : Shows a w) (e : isRefused (turnCall a report) ≡ false) where
   last-by : (k p : ℕ) → stopsAt w report ≡ false → p ≡ lastAnswer k (turnCall a report .areas) report → p ≡ lastAnswer (suc k) a report
   last-by zero p g q =
-      q ∙ sym (carry-shown (turn report) a w tt l s e .1 ∙ ap answerNumber (going-quiet w report g) ∙ answerNumber-quiet)
+      q ∙ sym (carry-shown (turn report) a w bytes-nil l s e .1 ∙ ap answerNumber (going-quiet w report g) ∙ answerNumber-quiet)
   last-by (suc k) p g q = q
 
   going-by : (r : Run) → stopsAt w report ≡ false → ((j : ℕ) → suc j < r .taken → Ends (turnsOn j (turnCall a report .areas) report) report → ⊥)
@@ -253,7 +253,7 @@ module _ (n : ℕ) (a : Areas) (w : World) (report : ℕ) (l : Lent a) (s : Show
 
   took-last : stopsAt w report ≡ true → Took (suc n) a report (lastTurn (turnOf w report))
   took-last g =
-      let v = carry-shown (turn report) a w tt l s e in
+      let v = carry-shown (turn report) a w bytes-nil l s e in
       record {
         areas = shown-areas (turnCall a report .areas) (afterwards (turnOf w report)) (v .0);
         answer = sym (v .1);
@@ -267,7 +267,7 @@ module _ (n : ℕ) (a : Areas) (w : World) (report : ℕ) (l : Lent a) (s : Show
   took-by true g t = took-last g
   took-by false g t = took-more g t
 
-took : (n : ℕ) (a : Areas) (w : World) (report : ℕ) → Lent a → Shows a w → isRefused (turnCall a report) ≡ false
+took : (n : ℕ) (a : Areas) (w : World) (report : ℕ) → AreBytes a → Shows a w → isRefused (turnCall a report) ≡ false
     → Took n a report (runOf n w report)
 unfolding runOf
 took zero a w report l s e =
@@ -280,8 +280,8 @@ took zero a w report l s e =
     }
 took (suc n) a w report l s e =
     took-by n a w report l s e (stopsAt w report) refl
-    (took n (turnCall a report .areas) (afterwards (turnOf w report)) report (lent-kept (turn report) a tt l)
-    (carry-shown (turn report) a w tt l s e .0) (next-accepted a w report l s e))
+    (took n (turnCall a report .areas) (afterwards (turnOf w report)) report (lent-kept (turn report) a bytes-nil l)
+    (carry-shown (turn report) a w bytes-nil l s e .0) (next-accepted a w report l s e))
 
 -- ---- a run on the areas
 
@@ -308,7 +308,7 @@ as-turns a report budget r t l =
 
 -- a run that is not refused leaves exactly the areas that so many turns in a row leave, with the answer of the last of them; so many is no more
 -- than the budget, no turn before the last ends a run, and the last does or the budget is used up
-pub run-is-turns : (a : Areas) (report budget : ℕ) → Lent a → isRefused (runCall a report budget) ≡ false
+pub run-is-turns : (a : Areas) (report budget : ℕ) → AreBytes a → isRefused (runCall a report budget) ≡ false
     → AsTurns a report budget (runCall a report budget)
 run-is-turns a report budget l e =
     let t : isRefused (turnCall a report) ≡ false = sym (run-refused-as a report budget) ∙ e in
@@ -322,7 +322,7 @@ run-is-turns a report budget l e =
 -- ---- what that settles
 
 -- budget 0 takes no turn: answer 0, nothing changed
-pub run-none : (a : Areas) (report : ℕ) → Lent a → isRefused (runCall a report 0) ≡ false → runCall a report 0 ≡ record { answer = 0; areas = a }
+pub run-none : (a : Areas) (report : ℕ) → AreBytes a → isRefused (runCall a report 0) ≡ false → runCall a report 0 ≡ record { answer = 0; areas = a }
 run-none a report l e =
     let r = runCall a report 0 in
     let t = run-is-turns a report 0 l e in
@@ -362,7 +362,7 @@ taken-accepted a report budget k t =
     sym (run-refused-as a report budget) ∙ taken-by (isRefused (runCall a report budget)) a report budget k refl t
 
 -- where a turn is not refused, neither is the next
-pub turn-again : (a : Areas) (report : ℕ) → Lent a → isRefused (turnCall a report) ≡ false
+pub turn-again : (a : Areas) (report : ℕ) → AreBytes a → isRefused (turnCall a report) ≡ false
     → isRefused (turnCall (turnCall a report .areas) report) ≡ false
 turn-again a report l e =
     let x = not-refused (turn report) a (l .kept) e in
@@ -383,12 +383,12 @@ pub run-closed : (n : ℕ) (w : World) (report : ℕ) → Sound w → Sound (run
 unfolding runOf
 run-closed zero w report s = s
 run-closed (suc n) w report s =
-    let t = closed (turn report) w tt s in
+    let t = closed (turn report) w bytes-nil s in
     closed-by (stopsAt w report) (turnOf w report) (runOf n (afterwards (turnOf w report)) report) t
     (run-closed n (afterwards (turnOf w report)) report t)
 
 -- so the record that it leaves holds a state in range
-pub run-again : (a : Areas) (report budget : ℕ) → Lent a → isRefused (runCall a report budget) ≡ false
+pub run-again : (a : Areas) (report budget : ℕ) → AreBytes a → isRefused (runCall a report budget) ≡ false
     → (d : Device) × Holds (runCall a report budget .areas .kept) d
 run-again a report budget l e =
     let x = not-refused (turn report) a (l .kept) (sym (run-refused-as a report budget) ∙ e) in
@@ -398,21 +398,21 @@ run-again a report budget l e =
     let same = run-same a (x .3 .0) report budget (x .3 .1) (x .0) (x .1 .1) in
     (runOf budget w report .world .device, record { wide = g .wide; range = g .range; image = ap (λ (c : Called). c .areas .kept) same })
 
-turns-lent : (k : ℕ) (a : Areas) (report : ℕ) → Lent a → Lent (turnsOn k a report)
+turns-lent : (k : ℕ) (a : Areas) (report : ℕ) → AreBytes a → AreBytes (turnsOn k a report)
 turns-lent zero a report l = l
-turns-lent (suc k) a report l = turns-lent k (turnCall a report .areas) report (lent-kept (turn report) a tt l)
+turns-lent (suc k) a report l = turns-lent k (turnCall a report .areas) report (lent-kept (turn report) a bytes-nil l)
 
-lent-by : (x : Bool) (a : Areas) (report budget : ℕ) → isRefused (runCall a report budget) ≡ x → Lent a → Lent (runCall a report budget .areas)
+lent-by : (x : Bool) (a : Areas) (report budget : ℕ) → isRefused (runCall a report budget) ≡ x → AreBytes a → AreBytes (runCall a report budget .areas)
 lent-by true a report budget e l = rw (run-untouched a report budget e .areas) l
 lent-by false a report budget e l =
     rw (run-is-turns a report budget l e .areas) (turns-lent (turnsTaken (runCall a report budget .answer)) a report l)
 
 -- and bytes stay bytes, refused or not
-pub run-lent : (a : Areas) (report budget : ℕ) → Lent a → Lent (runCall a report budget .areas)
+pub run-lent : (a : Areas) (report budget : ℕ) → AreBytes a → AreBytes (runCall a report budget .areas)
 run-lent a report budget l = lent-by (isRefused (runCall a report budget)) a report budget refl l
 
 -- a run with a budget takes a turn
-pub run-takes : (a : Areas) (report budget : ℕ) → Lent a → isRefused (runCall a report budget) ≡ false → 0 < budget
+pub run-takes : (a : Areas) (report budget : ℕ) → AreBytes a → isRefused (runCall a report budget) ≡ false → 0 < budget
     → 0 < turnsTaken (runCall a report budget .answer)
 run-takes a report budget l e b =
     let k = turnsTaken (runCall a report budget .answer) in
@@ -420,6 +420,6 @@ run-takes a report budget l e b =
     (run-is-turns a report budget l e .ended)
 
 -- of budget 1, one
-pub run-of-one : (a : Areas) (report : ℕ) → Lent a → isRefused (turnCall a report) ≡ false → turnsTaken (runCall a report 1 .answer) ≡ 1
+pub run-of-one : (a : Areas) (report : ℕ) → AreBytes a → isRefused (turnCall a report) ≡ false → turnsTaken (runCall a report 1 .answer) ≡ 1
 run-of-one a report l e =
     let t = run-accepted a report 1 e in omega (arith, run-takes a report 1 l t (omega arith), run-is-turns a report 1 l t .most)

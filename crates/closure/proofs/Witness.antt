@@ -18,12 +18,12 @@ use Rattle.image.proofs.Exact.{fresh-range, fresh-wide, image-bytes}
 use Rattle.image.proofs.Steps.{length-image, decode-full, full-other}
 use Rattle.chip.specs.Call.{Call, attention, arrive}
 use Rattle.calls.specs.Calls.{Areas, areasOf}
-use Rattle.closure.specs.Sound.{Lent}
-use Rattle.closure.specs.Refusals.{AreasRight, Holds, When, Seen}
+use Rattle.traces.specs.Areas.{AreBytes, Holds}
+use Rattle.closure.specs.Refusals.{AreasRight, When, Seen}
 use Rattle.closure.proofs.Command.{replicate-bytes}
 use Rattle.closure.proofs.Refusals.{foreign-holds, table}
 
-seen : (r : Refusal) (c : Call) (a : Areas) → Lent a → When r c a → Seen r
+seen : (r : Refusal) (c : Call) (a : Areas) → AreBytes a → When r c a → Seen r
 seen r c a l w = record { call = c; areas = a; lent = l; given = table c a (l .kept) r .1 w }
 
 zeros : ℕ → List ℕ
@@ -41,7 +41,7 @@ zeros-bytes n = replicate-bytes n 0 (omega arith)
 smallest : (m : List ℕ) → length m ≡ 8192 → Allowed (length m)
 smallest m e = record { least = omega arith; most = omega arith; exponent = 13; power = e }
 
-lent : (n h o : ℕ) (r : List ℕ) → Bytes r → Lent (areasOf (zeros n) (zeros h) (zeros o) r)
+lent : (n h o : ℕ) (r : List ℕ) → Bytes r → AreBytes (areasOf (zeros n) (zeros h) (zeros o) r)
 lent n h o r b = record { memory = zeros-bytes n; holding = zeros-bytes h; outgoing = zeros-bytes o; kept = b }
 
 areas-right : (m r : List ℕ) → AreasRight (areasOf m (zeros 2048) (zeros 2048) r)
@@ -65,7 +65,7 @@ zeros-foreign = sym (decode-full (zeros 256) (zeros-length 256)) ∙ sym (full-o
 fine : (m h o : ℕ) → Areas
 fine m h o = areasOf (zeros m) (zeros h) (zeros o) (imageOf fresh)
 
-fine-lent : (m h o : ℕ) → Lent (fine m h o)
+fine-lent : (m h o : ℕ) → AreBytes (fine m h o)
 unfolding fine
 fine-lent m h o = lent m h o (imageOf fresh) (image-bytes fresh fresh-wide)
 

@@ -7,11 +7,11 @@ use Rattle.device.specs.declared.Answer.{Answer}
 use Rattle.device.specs.declared.Device.{Device}
 use Rattle.image.specs.Image.{decodeOf, deviceAt}
 use Rattle.image.specs.Found as is
-use Rattle.chip.specs.World.{World, worldOf}
 use Rattle.chip.specs.Call.{Call, ran}
 use Rattle.calls.specs.Calls.{Areas, onBytes}
 use Rattle.traces.specs.Bytes.{called, number, sentLength, edge}
-use Rattle.closure.specs.Refusals.{TakesAll, Holds}
+use Rattle.traces.specs.Areas.{Holds, worldIn}
+use Rattle.closure.specs.Refusals.{TakesAll}
 
 -- each area is as long as it was
 pub record AsLong (a b : Areas) : Type 0 where
@@ -19,10 +19,6 @@ pub record AsLong (a b : Areas) : Type 0 where
   pub holding : length (b .holding) ≡ length (a .holding)
   pub outgoing : length (b .outgoing) ≡ length (a .outgoing)
   pub kept : length (b .kept) ≡ length (a .kept)
-
--- the areas with the record taken for a state
-abbrev pub worldIn : Device → Areas → World
-worldIn d a = worldOf d (a .memory) (a .holding) (a .outgoing)
 
 -- a call on areas does what it does on the state d: answer, areas and record; and the record that it leaves is accepted again, as the state
 -- that the call leaves

@@ -1,8 +1,6 @@
 -- Demand 1, the table of refusals: 01, "Calls, lent areas, refusals". Assumes nothing.
 use mathlib.Core.Path.{_≡_}
-use mathlib.Core.Bool.{true}
-use mathlib.Core.List.{List, []}
-use Prim.Native.Nat.{ℕ, _≤_}
+use Prim.Native.Nat.{_≤_}
 use lib.ListN.{length}
 use Rattle.memory.specs.Size.{Allowed}
 use Rattle.device.specs.Limits.{areaSize, recordSize, longest}
@@ -10,12 +8,10 @@ use Rattle.device.specs.Numbers.{refusalNumber}
 use Rattle.device.specs.declared.Device.{Device}
 use Rattle.device.specs.declared.Refusal.{Refusal}
 use Rattle.device.specs.declared.Refusal.the-variants as refusal
-use Rattle.image.specs.Ranges.{inRange, Wide}
-use Rattle.image.specs.Image.{imageOf}
 use Rattle.chip.specs.Call.{Call, reset, attention, arrive, turn}
 use Rattle.calls.specs.Calls.{Areas, Called}
 use Rattle.traces.specs.Bytes.{called, number, sentLength, edge}
-use Rattle.closure.specs.Sound.{Lent}
+use Rattle.traces.specs.Areas.{arriving, AreBytes, Holds}
 
 -- ---- what each line of the table asks
 
@@ -38,22 +34,11 @@ pub record AreasRight (a : Areas) : Type 0 where
 abbrev pub LengthsRight : Call → Areas → Type 0
 LengthsRight c a = (length (a .kept) ≡ recordSize) × TakesAll c (AreasRight a)
 
--- 3: no arriving frame exceeds 2,048 bytes; the other calls have none
-abbrev pub frameOf : Call → List ℕ
-frameOf reset = []
-frameOf attention = []
-frameOf (arrive f v) = f
-frameOf (turn report) = []
-
+-- 3: no arriving frame exceeds 2,048 bytes
 abbrev pub FrameRight : Call → Type 0
-FrameRight c = length (frameOf c) ≤ longest
+FrameRight c = length (arriving c) ≤ longest
 
 -- 4: the record is the image of a state within docs/' ranges; reset ignores its content
-pub record Holds (r : List ℕ) (d : Device) : Type 0 where
-  pub wide : Wide d
-  pub range : inRange d ≡ true
-  pub image : r ≡ imageOf d
-
 abbrev pub RecordRight : Call → Areas → Type 0
 RecordRight c a = TakesAll c ((d : Device) × Holds (a .kept) d)
 
@@ -74,7 +59,7 @@ When r c a = Lowest (SizeRight c a) (LengthsRight c a) (FrameRight c) (RecordRig
 pub record Seen (r : Refusal) : Type 0 where
   pub call : Call
   pub areas : Areas
-  pub lent : Lent areas
+  pub lent : AreBytes areas
   pub given : number (called call areas .answer) ≡ refusalNumber r
 
 -- ---- a refusal changes nothing lent; length 0, no interrupt edge

@@ -24,17 +24,20 @@ use Rattle.chip.specs.World.{World, afterwards}
 use Rattle.chip.specs.Arrival.{arrivalOf}
 use Rattle.chip.specs.Call.{Call, attention, ran}
 use Rattle.calls.specs.Calls.{Areas, Called, turnCall, runCall}
-use Rattle.traces.specs.Event.{Event, call, step}
+use Rattle.progress.specs.Trace.{run, turns}
+use Rattle.progress.specs.Machine.{Undisturbed}
+use Rattle.traces.specs.Event.{Event, call, step, DuringList}
 use Rattle.traces.specs.Bytes.{called, number, isRefused}
-use Rattle.closure.specs.Sound.{Sound, Lent, Fit}
-use Rattle.closure.specs.Refusals.{When, Untouched, Holds}
+use Rattle.traces.specs.Areas.{FrameBytes, AreBytes, Holds, worldIn, Shows}
+use Rattle.traces.specs.Driven.{Lending, left, isTaken, eventsOf, Drive, leftOne, turnsDriven, unrolled, AllFair, AllFairDrive}
+use Rattle.closure.specs.Sound.{Sound}
+use Rattle.closure.specs.Refusals.{When, Untouched}
 use Rattle.closure.specs.Carried.{Again}
 use Rattle.closure.specs.Turns.{AsTurns}
-use Rattle.closure.specs.Driven.{Lending, Drive, unrolled}
 use Rattle.closure.proofs.Refusals as refusals
 use Rattle.closure.proofs.Closed as closure
 use Rattle.closure.proofs.Carried as carried
-use Rattle.closure.proofs.Turns as turns
+use Rattle.closure.proofs.Turns as run-of-turns
 use Rattle.frames.specs.Arrival as arrival
 use Rattle.frames.specs.Held.{GoodFate, BadFate}
 use Rattle.frames.specs.Fates.{Deed, opening, still, after, beginnings, endings, times, timesFated, timesAltered, AllFates}
@@ -45,21 +48,15 @@ use Rattle.frames.proofs.Stands as exits
 use Rattle.frames.proofs.Fates as fates
 use Rattle.lists.specs.Uses.{NoClash, Listed, firstOf}
 use Rattle.lists.specs.Unit.{machine}
-use Rattle.lists.specs.Done.{Calm, Starts, Premises, Done, bytesOf}
-use Rattle.lists.specs.Lent.{left, turnsOf, eventsOf, worldIn, Shows, AllLend, AllCalmly}
-use Rattle.lists.specs.Runs as list-runs
+use Rattle.lists.specs.Done.{Starts, Premises, Done, bytesOf}
 use Rattle.lists.proofs.Whole as whole
-use Rattle.lists.proofs.Carry as carry
-use Rattle.lists.proofs.Runs as runs-done
-use Rattle.progress.specs.Machine.{Undisturbed, run}
+use Rattle.lists.proofs.Bytes as list-bytes
 use Rattle.worked.proofs.Exact as list-exact
 use Rattle.held.specs.Held as held
 use Rattle.held.specs.OnRecords as kept
-use Rattle.held.specs.Runs as held-runs
 use Rattle.held.proofs.Held as held-frames
 use Rattle.held.proofs.Exact as held-exact
 use Rattle.held.proofs.Calls as held-calls
-use Rattle.held.proofs.Runs as held-driven
 use Rattle.kinds.specs.Chips.{Chip, Meets, Says, Permits}
 use Rattle.kinds.specs.Demands.{Demand1, Demand2}
 use Rattle.kinds.specs.Lists.{Demand3}
@@ -81,28 +78,28 @@ pub a-refusal-changes-nothing : (c : Call) (a : Areas) → isRefused (called c a
 a-refusal-changes-nothing = refusals.untouched
 
 -- the ranges "hold every state a call can leave", so that a record which a call left is accepted again
-pub every-state-left-is-in-range : (c : Call) (w : World) → Fit c → Sound w → Sound (afterwards (ran c w))
+pub every-state-left-is-in-range : (c : Call) (w : World) → FrameBytes c → Sound w → Sound (afterwards (ran c w))
 every-state-left-is-in-range = closure.closed
 
-pub a-record-left-is-accepted : (c : Call) (a : Areas) → Fit c → Lent a → isRefused (called c a) ≡ false → Again c a
+pub a-record-left-is-accepted : (c : Call) (a : Areas) → FrameBytes c → AreBytes a → isRefused (called c a) ≡ false → Again c a
 a-record-left-is-accepted = carried.accepted-again
 
 -- a run of turns gives the number that a turn gives there, whatever its budget; a refused one is a refused turn, no turn taken and nothing changed
 pub a-run-is-refused-as-a-turn : (a : Areas) (report budget : ℕ) → number (runCall a report budget .answer) ≡ number (turnCall a report .answer)
-a-run-is-refused-as-a-turn = turns.run-refusals
+a-run-is-refused-as-a-turn = run-of-turns.run-refusals
 
 pub a-refused-run-is-a-refused-turn : (a : Areas) (report budget : ℕ) → isRefused (turnCall a report) ≡ true
     → runCall a report budget ≡ turnCall a report
-a-refused-run-is-a-refused-turn = turns.refused-run
+a-refused-run-is-a-refused-turn = run-of-turns.refused-run
 
 pub a-refused-run-changes-nothing : (a : Areas) (report budget : ℕ) → isRefused (runCall a report budget) ≡ true
     → Untouched a (runCall a report budget)
-a-refused-run-changes-nothing = turns.run-untouched
+a-refused-run-changes-nothing = run-of-turns.run-untouched
 
 -- and the record that a run leaves is accepted again
-pub a-record-that-a-run-left-is-accepted : (a : Areas) (report budget : ℕ) → Lent a → isRefused (runCall a report budget) ≡ false
+pub a-record-that-a-run-left-is-accepted : (a : Areas) (report budget : ℕ) → AreBytes a → isRefused (runCall a report budget) ≡ false
     → (d : Device) × Holds (runCall a report budget .areas .kept) d
-a-record-that-a-run-left-is-accepted = turns.run-again
+a-record-that-a-run-left-is-accepted = run-of-turns.run-again
 
 -- ---- demand 2
 
@@ -154,17 +151,17 @@ at-every-call = fates.all-fates
 -- a run of turns: all areas, the record among them, are those of as many turns in a row as its answer says, and the rest of its answer is the last
 -- turn's. So many is no more than the budget; no turn before the last sent a frame, reported an edge or had no work; and the last did, or the
 -- budget is used up. So what is said of turns, here and below, is said of the turns inside a run, and no edge and no frame goes unreported
-pub a-run-is-so-many-turns : (a : Areas) (report budget : ℕ) → Lent a → isRefused (runCall a report budget) ≡ false
+pub a-run-is-so-many-turns : (a : Areas) (report budget : ℕ) → AreBytes a → isRefused (runCall a report budget) ≡ false
     → AsTurns a report budget (runCall a report budget)
-a-run-is-so-many-turns = turns.run-is-turns
+a-run-is-so-many-turns = run-of-turns.run-is-turns
 
 -- that leaves nothing open, neither the number of turns nor a byte
 pub and-that-says-all : (a : Areas) (report budget : ℕ) (r s : Called) → AsTurns a report budget r → AsTurns a report budget s → r ≡ s
-and-that-says-all = turns.one-run
+and-that-says-all = run-of-turns.one-run
 
 -- budget 0 takes no turn: answer 0, nothing changed
-pub a-run-of-no-turn : (a : Areas) (report : ℕ) → Lent a → isRefused (runCall a report 0) ≡ false → runCall a report 0 ≡ record { answer = 0; areas = a }
-a-run-of-no-turn = turns.run-none
+pub a-run-of-no-turn : (a : Areas) (report : ℕ) → AreBytes a → isRefused (runCall a report 0) ≡ false → runCall a report 0 ≡ record { answer = 0; areas = a }
+a-run-of-no-turn = run-of-turns.run-none
 
 -- ---- demand 3, first half
 
@@ -172,34 +169,33 @@ a-run-of-no-turn = turns.run-none
 pub a-list-is-done : (bs : List ℕ) (es : List Event) (w : World) → Starts w
     → firstOf bs ≡ wordAt (w .memory) (ofScb (w .device .units) cblAt)
     → Listed (step (call attention) w .device .units .base) (step (call attention) w .memory) bs
-    → Premises Calm bs es (step (call attention) w)
-    → Done Calm bs es (step (call attention) w)
+    → Premises DuringList bs es (step (call attention) w)
+    → Done bs es (step (call attention) w)
 a-list-is-done = whole.attention-list-done
 
 -- the same over the calls on the areas that the host lends, refused calls among them
-pub a-list-is-done-on-bytes : (bs : List ℕ) (ls : List Lending) (a : Areas) (d : Device) → Lent a → Holds (a .kept) d
+pub a-list-is-done-on-bytes : (bs : List ℕ) (ls : List Lending) (a : Areas) (d : Device) → AreBytes a → Holds (a .kept) d
     → isRefused (called attention a) ≡ false → Starts (worldIn d a) → firstOf bs ≡ wordAt (a .memory) (ofScb (d .units) cblAt)
     → Listed (d .units .base) (step (call attention) (worldIn d a) .memory) bs
-    → AllLend carry.carries ls (called attention a .areas) → AllCalmly ls (called attention a .areas)
+    → AllFair DuringList ls (called attention a .areas)
     → NoClash (length (a .memory)) (d .units .base) (step (call attention) (worldIn d a) .memory) bs
-    → Undisturbed (machine Calm) (bytesOf (step (call attention) (worldIn d a)) bs) (eventsOf ls) (step (call attention) (worldIn d a))
-    → 132 * length bs ≤ turnsOf ls
-    → Done Calm bs (eventsOf ls) (step (call attention) (worldIn d a))
-    × Shows carry.carries (left ls (called attention a .areas)) (run (machine Calm) (eventsOf ls) (step (call attention) (worldIn d a)))
-a-list-is-done-on-bytes = carry.areas-list-done
+    → Undisturbed machine (bytesOf (step (call attention) (worldIn d a)) bs) (eventsOf ls) (step (call attention) (worldIn d a))
+    → 132 * length bs ≤ turns isTaken ls
+    → Done bs (eventsOf ls) (step (call attention) (worldIn d a))
+    × Shows (run left ls (called attention a .areas)) (run step (eventsOf ls) (step (call attention) (worldIn d a)))
+a-list-is-done-on-bytes = list-bytes.areas-list-done
 
 -- the same where runs of turns are among the calls: a run is as many turns as its answer says, and `unrolled` has those turns in its place
-pub a-list-is-done-by-runs : (bs : List ℕ) (ds : List Drive) (a : Areas) (d : Device) → Lent a → Holds (a .kept) d
+pub a-list-is-done-by-runs : (bs : List ℕ) (ds : List Drive) (a : Areas) (d : Device) → AreBytes a → Holds (a .kept) d
     → isRefused (called attention a) ≡ false → Starts (worldIn d a) → firstOf bs ≡ wordAt (a .memory) (ofScb (d .units) cblAt)
     → Listed (d .units .base) (step (call attention) (worldIn d a) .memory) bs
-    → list-runs.AllDrive carry.carries ds (called attention a .areas)
+    → AllFairDrive DuringList ds (called attention a .areas)
     → NoClash (length (a .memory)) (d .units .base) (step (call attention) (worldIn d a) .memory) bs
-    → Undisturbed (machine Calm) (bytesOf (step (call attention) (worldIn d a)) bs) (eventsOf (unrolled ds)) (step (call attention) (worldIn d a))
-    → 132 * length bs ≤ list-runs.turnsDriven ds
-    → Done Calm bs (eventsOf (unrolled ds)) (step (call attention) (worldIn d a))
-    × Shows carry.carries (list-runs.leftBehind ds (called attention a .areas))
-    (run (machine Calm) (eventsOf (unrolled ds)) (step (call attention) (worldIn d a)))
-a-list-is-done-by-runs = runs-done.runs-list-done
+    → Undisturbed machine (bytesOf (step (call attention) (worldIn d a)) bs) (eventsOf (unrolled ds)) (step (call attention) (worldIn d a))
+    → 132 * length bs ≤ turnsDriven ds
+    → Done bs (eventsOf (unrolled ds)) (step (call attention) (worldIn d a))
+    × Shows (run leftOne ds (called attention a .areas)) (run step (eventsOf (unrolled ds)) (step (call attention) (worldIn d a)))
+a-list-is-done-by-runs = list-bytes.runs-list-done
 
 -- 132 is exact: with 131 for one command, or 263 for two, the statement is false
 pub no-fewer-for-one : (least : ℕ → ℕ) → least 1 ≤ 131 → list-exact.FirstHalf least → ⊥
@@ -218,8 +214,8 @@ pub a-held-frame-is-settled-on-bytes : kept.Within 132
 a-held-frame-is-settled-on-bytes = held-calls.held-frame
 
 -- the same where runs of turns are among the calls
-pub a-held-frame-is-settled-by-runs : held-runs.Within 132
-a-held-frame-is-settled-by-runs = held-driven.runs-held-frame
+pub a-held-frame-is-settled-by-runs : kept.WithinByRuns 132
+a-held-frame-is-settled-by-runs = held-calls.runs-held-frame
 
 -- and no smaller number would do
 pub no-fewer-for-a-frame : (n : ℕ) → n < 132 → held.Within n → ⊥

@@ -22,11 +22,13 @@ use Rattle.receive.specs.End.{fateOf, settles, proceeds, close, lack}
 use Rattle.receive.specs.Service.{serviceBy, service}
 use Rattle.chip.specs.World.{World}
 use Rattle.chip.specs.Turn.{statusBy, raisedIn, concluded, receiveUnits, receiveTurn, turnOf}
+use Rattle.calls.specs.Calls.{Areas}
+use Rattle.progress.specs.Trace.{run}
 use Rattle.traces.specs.Event.{Event, step}
-use Rattle.progress.specs.Holder.{run}
-use Rattle.closure.specs.Driven.{Lending}
+use Rattle.traces.specs.Areas.{worldSaid}
+use Rattle.traces.specs.Driven.{Lending}
 use Rattle.held.specs.Held.{framesIn, Settled}
-use Rattle.held.specs.OnRecords.{framesKept, worldIn}
+use Rattle.held.specs.OnRecords.{framesKept}
 use Rattle.held.specs.OnRecords as kept
 use Rattle.held.specs.Effects.{Written}
 use Rattle.held.proofs.Turn.{isReceiving, turn-received}
@@ -116,8 +118,8 @@ pub settled-writes : (n : ℕ) (f : Frame) (es : List Event) (w : World) → (s 
     → Written f (run step (s .before) w) (turnOf (run step (s .before) w) (s .report))
 settled-writes n f es w s = effects f (run step (s .before) w) (s .report) (s .fate) (held-last f (s .before) w (s .holds)) (s .given)
 
-pub called-writes : (n : ℕ) (f : Frame) (ls : List Lending) (r : List ℕ) → (s : kept.Settled n f ls r)
-    → Written f (worldIn (s .areas)) (turnOf (worldIn (s .areas)) (s .report))
-called-writes n f ls r s =
-    effects f (worldIn (s .areas)) (s .report) (s .fate)
-    (ap (λ (u : Units). heldIn (u .ru)) (units-in (s .areas)) ∙ ap framesKept (s .kept) ∙ kept-last f (s .before) r (s .holds)) (s .given)
+pub called-writes : (n : ℕ) (f : Frame) (ls : List Lending) (a : Areas) → (s : kept.Settled n f ls a)
+    → Written f (worldSaid (s .areas)) (turnOf (worldSaid (s .areas)) (s .report))
+called-writes n f ls a s =
+    effects f (worldSaid (s .areas)) (s .report) (s .fate)
+    (ap (λ (u : Units). heldIn (u .ru)) (units-in (s .areas)) ∙ ap framesKept (s .kept) ∙ kept-last f (s .before) a (s .holds)) (s .given)

@@ -17,9 +17,9 @@ use Rattle.chip.specs.Cases.{Word, _is_, put, start, passes}
 use Rattle.chip.specs.Turn.{turnOf}
 use Rattle.chip.specs.World.{World, afterwards}
 use Rattle.chip.proofs.Board.{board, descriptors, bufferAt, broadcast, good}
-use Rattle.traces.specs.Event.{Event, call, host, step}
-use Rattle.progress.specs.Holder.{run}
-use Rattle.held.specs.Held.{framesIn, isSettled, Calm, fatesAt, Settled, Within}
+use Rattle.progress.specs.Trace.{run, AllMay}
+use Rattle.traces.specs.Event.{Event, call, host, step, WhileHeld}
+use Rattle.held.specs.Held.{framesIn, isSettled, fatesAt, Settled, Within}
 use Rattle.held.proofs.Held.{held-frame}
 
 -- ---- the run
@@ -54,9 +54,9 @@ its-frame = refl
 abbrev pub turnsOf : ℕ → List Event
 turnsOf n = replicate n (call (turn 0))
 
-calm-turns : (n : ℕ) → Calm (turnsOf n)
-calm-turns zero = tt
-calm-turns (suc n) = (refl, calm-turns n)
+calm-turns : (n : ℕ) (w : World) → AllMay WhileHeld step (turnsOf n) w
+calm-turns zero w = tt
+calm-turns (suc n) w = (refl, calm-turns n (step (call (turn 0)) w))
 
 -- ---- the bound is attained
 
@@ -126,13 +126,13 @@ unsettled n s =
 pub exact : (n : ℕ) → n < 132 → Within n → ⊥
 exact n l h =
     let le : n ≤ 131 = omega (arith, l) in
-    unsettled n (h begun frame (turnsOf 131) its-frame refl (calm-turns 131) le)
+    unsettled n (h begun frame (turnsOf 131) its-frame refl (calm-turns 131 begun) le)
 
 -- ---- the premises can be met
 
 -- the run itself: 132 turns, and nothing between them
 pub met : Settled 132 frame (turnsOf 132) begun
-met = held-frame begun frame (turnsOf 132) its-frame refl (calm-turns 132) (lit≤ tt)
+met = held-frame begun frame (turnsOf 132) its-frame refl (calm-turns 132 begun) (lit≤ tt)
 
 -- before each turn the host leaves another memory, of another size, and other areas, and a frame comes
 abbrev pub restless : ℕ → List Event
@@ -141,9 +141,9 @@ restless (suc n) =
     host (replicate (8192 * 2 ^ (n % 3)) (n % 256)) (replicate 2048 (n % 255)) (replicate 2048 (n % 254))
     ∷ sixty ∷ call (turn n) ∷ restless n
 
-restless-calm : (n : ℕ) → Calm (restless n)
-restless-calm zero = tt
-restless-calm (suc n) = (refl, (refl, (refl, restless-calm n)))
+restless-calm : (n : ℕ) (w : World) → AllMay WhileHeld step (restless n) w
+restless-calm zero w = tt
+restless-calm (suc n) w = (refl, (refl, (refl, restless-calm n _)))
 
 pub met-restless : Settled 132 frame (restless 132) begun
-met-restless = held-frame begun frame (restless 132) its-frame refl (restless-calm 132) (lit≤ tt)
+met-restless = held-frame begun frame (restless 132) its-frame refl (restless-calm 132 begun) (lit≤ tt)

@@ -13,12 +13,11 @@ use Rattle.device.specs.declared.Ru.{Ru}
 use Rattle.chip.specs.World.{World, afterwards}
 use Rattle.chip.specs.Call.{reset, attention, arrive, turn}
 use Rattle.chip.specs.Turn.{turnOf}
-use Rattle.traces.specs.Event.{Event, call, host, step, isTurn, isCalm}
-use Rattle.progress.specs.Machine.{turns}
-use Rattle.progress.specs.Holder.{Holder, Went, ended, goes, Stays, Mays}
-use Rattle.progress.specs.Holder.{run, Ends}
+use Rattle.progress.specs.Trace.{run, turns}
+use Rattle.progress.specs.Holder.{Holder, Went, ended, goes, Stays, Ends}
 use Rattle.progress.specs.Holder as ending
-use Rattle.held.specs.Held.{framesIn, isToHold, isSettled, turnsIn, Calm, fatesAt, Holds, Settled, Within}
+use Rattle.traces.specs.Event.{Event, call, host, step, isTurn, WhileHeld}
+use Rattle.held.specs.Held.{framesIn, isToHold, isSettled, fatesAt, Holds, Settled, Within}
 use Rattle.progress.proofs.Holder.{ends-within}
 use Rattle.held.proofs.Service as service
 use Rattle.held.proofs.Service.{leftOf, left-positive, left-most, Serving}
@@ -39,8 +38,7 @@ holder =
       S = World;
       E = Event;
       step = step;
-      may = λ e w. isCalm e ≡ true;
-      isTurn = λ e w. isTurn e;
+      isTurn = isTurn;
       held = λ w. isHolding (w .device .units .ru);
       served = λ w. isReceiving (w .device .units);
       last = λ w. w .device .units .rulast;
@@ -68,7 +66,7 @@ went : (w : World) (report : ℕ) → isReceiving (w .device .units) ≡ true
 went w report v (service.goes z h f l) = goes (rw z) h f l (serve-last w report v)
 went w report v (service.ended φ z s n) = ended (record { fate = φ; frames = framesIn w }) (rw z) refl
 
-serve : (e : Event) (w : World) → isCalm e ≡ true → isHolding (w .device .units .ru) ≡ true → isTurn e ≡ true
+serve : (e : Event) (w : World) → WhileHeld e w → isHolding (w .device .units .ru) ≡ true → isTurn e ≡ true
     → isReceiving (w .device .units) ≡ true → Went holder e w
 serve (call reset) w y h t v = absurd (false≢true t)
 serve (call attention) w y h t v = absurd (false≢true t)
@@ -87,7 +85,7 @@ stays e w h z k = record { none = rw z; holds = rw k h; same = ap heldIn k; coun
 pub passing : (w : World) (report : ℕ) → isHolding (w .device .units .ru) ≡ true → isReceiving (w .device .units) ≡ false → Passes w (turnOf w report)
 passing w report h v = rw (turn-commanded w report h v .0) (passes w report)
 
-pass : (e : Event) (w : World) → isCalm e ≡ true → isHolding (w .device .units .ru) ≡ true → isTurn e ≡ true → isReceiving (w .device .units) ≡ false
+pass : (e : Event) (w : World) → WhileHeld e w → isHolding (w .device .units .ru) ≡ true → isTurn e ≡ true → isReceiving (w .device .units) ≡ false
     → Stays holder e w × (w .device .units .rulast ≡ true) × (step e w .device .units .rulast ≡ false)
 pass (call reset) w y h t v = absurd (false≢true t)
 pass (call attention) w y h t v = absurd (false≢true t)
@@ -97,7 +95,7 @@ pass (call (turn report)) w y h t v =
     (stays (call (turn report)) w h (p .fates) (p .unit), turn-commanded w report h v .1, p .last)
 pass (host m g out) w y h t v = absurd (false≢true t)
 
-between : (e : Event) (w : World) → isCalm e ≡ true → isHolding (w .device .units .ru) ≡ true → isTurn e ≡ false
+between : (e : Event) (w : World) → WhileHeld e w → isHolding (w .device .units .ru) ≡ true → isTurn e ≡ false
     → Stays holder e w × (step e w .device .units .rulast ≡ w .device .units .rulast)
 between (call reset) w y h t = absurd (false≢true y)
 between (call attention) w y h t = absurd (false≢true y)
@@ -105,19 +103,10 @@ between (call (arrive f x)) w y h t = (stays (call (arrive f x)) w h refl (arriv
 between (call (turn report)) w y h t = absurd (true≢false t)
 between (host m g out) w y h t = (stays (host m g out) w h refl refl, refl)
 
-pub laws : ending.Laws holder
+pub laws : ending.Laws holder WhileHeld
 laws = record { positive = λ w. left-positive (w .device .units .ru); serve = serve; pass = pass; between = between }
 
 -- ---- the statement
-
--- the trace and the unit as the general theorem has them
-turns-in : (es : List Event) (w : World) → turns (λ e w. isTurn e) step es w ≡ turnsIn es
-turns-in [] w = refl
-turns-in (e ∷ es) w = rw (turns-in es (step e w))
-
-calm : (es : List Event) (w : World) → Calm es → Mays holder es w
-calm [] w c = tt
-calm (e ∷ es) w c = (c .0, calm es (step e w) (c .1))
 
 pub holding : (u : Ru) (f : Frame) → heldIn u ≡ f ∷ [] → isHolding u ≡ true
 holding u f e = some-held u f [] e
@@ -163,7 +152,7 @@ end-turn w report f φ e t g = end-by (isReceiving (w .device .units)) w report 
 
 -- the event at its end is a turn
 settle : (n : ℕ) (f : Frame) (es : List Event) (w : World) (before : List Event) (e : Event) (after : List Event)
-    → isToHold f ≡ true → es ≡ before ++ (e ∷ after) → turnsIn before < n → Holds f before w → isTurn e ≡ true
+    → isToHold f ≡ true → es ≡ before ++ (e ∷ after) → turns isTurn before < n → Holds f before w → isTurn e ≡ true
     → (φ : Fate) → fatesAt e (run step before w) ≡ φ ∷ [] → Settled n f es w
 settle n f es w before (call reset) after t s l h i φ g = absurd (false≢true i)
 settle n f es w before (call attention) after t s l h i φ g = absurd (false≢true i)
@@ -187,15 +176,15 @@ settle n f es w before (host m b out) after t s l h i φ g = absurd (false≢tru
 settled : (n : ℕ) (f : Frame) (es : List Event) (w : World) → isToHold f ≡ true → Ends holder n (f ∷ []) es w → Settled n f es w
 settled n f es w t r =
     let at = run step (r .before) w in
-    settle n f es w (r .before) (r .event) (r .after) t (r .split) (rw (turns-in (r .before) w) at (r .soon))
+    settle n f es w (r .before) (r .event) (r .after) t (r .split) (r .soon)
     (all-along f (r .before) w (r .holds)) (r .turned) (r .note .fate) (a-note (fatesAt (r .event) at) (framesIn at) (r .note) (r .noted))
 
 -- twice the services that a held frame can take are enough
 pub within : (n : ℕ) → 132 ≤ n → Within n
 within n m w f es e t c l =
     settled n f es w t
-    (rw e at (ends-within holder laws n es w (calm es w c) (holding (w .device .units .ru) f e)
-    (omega (arith, m, left-most (w .device .units .ru))) (rw (turns-in es w) l)))
+    (rw e at (ends-within holder WhileHeld laws n es w c (holding (w .device .units .ru) f e)
+    (omega (arith, m, left-most (w .device .units .ru))) l))
 
 -- demand 3: a held frame is stored or counted within 132 turns
 pub held-frame : Within 132

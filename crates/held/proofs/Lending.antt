@@ -1,7 +1,7 @@
 -- On the calls too the bound is met and attained: the run of `Exact` on a memory that the host puts back before each call. That a call leaves
 -- a state in range is a premise, `Closed`. Assumes nothing.
 use mathlib.Core.Path.{_≡_, refl, sym, ap, _∙_, subst}
-use mathlib.Core.Bool.{Bool, true, false, not, _&&_, false≢true}
+use mathlib.Core.Bool.{Bool, true, false, not, _&&_, true≢false}
 use mathlib.Core.List.{List, [], _∷_, _++_}
 use Prim.Native.Nat.{ℕ, zero, suc, _+_, _*_, _^_, _%_, _<_}
 use native.Mathlib.Omega.{arith}
@@ -10,7 +10,7 @@ use lib.Dec.{T, lit≤}
 use lib.ListN.{length, getD, replicate, length-replicate}
 use Rattle.memory.specs.Memory.{digits, wordTo, apply}
 use Rattle.memory.specs.Size.{sizeAllowed}
-use Rattle.memory.proofs.Bytes.{Bytes, put-bytes, digits-bytes}
+use Rattle.memory.proofs.Bytes.{Bytes, bytes-nil, put-bytes, digits-bytes}
 use Rattle.device.specs.Limits.{recordSize, areaSize}
 use Rattle.device.specs.State.{isActive, cuState, isHolding, heldIn}
 use Rattle.device.specs.declared.Answer.{Answer}
@@ -29,12 +29,13 @@ use Rattle.chip.specs.Turn.{servedBy, concluded, commandTurn, receiveTurn, turn
 use Rattle.chip.specs.World.{World, worldOf}
 use Rattle.calls.specs.Calls.{Areas, areasOf, Called, answerNumber, areasRight, refusalOf, onBytes, attentionCall, turnCall, resetCall}
 use Rattle.calls.proofs.Laws.{accepted}
-use Rattle.traces.specs.Event.{call, isTurn}
-use Rattle.traces.specs.Bytes.{called, number, isRefused}
-use Rattle.progress.specs.Machine.{bit}
-use Rattle.closure.specs.Driven.{Lending, lending}
+use Rattle.progress.specs.Trace.{bit, turns}
+use Rattle.traces.specs.Bytes.{number, isRefused}
+use Rattle.traces.specs.Event.{call, isTurn, WhileHeld}
+use Rattle.traces.specs.Areas.{unitsBy, worldSaid}
+use Rattle.traces.specs.Driven.{Lending, lending, refusedAt, leftBy, left, isTaken, Lends, AllFair}
 use Rattle.held.specs.Held.{fatesAt}
-use Rattle.held.specs.OnRecords.{unitsBy, framesKept, isAccepted, worldIn, keptAfter, stepKept, turnsIn, Fair, AllFair, Settled, Within}
+use Rattle.held.specs.OnRecords.{framesKept, Settled, Within}
 use Rattle.held.proofs.Exact.{words, given, begun, frame, its-frame, anySettles, and-left, and-right, not-settled, one-settles}
 use Rattle.held.proofs.OnRecords.{Closed, held-frame}
 
@@ -149,7 +150,7 @@ unfolding areasRight
 lengths h m d l w = rw (length-image d (w .own) (w .listed), l)
 
 module _ (m h : List ℕ) (r : Right m h) (d : Device) (g : Good d) where
-  back : worldIn (lentOn m h d) ≡ on m h d
+  back : worldSaid (lentOn m h d) ≡ on m h d
   back = rw (decode-image d (g .wide) (g .range), device-back d (g .wide))
 
   same : turnCall (lentOn m h d) 0 ≡ onBytes (turnOf (on m h d) 0)
@@ -158,19 +159,20 @@ module _ (m h : List ℕ) (r : Right m h) (d : Device) (g : Good d) where
       accepted (lentOn m h d) [] (λ w. turnOf w 0) (d .units) (r .size) (lengths h m d (r .long) (g .wide)) refl (decode-image d (g .wide) (g .range))
       ∙ ap (λ (x : Device). onBytes (turnOf (on m h x) 0)) (device-back d (g .wide))
 
-  taken : isAccepted (turnOn m h d) ≡ true
-  taken = ap (λ (x : Called). not (isRefused x)) same ∙ rw (number-zero (turnOf (on m h d) 0 .outcome .answer) (turn-accepted (on m h d) 0))
+  taken : refusedAt (turnOn m h d) ≡ false
+  taken = ap isRefused same ∙ rw (number-zero (turnOf (on m h d) 0 .outcome .answer) (turn-accepted (on m h d) 0))
 
-  kept-next : stepKept (turnOn m h d) (imageOf d) ≡ imageOf (next m h d)
-  kept-next =
-      ap (λ (x : Bool). keptAfter x (turnCall (lentOn m h d) 0) (imageOf d)) taken ∙ ap (λ (x : Called). x .areas .kept) same
+  left-next : (a : Areas) → left (turnOn m h d) a .kept ≡ imageOf (next m h d)
+  left-next a = ap (λ (x : Bool). leftBy x (turnOn m h d) a .kept) taken ∙ ap (λ (x : Called). x .areas .kept) same
 
-  fair : Fair (turnOn m h d) (imageOf d)
-  fair =
+  lends : (a : Areas) → a .kept ≡ imageOf d → Lends WhileHeld (turnOn m h d) a
+  lends a k =
       record {
-        bytes = λ e. record { memory = r .memory; holding = r .area; outgoing = r .area; kept = image-bytes d (g .wide); frame = tt };
-        kept = λ e. refl;
-        calm = λ e. refl;
+        frame = bytes-nil;
+        bytes = record { memory = r .memory; holding = r .area; outgoing = r .area; kept = image-bytes d (g .wide) };
+        kept = sym k;
+        leaves = refl;
+        may = refl;
       }
 
 -- ---- all along
@@ -178,7 +180,7 @@ module _ (m h : List ℕ) (r : Right m h) (d : Device) (g : Good d) where
 -- no turn of a trace settles a frame
 abbrev quietOn : List Lending → Bool
 quietOn [] = true
-quietOn (l ∷ ls) = not (anySettles (fatesAt (call (l .made)) (worldIn (l .lent)))) && quietOn ls
+quietOn (l ∷ ls) = not (anySettles (fatesAt (call (l .made)) (worldSaid (l .lent)))) && quietOn ls
 
 abbrev quiet : ℕ → Device → Bool
 quiet zero d = true
@@ -187,20 +189,19 @@ quiet (suc n) d = not (anySettles (turnOf (on memory area d) 0 .outcome .fates))
 module _ (k : Closed) where
   good-next : (m h : List ℕ) → Right m h → (d : Device) → Good d → Good (next m h d)
   good-next m h r d g =
-      let x = k (turn 0) (on m h d) tt (g .range) (g .wide) (r .memory) (r .area) (r .area) in record { range = x .0; wide = x .1 }
+      let x = k (turn 0) (on m h d) bytes-nil (g .range) (g .wide) (r .memory) (r .area) (r .area) in record { range = x .0; wide = x .1 }
 
   good-on : (d : Device) → Good d → Good (next memory area d)
   good-on d g = good-next memory area memory-right d g
 
-  all-fair : (n : ℕ) (d : Device) → Good d → AllFair (turnsOn n d) (imageOf d)
-  all-fair zero d g = tt
-  all-fair (suc n) d g = (
-    fair memory area memory-right d g,
-    subst (λ (r : List ℕ). AllFair (turnsOn n (next memory area d)) r) (sym (kept-next memory area memory-right d g))
-        (all-fair n (next memory area d) (good-on d g)),
+  all-fair : (n : ℕ) (d : Device) (a : Areas) → Good d → a .kept ≡ imageOf d → AllFair WhileHeld (turnsOn n d) a
+  all-fair zero d a g k = tt
+  all-fair (suc n) d a g k = (
+    λ e. lends memory area memory-right d g a k,
+    all-fair n (next memory area d) (left (turnOn memory area d) a) (good-on d g) (left-next memory area memory-right d g a),
   )
 
-  all-taken : (n : ℕ) (d : Device) → Good d → turnsIn (turnsOn n d) ≡ n
+  all-taken : (n : ℕ) (d : Device) → Good d → turns isTaken (turnsOn n d) ≡ n
   all-taken zero d g = refl
   all-taken (suc n) d g = rw (taken memory area memory-right d g, all-taken n (next memory area d) (good-on d g)) (omega arith)
 
@@ -211,13 +212,13 @@ module _ (k : Closed) where
       ∙ ap (λ (b : Bool). not (anySettles (turnOf (on memory area d) 0 .outcome .fates)) && b) (as-quiet n (next memory area d) (good-on d g))
 
 quiet-at : (before : List Lending) (report : ℕ) (a : Areas) (after : List Lending) → T (quietOn (before ++ (lending (turn report) a ∷ after)))
-    → anySettles (turnOf (worldIn a) report .outcome .fates) ≡ true → ⊥
+    → anySettles (turnOf (worldSaid a) report .outcome .fates) ≡ true → ⊥
 quiet-at [] report a after q =
-    not-settled (anySettles (turnOf (worldIn a) report .outcome .fates))
-    (and-left (not (anySettles (turnOf (worldIn a) report .outcome .fates))) (quietOn after) q)
+    not-settled (anySettles (turnOf (worldSaid a) report .outcome .fates))
+    (and-left (not (anySettles (turnOf (worldSaid a) report .outcome .fates))) (quietOn after) q)
 quiet-at (l ∷ ls) report a after q =
     quiet-at ls report a after
-    (and-right (not (anySettles (fatesAt (call (l .made)) (worldIn (l .lent))))) (quietOn (ls ++ (lending (turn report) a ∷ after))) q)
+    (and-right (not (anySettles (fatesAt (call (l .made)) (worldSaid (l .lent))))) (quietOn (ls ++ (lending (turn report) a ∷ after))) q)
 
 -- ---- the run
 
@@ -228,26 +229,30 @@ quiet-131 = tt
 device-good : Good device
 device-good = record { range = device-range; wide = device-wide }
 
-pub its-record : framesKept (imageOf device) ≡ frame ∷ []
+-- what stands at the start
+abbrev pub standing : Areas
+standing = lentOn memory area device
+
+pub its-record : framesKept (standing .kept) ≡ frame ∷ []
 unfolding device
 its-record = ap (λ (x : Found). heldIn (unitsBy x .ru)) (decode-image device device-wide device-range) ∙ its-frame
 
-unsettled : Closed → (n : ℕ) → Settled n frame (turnsOn 131 device) (imageOf device) → ⊥
+unsettled : Closed → (n : ℕ) → Settled n frame (turnsOn 131 device) standing → ⊥
 unsettled k n s =
     quiet-at (s .before) (s .report) (s .areas) (s .after)
     (subst (λ (ls : List Lending). T (quietOn ls)) (s .split) (subst T (sym (as-quiet k 131 device device-good)) quiet-131))
-    (one-settles (turnOf (worldIn (s .areas)) (s .report) .outcome .fates) (s .fate) (s .given) (s .settled))
+    (one-settles (turnOf (worldSaid (s .areas)) (s .report) .outcome .fates) (s .fate) (s .given) (s .settled))
 
 -- 132 is exact on the calls: with any smaller number the statement is false
 pub exact : Closed → (n : ℕ) → n < 132 → Within n → ⊥
 exact k n l h =
-    unsettled k n (h (imageOf device) frame (turnsOn 131 device) its-record (all-fair k 131 device device-good)
+    unsettled k n (h standing frame (turnsOn 131 device) its-record (all-fair k 131 device standing device-good refl)
     (rw (all-taken k 131 device device-good) (omega (arith, l))))
 
 -- the premises can be met
-pub met : Closed → Settled 132 frame (turnsOn 132 device) (imageOf device)
+pub met : Closed → Settled 132 frame (turnsOn 132 device) standing
 met k =
-    held-frame k (imageOf device) frame (turnsOn 132 device) its-record (all-fair k 132 device device-good)
+    held-frame k standing frame (turnsOn 132 device) its-record (all-fair k 132 device standing device-good refl)
     (rw (all-taken k 132 device device-good) (lit≤ tt))
 
 -- ---- and met among refusals, with another memory of another size and other areas at each call
@@ -293,51 +298,43 @@ right-at n =
     }
 
 -- a refused call may stand anywhere
-fair-refused : (l : Lending) (ls : List Lending) (r : List ℕ) → isAccepted l ≡ false → AllFair ls r → AllFair (l ∷ ls) r
-fair-refused l ls r e y = (
-  record {
-    bytes = λ t. absurd (false≢true (sym e ∙ t));
-    kept = λ t. absurd (false≢true (sym e ∙ t));
-    calm = λ t. absurd (false≢true (sym e ∙ t));
-  },
-  subst (λ (q : List ℕ). AllFair ls q) (sym (ap (λ (b : Bool). keptAfter b (called (l .made) (l .lent)) r) e)) y,
-)
+fair-refused : (l : Lending) (ls : List Lending) (a : Areas) → refusedAt l ≡ true → AllFair WhileHeld ls a → AllFair WhileHeld (l ∷ ls) a
+fair-refused l ls a e y = (λ t. absurd (true≢false (sym e ∙ t)), rw e y)
 
-turns-refused : (l : Lending) (ls : List Lending) → isAccepted l ≡ false → turnsIn (l ∷ ls) ≡ turnsIn ls
-turns-refused l ls e = ap (λ (b : Bool). bit (b && isTurn (call (l .made))) + turnsIn ls) e ∙ omega arith
+turns-refused : (l : Lending) (ls : List Lending) → refusedAt l ≡ true → turns isTaken (l ∷ ls) ≡ turns isTaken ls
+turns-refused l ls e = ap (λ (b : Bool). bit (not b && isTurn (call (l .made))) + turns isTaken ls) e ∙ omega arith
 
-no-memory : isAccepted attended ≡ false
+no-memory : refusedAt attended ≡ true
 unfolding attentionCall refusalOf sizeAllowed answerNumber
 no-memory = refl
 
-no-record : isAccepted renewed ≡ false
+no-record : refusedAt renewed ≡ true
 unfolding resetCall answerNumber
 no-record = refl
 
-no-image : isAccepted turned ≡ false
+no-image : refusedAt turned ≡ true
 unfolding memory passes sizeAllowed ones turnCall refusalOf areasRight answerNumber decodeOf decodeFull shaped headShaped places.field places.bytesFrom
 no-image = refl
 
-among-fair : (ls : List Lending) (r : List ℕ) → AllFair ls r → AllFair (refusals ls) r
-among-fair ls r y =
-    fair-refused attended (renewed ∷ turned ∷ ls) r no-memory
-    (fair-refused renewed (turned ∷ ls) r no-record (fair-refused turned ls r no-image y))
+among-fair : (ls : List Lending) (a : Areas) → AllFair WhileHeld ls a → AllFair WhileHeld (refusals ls) a
+among-fair ls a y =
+    fair-refused attended (renewed ∷ turned ∷ ls) a no-memory
+    (fair-refused renewed (turned ∷ ls) a no-record (fair-refused turned ls a no-image y))
 
-among-turns : (ls : List Lending) → turnsIn (refusals ls) ≡ turnsIn ls
+among-turns : (ls : List Lending) → turns isTaken (refusals ls) ≡ turns isTaken ls
 among-turns ls =
     turns-refused attended (renewed ∷ turned ∷ ls) no-memory ∙ turns-refused renewed (turned ∷ ls) no-record ∙ turns-refused turned ls no-image
 
 module _ (k : Closed) where
-  restless-fair : (n : ℕ) (d : Device) → Good d → AllFair (restless n d) (imageOf d)
-  restless-fair zero d g = tt
-  restless-fair (suc n) d g =
+  restless-fair : (n : ℕ) (d : Device) (a : Areas) → Good d → a .kept ≡ imageOf d → AllFair WhileHeld (restless n d) a
+  restless-fair zero d a g e = tt
+  restless-fair (suc n) d a g e =
       let m = memoryAt n in
       let h = areaAt n in
-      let x = restless-fair n (next m h d) (good-next k m h (right-at n) d g) in
-      among-fair (turnOn m h d ∷ restless n (next m h d)) (imageOf d)
-      (fair m h (right-at n) d g, subst (λ (r : List ℕ). AllFair (restless n (next m h d)) r) (sym (kept-next m h (right-at n) d g)) x)
+      let x = restless-fair n (next m h d) (left (turnOn m h d) a) (good-next k m h (right-at n) d g) (left-next m h (right-at n) d g a) in
+      among-fair (turnOn m h d ∷ restless n (next m h d)) a (λ z. lends m h (right-at n) d g a e, x)
 
-  restless-turns : (n : ℕ) (d : Device) → Good d → turnsIn (restless n d) ≡ n
+  restless-turns : (n : ℕ) (d : Device) → Good d → turns isTaken (restless n d) ≡ n
   restless-turns zero d g = refl
   restless-turns (suc n) d g =
       let m = memoryAt n in
@@ -345,7 +342,7 @@ module _ (k : Closed) where
       among-turns (turnOn m h d ∷ restless n (next m h d))
       ∙ rw (taken m h (right-at n) d g, restless-turns n (next m h d) (good-next k m h (right-at n) d g)) (omega arith)
 
-pub met-restless : Closed → Settled 132 frame (restless 132 device) (imageOf device)
+pub met-restless : Closed → Settled 132 frame (restless 132 device) standing
 met-restless k =
-    held-frame k (imageOf device) frame (restless 132 device) its-record (restless-fair k 132 device device-good)
+    held-frame k standing frame (restless 132 device) its-record (restless-fair k 132 device standing device-good refl)
     (rw (restless-turns k 132 device device-good) (lit≤ tt))

@@ -7,4 +7,3 @@ pub mod OnRecords
 pub mod Effects
 pub mod Lending
 pub mod Calls
-pub mod Runs

@@ -30,17 +30,16 @@ use Rattle.chip.specs.Arrival.{arrivalOf}
 use Rattle.chip.specs.Call.{Call, reset, attention, arrive, turn, ran}
 use Rattle.chip.specs.Turn.{turnOf}
 use Rattle.calls.specs.Calls.{Areas, Called, answerNumber, isImage, refusalOf, onBytes, calledOn, calledBy, arrivalCall, turnCall}
-use Rattle.traces.specs.Event.{call, step, isTurn, isCalm}
-use Rattle.traces.specs.Bytes.{called, isRefused}
-use Rattle.progress.specs.Machine.{turns}
-use Rattle.progress.specs.Holder.{Holder, Went, ended, goes, Stays, Mays}
-use Rattle.progress.specs.Holder.{run, Ends}
+use Rattle.progress.specs.Trace.{run, turns}
+use Rattle.progress.specs.Holder.{Holder, Went, ended, goes, Stays, Ends}
 use Rattle.progress.specs.Holder as ending
-use Rattle.closure.specs.Driven.{Lending, lending}
+use Rattle.traces.specs.Bytes.{called, isRefused}
+use Rattle.traces.specs.Event.{call, step, isTurn, WhileHeld}
+use Rattle.traces.specs.Areas.{FrameBytes, AreBytes, unitsBy, unitsIn, worldSaid}
+use Rattle.traces.specs.Driven.{Lending, lending, refusedAt, leftBy, left, isTaken, Lends, Fair, AllFair}
 use Rattle.held.specs.Held.{framesIn, isToHold}
 use Rattle.held.specs.Held as held
-use Rattle.held.specs.OnRecords.{unitsBy, unitsOf, framesKept, isAccepted, worldIn, keptAfter, stepKept, isTaken, fatesBy, fatesAt}
-use Rattle.held.specs.OnRecords.{turnsIn, frameBytes, AreBytes, Fair, AllFair, Holds, Settled, Within}
+use Rattle.held.specs.OnRecords.{framesKept, fatesBy, fatesAt, Holds, Settled, Within}
 use Rattle.progress.proofs.Holder.{ends-within}
 use Rattle.held.proofs.Service.{leftOf, left-positive, left-most}
 use Rattle.held.proofs.Turn.{isReceiving}
@@ -51,8 +50,8 @@ use Rattle.held.proofs.Held.{Note, notes, a-note, no-note, holder, hold
 
 -- the record is the image of the state that it says, and the call leaves what the definition leaves
 pub record Taken (run : World → Ran) (a : Areas) (c : Called) : Type 0 where
-  pub decoded : decodeOf (a .kept) ≡ is.Units (unitsOf (a .kept))
-  pub leaves : c ≡ onBytes (run (worldIn a))
+  pub decoded : decodeOf (a .kept) ≡ is.Units (unitsIn (a .kept))
+  pub leaves : c ≡ onBytes (run (worldSaid a))
 
 taken-on : (d : Found) (run : World → Ran) (a : Areas) → decodeOf (a .kept) ≡ d → isRefused (calledOn run a d) ≡ false
     → Taken run a (calledOn run a (decodeOf (a .kept)))
@@ -72,7 +71,7 @@ not-refused : (b : Bool) → not b ≡ true → b ≡ false
 not-refused true e = absurd (false≢true e)
 not-refused false e = refl
 
-taken : (c : Call) (a : Areas) → isRefused (called c a) ≡ false → isCalm (call c) ≡ true → Taken (ran c) a (called c a)
+taken : (c : Call) (a : Areas) → isRefused (called c a) ≡ false → WhileHeld (call c) (worldSaid a) → Taken (ran c) a (called c a)
 unfolding arrivalCall turnCall
 taken reset a n y = absurd (false≢true y)
 taken attention a n y = absurd (false≢true y)
@@ -90,12 +89,12 @@ long : (r : List ℕ) (u : Units) → decodeOf r ≡ is.Units u → length r ≡
 long r u e = eqb-true (length r) 256 (long-by (eqb (length r) recordSize) r u refl e)
 
 -- the world of the areas has the units of the record
-pub units-in : (a : Areas) → worldIn a .device .units ≡ unitsOf (a .kept)
+pub units-in : (a : Areas) → worldSaid a .device .units ≡ unitsIn (a .kept)
 unfolding deviceAt deviceFrom
 units-in a = refl
 
-image : (l : Lending) → AreBytes l → decodeOf (l .lent .kept) ≡ is.Units (unitsOf (l .lent .kept)) → Image (l .lent .kept) (unitsOf (l .lent .kept))
-image l b e = exact (l .lent .kept) (long (l .lent .kept) _ e) (b .kept) (unitsOf (l .lent .kept)) e
+image : (a : Areas) → AreBytes a → decodeOf (a .kept) ≡ is.Units (unitsIn (a .kept)) → Image (a .kept) (unitsIn (a .kept))
+image a b e = exact (a .kept) (long (a .kept) _ e) (b .kept) (unitsIn (a .kept)) e
 
 -- a state in range holds no frame but a good one or one to be saved
 frame-to-hold : (f : Frame) → frameFits f ≡ true → isToHold f ≡ true
@@ -131,81 +130,80 @@ to-hold d f e h =
 
 abbrev pub Closed : Type 0
 Closed =
-    (c : Call) (w : World) → frameBytes c → inRange (w .device) ≡ true → Wide (w .device)
+    (c : Call) (w : World) → FrameBytes c → inRange (w .device) ≡ true → Wide (w .device)
     → Bytes (w .memory) → Bytes (w .holding) → Bytes (w .outgoing)
     → (inRange (ran c w .outcome .device) ≡ true) × Wide (ran c w .outcome .device)
 
 -- the units that the record says after an accepted call are those that the definition leaves
-units-left : Closed → (l : Lending) → isAccepted l ≡ true → AreBytes l → isCalm (call (l .made)) ≡ true
-    → unitsOf (called (l .made) (l .lent) .areas .kept) ≡ step (call (l .made)) (worldIn (l .lent)) .device .units
-units-left k l e b y =
-    let a = l .lent in
-    let t = taken (l .made) a (not-refused (isRefused (called (l .made) a)) e) y in
-    let i = image l b (t .decoded) in
-    let c = k (l .made) (worldIn a) (b .frame) (i .range) (i .wide) (b .memory) (b .holding) (b .outgoing) in
-    let d : Device = ran (l .made) (worldIn a) .outcome .device in
-    ap (λ (x : Called). unitsOf (x .areas .kept)) (t .leaves) ∙ ap unitsBy (decode-image d (c .1) (c .0))
+units-left : Closed → (l : Lending) (a : Areas) → refusedAt l ≡ false → Lends WhileHeld l a
+    → unitsIn (called (l .made) (l .lent) .areas .kept) ≡ step (call (l .made)) (worldSaid (l .lent)) .device .units
+units-left k l a e h =
+    let x = l .lent in
+    let b = h .bytes in
+    let t = taken (l .made) x e (h .may) in
+    let i = image x b (t .decoded) in
+    let c = k (l .made) (worldSaid x) (h .frame) (i .range) (i .wide) (b .memory) (b .holding) (b .outgoing) in
+    let d : Device = ran (l .made) (worldSaid x) .outcome .device in
+    ap (λ (x : Called). unitsIn (x .areas .kept)) (t .leaves) ∙ ap unitsBy (decode-image d (c .1) (c .0))
 
-units-after : Closed → (l : Lending) (r : List ℕ) → Fair l r → isAccepted l ≡ true
-    → unitsOf (stepKept l r) ≡ step (call (l .made)) (worldIn (l .lent)) .device .units
-units-after k l r h e =
-    ap (λ (x : Bool). unitsOf (keptAfter x (called (l .made) (l .lent)) r)) e ∙ units-left k l e (h .bytes e) (h .calm e)
+units-after : Closed → (l : Lending) (a : Areas) → Fair WhileHeld l a → refusedAt l ≡ false
+    → unitsIn (left l a .kept) ≡ step (call (l .made)) (worldSaid (l .lent)) .device .units
+units-after k l a h e = ap (λ (x : Bool). unitsIn (leftBy x l a .kept)) e ∙ units-left k l a e (h e)
 
 -- ---- the record as a machine
 
 abbrev pub keeper : Holder
 keeper =
     record {
-      S = List ℕ;
+      S = Areas;
       E = Lending;
-      step = stepKept;
-      may = Fair;
-      isTurn = λ l r. isTaken l;
-      held = λ r. isHolding (unitsOf r .ru);
-      served = λ r. isReceiving (unitsOf r);
-      last = λ r. unitsOf r .rulast;
-      left = λ r. leftOf (unitsOf r .ru);
+      step = left;
+      isTurn = isTaken;
+      held = λ a. isHolding (unitsIn (a .kept) .ru);
+      served = λ a. isReceiving (unitsIn (a .kept));
+      last = λ a. unitsIn (a .kept) .rulast;
+      left = λ a. leftOf (unitsIn (a .kept) .ru);
       O = Note;
-      ends = λ l r. notes (fatesAt l) (framesKept r);
+      ends = λ l a. notes (fatesAt l) (framesKept (a .kept));
       F = List Frame;
-      frame = framesKept;
+      frame = λ a. framesKept (a .kept);
       of = λ n. n .frames;
     }
 
 -- a call on a record beside an event on a world
-record Beside (l : Lending) (r : List ℕ) (w : World) : Type 0 where
-  now : unitsOf r ≡ w .device .units
-  then : unitsOf (stepKept l r) ≡ step (call (l .made)) w .device .units
+record Beside (l : Lending) (a : Areas) (w : World) : Type 0 where
+  now : unitsIn (a .kept) ≡ w .device .units
+  then : unitsIn (left l a .kept) ≡ step (call (l .made)) w .device .units
   fates : fatesAt l ≡ held.fatesAt (call (l .made)) w
 
-beside : Closed → (l : Lending) (r : List ℕ) → Fair l r → isAccepted l ≡ true → Beside l r (worldIn (l .lent))
-beside k l r h e =
+beside : Closed → (l : Lending) (a : Areas) → Fair WhileHeld l a → refusedAt l ≡ false → Beside l a (worldSaid (l .lent))
+beside k l a h e =
     record {
-      now = ap unitsOf (sym (h .kept e)) ∙ sym (units-in (l .lent));
-      then = units-after k l r h e;
-      fates = ap (λ (x : Bool). fatesBy x (l .made) (worldIn (l .lent))) e;
+      now = ap unitsIn (sym (h e .kept)) ∙ sym (units-in (l .lent));
+      then = units-after k l a h e;
+      fates = ap (λ (x : Bool). fatesBy x (l .made) (worldSaid (l .lent))) e;
     }
 
-module _ {l : Lending} {r : List ℕ} {w : World} (b : Beside l r w) where
+module _ {l : Lending} {a : Areas} {w : World} (b : Beside l a w) where
   -- what is noted, and any fact of the units, now and then
-  noted : notes (fatesAt l) (framesKept r) ≡ notes (held.fatesAt (call (l .made)) w) (framesIn w)
+  noted : notes (fatesAt l) (framesKept (a .kept)) ≡ notes (held.fatesAt (call (l .made)) w) (framesIn w)
   noted =
-      ap (λ (φs : List Fate). notes φs (framesKept r)) (b .fates)
+      ap (λ (φs : List Fate). notes φs (framesKept (a .kept))) (b .fates)
       ∙ ap (λ (u : Units). notes (held.fatesAt (call (l .made)) w) (heldIn (u .ru))) (b .now)
 
-  at-now : {X : Type 0} (f : Units → X) → f (unitsOf r) ≡ f (w .device .units)
+  at-now : {X : Type 0} (f : Units → X) → f (unitsIn (a .kept)) ≡ f (w .device .units)
   at-now f = ap f (b .now)
 
-  at-then : {X : Type 0} (f : Units → X) → f (unitsOf (stepKept l r)) ≡ f (step (call (l .made)) w .device .units)
+  at-then : {X : Type 0} (f : Units → X) → f (unitsIn (left l a .kept)) ≡ f (step (call (l .made)) w .device .units)
   at-then f = ap f (b .then)
 
-  went : Went holder (call (l .made)) w → Went keeper l r
+  went : Went holder (call (l .made)) w → Went keeper l a
   went (ended o e f) = ended o (noted ∙ e) (f ∙ sym (at-now (λ u. heldIn (u .ru))))
   went (goes z h f d t) =
       goes (noted ∙ z) (at-then (λ u. isHolding (u .ru)) ∙ h) (at-then (λ u. heldIn (u .ru)) ∙ f ∙ sym (at-now (λ u. heldIn (u .ru))))
       (omega (arith, d, at-then (λ u. leftOf (u .ru)), at-now (λ u. leftOf (u .ru)))) (at-then (λ u. u .rulast) ∙ t)
 
-  stays : Stays holder (call (l .made)) w → Stays keeper l r
+  stays : Stays holder (call (l .made)) w → Stays keeper l a
   stays s =
       record {
         none = noted ∙ s .none;
@@ -221,125 +219,120 @@ second-false true b e f = f
 second-false false b e f = absurd (false≢true e)
 
 -- a refused call does nothing
-refused-stays : (l : Lending) (r : List ℕ) → isAccepted l ≡ false → isHolding (unitsOf r .ru) ≡ true
-    → Stays keeper l r × (unitsOf (stepKept l r) .rulast ≡ unitsOf r .rulast)
-refused-stays l r e h =
-    let c = called (l .made) (l .lent) in
-    let same : stepKept l r ≡ r = ap (λ (x : Bool). keptAfter x c r) e in (
+refused-stays : (l : Lending) (a : Areas) → refusedAt l ≡ true → isHolding (unitsIn (a .kept) .ru) ≡ true
+    → Stays keeper l a × (unitsIn (left l a .kept) .rulast ≡ unitsIn (a .kept) .rulast)
+refused-stays l a e h =
+    let same : left l a .kept ≡ a .kept = ap (λ (x : Bool). leftBy x l a .kept) e in (
       record {
-        none = ap (λ (x : Bool). notes (fatesBy x (l .made) (worldIn (l .lent))) (framesKept r)) e;
-        holds = ap (λ (q : List ℕ). isHolding (unitsOf q .ru)) same ∙ h;
+        none = ap (λ (x : Bool). notes (fatesBy x (l .made) (worldSaid (l .lent))) (framesKept (a .kept))) e;
+        holds = ap (λ (q : List ℕ). isHolding (unitsIn q .ru)) same ∙ h;
         same = ap framesKept same;
-        count = ap (λ (q : List ℕ). leftOf (unitsOf q .ru)) same;
+        count = ap (λ (q : List ℕ). leftOf (unitsIn q .ru)) same;
       },
-      ap (λ (q : List ℕ). unitsOf q .rulast) same,
+      ap (λ (q : List ℕ). unitsIn q .rulast) same,
     )
 
 module _ (k : Closed) where
-  serve : (l : Lending) (r : List ℕ) → Fair l r → isHolding (unitsOf r .ru) ≡ true → isTaken l ≡ true → isReceiving (unitsOf r) ≡ true
-      → Went keeper l r
-  serve l r y h t v =
-      let s = both (isAccepted l) (isTurn (call (l .made))) t in
-      let b = beside k l r y (s .0) in
-      went b (states.laws .serve (call (l .made)) (worldIn (l .lent)) (y .calm (s .0)) (sym (at-now b (λ u. isHolding (u .ru))) ∙ h) (s .1)
+  serve : (l : Lending) (a : Areas) → Fair WhileHeld l a → isHolding (unitsIn (a .kept) .ru) ≡ true → isTaken l ≡ true
+      → isReceiving (unitsIn (a .kept)) ≡ true → Went keeper l a
+  serve l a y h t v =
+      let s = both (not (refusedAt l)) (isTurn (call (l .made))) t in
+      let e = not-refused (refusedAt l) (s .0) in
+      let b = beside k l a y e in
+      went b (states.laws .serve (call (l .made)) (worldSaid (l .lent)) (y e .may) (sym (at-now b (λ u. isHolding (u .ru))) ∙ h) (s .1)
       (sym (at-now b isReceiving) ∙ v))
 
-  pass : (l : Lending) (r : List ℕ) → Fair l r → isHolding (unitsOf r .ru) ≡ true → isTaken l ≡ true → isReceiving (unitsOf r) ≡ false
-      → Stays keeper l r × (unitsOf r .rulast ≡ true) × (unitsOf (stepKept l r) .rulast ≡ false)
-  pass l r y h t v =
-      let s = both (isAccepted l) (isTurn (call (l .made))) t in
-      let b = beside k l r y (s .0) in
-      let p = states.laws .pass (call (l .made)) (worldIn (l .lent)) (y .calm (s .0)) (sym (at-now b (λ u. isHolding (u .ru))) ∙ h) (s .1)
+  pass : (l : Lending) (a : Areas) → Fair WhileHeld l a → isHolding (unitsIn (a .kept) .ru) ≡ true → isTaken l ≡ true
+      → isReceiving (unitsIn (a .kept)) ≡ false
+      → Stays keeper l a × (unitsIn (a .kept) .rulast ≡ true) × (unitsIn (left l a .kept) .rulast ≡ false)
+  pass l a y h t v =
+      let s = both (not (refusedAt l)) (isTurn (call (l .made))) t in
+      let e = not-refused (refusedAt l) (s .0) in
+      let b = beside k l a y e in
+      let p = states.laws .pass (call (l .made)) (worldSaid (l .lent)) (y e .may) (sym (at-now b (λ u. isHolding (u .ru))) ∙ h) (s .1)
       (sym (at-now b isReceiving) ∙ v) in
       (stays b (p .0), at-now b (λ u. u .rulast) ∙ p .1, at-then b (λ u. u .rulast) ∙ p .2)
 
-  between-by : (x : Bool) (l : Lending) (r : List ℕ) → isAccepted l ≡ x → Fair l r → isHolding (unitsOf r .ru) ≡ true → isTaken l ≡ false
-      → Stays keeper l r × (unitsOf (stepKept l r) .rulast ≡ unitsOf r .rulast)
-  between-by false l r x y h t = refused-stays l r x h
-  between-by true l r x y h t =
-      let b = beside k l r y x in
-      let p = states.laws .between (call (l .made)) (worldIn (l .lent)) (y .calm x) (sym (at-now b (λ u. isHolding (u .ru))) ∙ h)
-      (second-false (isAccepted l) (isTurn (call (l .made))) x t) in
+  between-by : (x : Bool) (l : Lending) (a : Areas) → refusedAt l ≡ x → Fair WhileHeld l a → isHolding (unitsIn (a .kept) .ru) ≡ true
+      → isTaken l ≡ false → Stays keeper l a × (unitsIn (left l a .kept) .rulast ≡ unitsIn (a .kept) .rulast)
+  between-by true l a x y h t = refused-stays l a x h
+  between-by false l a x y h t =
+      let b = beside k l a y x in
+      let p = states.laws .between (call (l .made)) (worldSaid (l .lent)) (y x .may) (sym (at-now b (λ u. isHolding (u .ru))) ∙ h)
+      (second-false (not (refusedAt l)) (isTurn (call (l .made))) (ap not x) t) in
       (stays b (p .0), at-then b (λ u. u .rulast) ∙ p .1 ∙ sym (at-now b (λ u. u .rulast)))
 
-  laws : ending.Laws keeper
+  laws : ending.Laws keeper (Fair WhileHeld)
   laws =
       record {
-        positive = λ r. left-positive (unitsOf r .ru);
+        positive = λ a. left-positive (unitsIn (a .kept) .ru);
         serve = serve;
         pass = pass;
-        between = λ l r. between-by (isAccepted l) l r refl;
+        between = λ l a. between-by (refusedAt l) l a refl;
       }
 
 -- ---- the statement
 
-turns-in : (ls : List Lending) (r : List ℕ) → turns (λ l r. isTaken l) stepKept ls r ≡ turnsIn ls
-turns-in [] r = refl
-turns-in (l ∷ ls) r = rw (turns-in ls (stepKept l r))
+fair-at : (before : List Lending) (l : Lending) (after : List Lending) (a : Areas) → AllFair WhileHeld (before ++ (l ∷ after)) a
+    → Fair WhileHeld l (run left before a)
+fair-at [] l after a y = y .0
+fair-at (b ∷ bs) l after a y = fair-at bs l after (left b a) (y .1)
 
-fair : (ls : List Lending) (r : List ℕ) → AllFair ls r → Mays keeper ls r
-fair [] r y = tt
-fair (l ∷ ls) r y = (y .0, fair ls (stepKept l r) (y .1))
+all-along : (f : Frame) (ls : List Lending) (a : Areas) → ending.Holds keeper (f ∷ []) ls a → Holds f ls a
+all-along f [] a h = h .1
+all-along f (l ∷ ls) a h =
+    (h .0 .1, no-note (fatesAt l) (framesKept (a .kept)) (h .1), all-along f ls (left l a) (h .2))
 
-fair-at : (before : List Lending) (l : Lending) (after : List Lending) (r : List ℕ) → AllFair (before ++ (l ∷ after)) r → Fair l (run stepKept before r)
-fair-at [] l after r y = y .0
-fair-at (b ∷ bs) l after r y = fair-at bs l after (stepKept b r) (y .1)
+pub kept-last : (f : Frame) (ls : List Lending) (a : Areas) → Holds f ls a → framesKept (run left ls a .kept) ≡ f ∷ []
+kept-last f [] a h = h
+kept-last f (l ∷ ls) a h = kept-last f ls (left l a) (h .2)
 
-all-along : (f : Frame) (ls : List Lending) (r : List ℕ) → ending.Holds keeper (f ∷ []) ls r → Holds f ls r
-all-along f [] r h = h .1
-all-along f (l ∷ ls) r h = (h .0 .1, no-note (fatesAt l) (framesKept r) (h .1), all-along f ls (stepKept l r) (h .2))
-
-pub kept-last : (f : Frame) (ls : List Lending) (r : List ℕ) → Holds f ls r → framesKept (run stepKept ls r) ≡ f ∷ []
-kept-last f [] r h = h
-kept-last f (l ∷ ls) r h = kept-last f ls (stepKept l r) (h .2)
-
-settle : Closed → (n : ℕ) (f : Frame) (ls : List Lending) (r : List ℕ) (before : List Lending) (c : Call) (a : Areas) (after : List Lending)
-    → AllFair ls r → ls ≡ before ++ (lending c a ∷ after) → turnsIn before < n → Holds f before r
-    → isAccepted (lending c a) ≡ true → isTurn (call c) ≡ true → (φ : Fate) → fatesAt (lending c a) ≡ φ ∷ [] → Settled n f ls r
-settle k n f ls r before reset a after y s l h e i φ g = absurd (false≢true i)
-settle k n f ls r before attention a after y s l h e i φ g = absurd (false≢true i)
-settle k n f ls r before (arrive x v) a after y s l h e i φ g = absurd (false≢true i)
-settle k n f ls r before (turn report) a after y s l h e i φ g =
-    let x = lending (turn report) a in
-    let y′ : Fair x (run stepKept before r) = fair-at before x after r (rw s at y) in
-    let b = y′ .bytes e in
-    let t = taken (turn report) a (not-refused (isRefused (turnCall a report)) e) refl in
-    let m = image x b (t .decoded) in
-    let now : framesIn (worldIn a) ≡ f ∷ [] =
-    ap (λ (u : Units). heldIn (u .ru)) (units-in a) ∙ ap framesKept (y′ .kept e) ∙ kept-last f before r h in
-    let given : turnOf (worldIn a) report .outcome .fates ≡ φ ∷ [] = sym (ap (λ (q : Bool). fatesBy q (turn report) (worldIn a)) e) ∙ g in
-    let z = states.end-turn (worldIn a) report f φ now (to-hold (worldIn a .device) f (m .range) now) given in
+settle : Closed → (n : ℕ) (f : Frame) (ls : List Lending) (a : Areas) (before : List Lending) (c : Call) (x : Areas) (after : List Lending)
+    → AllFair WhileHeld ls a → ls ≡ before ++ (lending c x ∷ after) → turns isTaken before < n → Holds f before a
+    → refusedAt (lending c x) ≡ false → isTurn (call c) ≡ true → (φ : Fate) → fatesAt (lending c x) ≡ φ ∷ [] → Settled n f ls a
+settle k n f ls a before reset x after y s l h e i φ g = absurd (false≢true i)
+settle k n f ls a before attention x after y s l h e i φ g = absurd (false≢true i)
+settle k n f ls a before (arrive b v) x after y s l h e i φ g = absurd (false≢true i)
+settle k n f ls a before (turn report) x after y s l h e i φ g =
+    let t = lending (turn report) x in
+    let z : Lends WhileHeld t (run left before a) = fair-at before t after a (rw s at y) e in
+    let u = taken (turn report) x e refl in
+    let m = image x (z .bytes) (u .decoded) in
+    let now : framesIn (worldSaid x) ≡ f ∷ [] =
+    ap (λ (u : Units). heldIn (u .ru)) (units-in x) ∙ ap framesKept (z .kept) ∙ kept-last f before a h in
+    let given : turnOf (worldSaid x) report .outcome .fates ≡ φ ∷ [] = sym (ap (λ (q : Bool). fatesBy q (turn report) (worldSaid x)) e) ∙ g in
+    let end = states.end-turn (worldSaid x) report f φ now (to-hold (worldSaid x .device) f (m .range) now) given in
     record {
       before = before;
       report = report;
-      areas = a;
+      areas = x;
       after = after;
       split = s;
       soon = l;
       holds = h;
       accepted = e;
-      kept = y′ .kept e;
-      leaves = t .leaves;
+      kept = z .kept;
+      leaves = u .leaves;
       fate = φ;
       given = given;
-      settled = z .0;
-      free = ap (λ (u : Units). heldIn (u .ru)) (units-left k x e b refl) ∙ z .1;
+      settled = end .0;
+      free = ap (λ (u : Units). heldIn (u .ru)) (units-left k t (run left before a) e z) ∙ end .1;
     }
 
-settled : Closed → (n : ℕ) (f : Frame) (ls : List Lending) (r : List ℕ) → AllFair ls r → Ends keeper n (f ∷ []) ls r → Settled n f ls r
-settled k n f ls r y s =
+settled : Closed → (n : ℕ) (f : Frame) (ls : List Lending) (a : Areas) → AllFair WhileHeld ls a → Ends keeper n (f ∷ []) ls a → Settled n f ls a
+settled k n f ls a y s =
     let l = s .event in
-    let b = both (isAccepted l) (isTurn (call (l .made))) (s .turned) in
-    settle k n f ls r (s .before) (l .made) (l .lent) (s .after) y (s .split) (rw (turns-in (s .before) r) at (s .soon))
-    (all-along f (s .before) r (s .holds)) (b .0) (b .1)
-    (s .note .fate) (a-note (fatesAt l) (framesKept (run stepKept (s .before) r)) (s .note) (s .noted))
+    let b = both (not (refusedAt l)) (isTurn (call (l .made))) (s .turned) in
+    settle k n f ls a (s .before) (l .made) (l .lent) (s .after) y (s .split) (s .soon) (all-along f (s .before) a (s .holds))
+    (not-refused (refusedAt l) (b .0)) (b .1) (s .note .fate)
+    (a-note (fatesAt l) (framesKept (run left (s .before) a .kept)) (s .note) (s .noted))
 
 -- twice the services that a held frame can take are enough
 pub within : Closed → (n : ℕ) → 132 ≤ n → Within n
-within k n m r f ls e y l =
-    settled k n f ls r y
-    (rw e at (ends-within keeper (laws k) n ls r (fair ls r y) (holding (unitsOf r .ru) f e)
-    (omega (arith, m, left-most (unitsOf r .ru))) (rw (turns-in ls r) l)))
+within k n m a f ls e y l =
+    settled k n f ls a y
+    (rw e at (ends-within keeper (Fair WhileHeld) (laws k) n ls a y (holding (unitsIn (a .kept) .ru) f e)
+    (omega (arith, m, left-most (unitsIn (a .kept) .ru))) l))
 
 -- demand 3, on the calls: a held frame is stored or counted within 132 turns that are not refused
 pub held-frame : Closed → Within 132

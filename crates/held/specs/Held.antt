@@ -2,7 +2,7 @@
 use mathlib.Core.Path.{_≡_}
 use mathlib.Core.Bool.{Bool, true, _||_}
 use mathlib.Core.List.{List, [], _∷_, _++_}
-use Prim.Native.Nat.{ℕ, _+_, _≤_, _<_}
+use Prim.Native.Nat.{ℕ, _≤_, _<_}
 use Rattle.device.specs.Answers.{counterOf, isStored, isCounter}
 use Rattle.device.specs.State.{heldIn, isGood}
 use Rattle.device.specs.declared.Fate.{Fate}
@@ -10,9 +10,8 @@ use Rattle.device.specs.declared.Frame.{Frame}
 use Rattle.chip.specs.World.{World, afterwards}
 use Rattle.chip.specs.Call.{reset, attention, arrive, turn}
 use Rattle.chip.specs.Turn.{turnOf}
-use Rattle.traces.specs.Event.{Event, call, host, step, isTurn, isCalm}
-use Rattle.progress.specs.Machine.{bit}
-use Rattle.progress.specs.Holder.{run}
+use Rattle.progress.specs.Trace.{run, AllMay, turns}
+use Rattle.traces.specs.Event.{Event, call, host, step, isTurn, WhileHeld}
 
 -- ---- the held frame
 
@@ -29,15 +28,6 @@ abbrev pub isSettled : Fate → Bool
 isSettled f = isStored f || isCounter (counterOf f)
 
 -- ---- a trace
-
-abbrev pub turnsIn : List Event → ℕ
-turnsIn [] = 0
-turnsIn (e ∷ es) = bit (isTurn e) + turnsIn es
-
--- no attention or reset comes
-abbrev pub Calm : List Event → Type 0
-Calm [] = Unit {0}
-Calm (e ∷ es) = (isCalm e ≡ true) × Calm es
 
 -- what an event makes of held frames: where no attention or reset comes, turns alone bring them to their end
 abbrev pub fatesAt : Event → World → List Fate
@@ -60,7 +50,7 @@ pub record Settled (n : ℕ) (f : Frame) (es : List Event) (w : World) : Type 0 
   pub report : ℕ
   pub after : List Event
   pub split : es ≡ before ++ (call (turn report) ∷ after)
-  pub soon : turnsIn before < n
+  pub soon : turns isTurn before < n
   pub holds : Holds f before w
   pub fate : Fate
   pub given : turnOf (run step before w) report .outcome .fates ≡ fate ∷ []
@@ -71,4 +61,5 @@ pub record Settled (n : ℕ) (f : Frame) (es : List Event) (w : World) : Type 0 
 -- the host makes of memory, of its size and of both areas before each call
 abbrev pub Within : ℕ → Type 0
 Within n =
-    (w : World) (f : Frame) (es : List Event) → framesIn w ≡ f ∷ [] → isToHold f ≡ true → Calm es → n ≤ turnsIn es → Settled n f es w
+    (w : World) (f : Frame) (es : List Event) → framesIn w ≡ f ∷ [] → isToHold f ≡ true → AllMay WhileHeld step es w → n ≤ turns isTurn es
+    → Settled n f es w

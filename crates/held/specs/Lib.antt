@@ -2,4 +2,3 @@
 pub mod Held
 pub mod OnRecords
 pub mod Effects
-pub mod Runs

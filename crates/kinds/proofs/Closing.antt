@@ -1,23 +1,14 @@
 -- Every state that a call leaves is in range: the premise of demand 3's proof holds, and ours has demand 3. Assumes nothing.
 use mathlib.Core.Path.{_≡_, _∙_}
 use mathlib.Core.Bool.{true}
-use Rattle.chip.specs.World.{World, afterwards}
-use Rattle.chip.specs.Call.{Call, reset, attention, arrive, turn, ran}
-use Rattle.closure.specs.Sound as closure
 use Rattle.closure.proofs.Closed.{closed}
 use Rattle.closure.proofs.Lengths.{lengths-kept}
-use Rattle.kinds.specs.Chips.{Chip, ours, Given, Meets}
+use Rattle.kinds.specs.Chips.{Chip, ours, Meets}
 use Rattle.kinds.specs.Closed.{Right, Closed}
 use Rattle.kinds.specs.Lists.{Demand3}
 use Rattle.kinds.specs.Kinds.{Wrong}
 use Rattle.kinds.proofs.Third as third
 use Rattle.kinds.proofs.Inspected as inspected
-
-fit : (c : Call) → Given c → closure.Fit c
-fit reset g = tt
-fit attention g = tt
-fit (arrive f v) g = g .0
-fit (turn report) g = tt
 
 pub closing : Closed
 closing =
@@ -25,19 +16,28 @@ closing =
       each =
           λ c w g f r.
           let s =
-          closed c w (fit c g)
-          (record { range = r .range; wide = r .wide; memory = r .memory-bytes; holding = r .holding-bytes; outgoing = r .outgoing-bytes })
+          closed c w (g .frame)
+          (record {
+            range = r .range;
+            wide = r .wide;
+            memory = r .areas .memory-bytes;
+            holding = r .areas .holding-bytes;
+            outgoing = r .areas .outgoing-bytes;
+          })
           in
           let l = lengths-kept c w in
           record {
-            size = rw (l .memory) (r .size);
-            holding = l .holding ∙ r .holding;
-            outgoing = l .outgoing ∙ r .outgoing;
+            areas =
+                record {
+                  size = rw (l .memory) (r .areas .size);
+                  holding = l .holding ∙ r .areas .holding;
+                  outgoing = l .outgoing ∙ r .areas .outgoing;
+                  memory-bytes = s .memory;
+                  holding-bytes = s .holding;
+                  outgoing-bytes = s .outgoing;
+                };
             wide = s .wide;
             range = s .range;
-            memory-bytes = s .memory;
-            holding-bytes = s .holding;
-            outgoing-bytes = s .outgoing;
           };
     }
 

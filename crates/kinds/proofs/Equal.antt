@@ -5,7 +5,7 @@ use Prim.Native.Nat.{ℕ}
 use Rattle.chip.specs.Call.{Call, reset, attention, arrive, turn}
 use Rattle.calls.specs.Calls.{Areas, areasOf, Called, Calls, Renewed, Renews, attentionCall, arrivalCall, turnCall}
 use Rattle.traces.specs.Bytes.{called}
-use Rattle.kinds.specs.Chips.{Chip, ours, Lent, Renewing, Says, Permits, Meets}
+use Rattle.kinds.specs.Chips.{Chip, ours, Handed, Renewing, Says, Permits, Meets}
 
 -- ---- of a promise as it stands in the code
 
@@ -55,7 +55,7 @@ one-outcome c a r s p q = permitted c a r p ∙ sym (permitted c a s q)
 pub ours-meets : Meets ours
 ours-meets = record { each = λ s c a l. permits c a }
 
-pub as-called : (chip : Chip) → Meets chip → (s : chip .Inner) (c : Call) (a : Areas) → Lent c a → chip .calls s c a ≡ called c a
+pub as-called : (chip : Chip) → Meets chip → (s : chip .Inner) (c : Call) (a : Areas) → Handed c a → chip .calls s c a ≡ called c a
 as-called chip p s c a l = permitted c a (chip .calls s c a) (p .each s c a l)
 
 -- areas, one by one

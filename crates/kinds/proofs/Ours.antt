@@ -18,10 +18,11 @@ use Rattle.chip.specs.World.{Ran, worldOf}
 use Rattle.chip.specs.Call.{Call, reset, attention, arrive, turn, ran}
 use Rattle.calls.specs.Calls.{Areas, Called, refused, onBytes, renewed, resetCall}
 use Rattle.traces.specs.Bytes.{called, number, sentLength, edge}
-use Rattle.kinds.specs.Chips.{Chip, ours, Lent, Meets}
-use Rattle.closure.specs.Refusals.{AreasRight, Holds, When, Untouched}
+use Rattle.kinds.specs.Chips.{Chip, ours, Handed, Meets}
+use Rattle.traces.specs.Areas.{Holds}
+use Rattle.closure.specs.Refusals.{AreasRight, FrameRight, When, Untouched}
 use Rattle.closure.proofs.Refusals.{table, some-line, untouched}
-use Rattle.kinds.specs.Demands.{FrameOk, Tabled, Demand1, Sound, lentOf, AsDefined, Demand2}
+use Rattle.kinds.specs.Demands.{Tabled, Demand1, Sound, lentOf, AsDefined, Demand2}
 use Rattle.kinds.proofs.Equal.{permits, ours-meets, as-called}
 use Rattle.kinds.proofs.Accepted.{accepted-call}
 
@@ -32,12 +33,12 @@ above : (n : ℕ) (b : Bool) → eqb n 0 ≡ b → 0 < n → not b ≡ true
 above n true e z = absurd (omega (arith, eqb-true n 0 e))
 above n false e z = refl
 
-pub called-tabled : (c : Call) (a : Areas) → Lent c a → Tabled c a (called c a)
+pub called-tabled : (c : Call) (a : Areas) → Handed c a → Tabled c a (called c a)
 called-tabled c a l =
     record {
-      known = some-line c a (l .kept);
-      given = λ k q. table c a (l .kept) k .1 q;
-      only = λ k q. table c a (l .kept) k .0 q;
+      known = some-line c a (l .areas .kept);
+      given = λ k q. table c a (l .areas .kept) k .1 q;
+      only = λ k q. table c a (l .areas .kept) k .0 q;
       refused = λ z. untouched c a (above (number (called c a .answer)) (eqb (number (called c a .answer)) 0) refl z);
     }
 
@@ -83,7 +84,7 @@ defined-kept : (x : Ran) (r : Called) → AsDefined x r → r ≡ onBytes x
 defined-kept x r p = rw (p .answer, p .memory, p .holding, p .outgoing, p .kept)
 
 module _ (chip : Chip) (one : Demand1 chip) (two : Demand2 chip) (s : chip .Inner) where
-  on-state : (c : Call) (a : Areas) → Lent c a → Allowed (length (a .memory)) → AreasRight a → FrameOk c → (d : Device) × Holds (a .kept) d
+  on-state : (c : Call) (a : Areas) → Handed c a → Allowed (length (a .memory)) → AreasRight a → FrameRight c → (d : Device) × Holds (a .kept) d
       → chip .calls s c a ≡ called c a
   on-state c a l n g f (d, i) =
       let m = a .memory in
@@ -92,18 +93,18 @@ module _ (chip : Chip) (one : Demand1 chip) (two : Demand2 chip) (s : chip .Inne
       in
       let at = lentOf (d) m (a .holding) (a .outgoing) in
       let same : a ≡ at = rw (i .image) in
-      let lent : Lent c at = rw (← same) l in
+      let lent : Handed c at = rw (← same) l in
       rw same
       (defined-kept _ _ (two .each s c (d) m (a .holding) (a .outgoing) k lent)
       ∙ sym (accepted-call (d) m (a .holding) (a .outgoing) c k))
 
-  accepting : (c : Call) (a : Areas) → Lent c a → When refusal.Accepted c a → chip .calls s c a ≡ called c a
+  accepting : (c : Call) (a : Areas) → Handed c a → When refusal.Accepted c a → chip .calls s c a ≡ called c a
   accepting reset a l p = defined-kept _ _ (two .renewed s a l (p .1 .0)) ∙ sym (reset-called a (p .1 .0))
-  accepting attention a l p = on-state attention a l (p .0) (p .1 .1) tt (p .3)
+  accepting attention a l p = on-state attention a l (p .0) (p .1 .1) (p .2) (p .3)
   accepting (arrive f v) a l p = on-state (arrive f v) a l (p .0) (p .1 .1) (p .2) (p .3)
-  accepting (turn report) a l p = on-state (turn report) a l (p .0) (p .1 .1) tt (p .3)
+  accepting (turn report) a l p = on-state (turn report) a l (p .0) (p .1 .1) (p .2) (p .3)
 
-  refusing : (c : Call) (a : Areas) (k : Refusal) → Lent c a → When k c a → 0 < refusalNumber k → chip .calls s c a ≡ called c a
+  refusing : (c : Call) (a : Areas) (k : Refusal) → Handed c a → When k c a → 0 < refusalNumber k → chip .calls s c a ≡ called c a
   refusing c a k l p n =
       let t = one .each s c a l in
       let u = called-tabled c a l in
@@ -111,7 +112,7 @@ module _ (chip : Chip) (one : Demand1 chip) (two : Demand2 chip) (s : chip .Inne
       let y = u .given k p in
       both-untouched a (chip .calls s c a) (called c a) (x ∙ sym y) (t .refused (rw x n)) (u .refused (rw y n))
 
-  either : (c : Call) (a : Areas) (k : Refusal) → Lent c a → When k c a → chip .calls s c a ≡ called c a
+  either : (c : Call) (a : Areas) (k : Refusal) → Handed c a → When k c a → chip .calls s c a ≡ called c a
   either c a refusal.Accepted l p = accepting c a l p
   either c a refusal.Memory l p = refusing c a refusal.Memory l p (omega arith)
   either c a refusal.Area l p = refusing c a refusal.Area l p (omega arith)

@@ -11,10 +11,10 @@ use Rattle.image.proofs.Exact.{fresh-range, fresh-wide}
 use Rattle.chip.specs.Call.{turn}
 use Rattle.calls.specs.Calls.{Areas, answerNumber}
 use Rattle.traces.specs.Bytes.{edge}
-use Rattle.kinds.specs.Chips.{Chip, run}
+use Rattle.kinds.specs.Chips.{Chip, chipRun}
 use Rattle.kinds.specs.Lists.{All, turnsOf}
 use Rattle.kinds.specs.Kinds.{RefusesAll, OneAnswer, MemoryAsLent, FirstOnly, anotherEdge, Invents}
-use Rattle.kinds.proofs.Witness.{zeros, area, sound-on, lent-on, idly, idle-answer}
+use Rattle.kinds.proofs.Witness.{zeros, area, attending, turning, sound-on, handed-on, idly, idle-answer}
 
 -- it leaves all as lent and answers n
 abbrev pub stub : ℕ → Chip
@@ -29,7 +29,7 @@ stub-constant n = record { answer = n; each = λ s c d m h out k l. refl }
 pub stub-as-lent : (n : ℕ) → MemoryAsLent (stub n)
 stub-as-lent n = record { each = λ s c d m h out k l. refl }
 
-stub-runs : (n : ℕ) (rs : List ℕ) (a : Areas) → run (stub n) tt (turnsOf rs) a ≡ a
+stub-runs : (n : ℕ) (rs : List ℕ) (a : Areas) → chipRun (stub n) tt (turnsOf rs) a ≡ a
 stub-runs n [] a = refl
 stub-runs n (r ∷ rs) a = stub-runs n rs a
 
@@ -55,8 +55,8 @@ stub-invents =
       memory = zeros;
       holding = area;
       outgoing = area;
-      sound = sound-on (turn 0) fresh tt fresh-wide fresh-range;
-      lent = lent-on (turn 0) fresh (omega arith) fresh-wide;
+      sound = sound-on (turn 0) fresh (omega arith) fresh-wide fresh-range;
+      lent = handed-on (turn 0) fresh turning fresh-wide;
       invented =
           anotherEdge (λ e. let z : edge (answerNumber (idly .outcome .answer)) ≡ 0 = ap edge idle-answer in omega (arith, e, z));
     }

@@ -4,7 +4,9 @@ use mathlib.Core.Bool.{false}
 use mathlib.Core.List.{List, [], _∷_, map}
 use Prim.Native.Nat.{ℕ}
 use native.Mathlib.Omega.{arith}
+use lib.Dec.{lit≤}
 use Rattle.memory.specs.Memory.{wordAt}
+use Rattle.memory.proofs.Bytes.{bytes-nil}
 use Rattle.scb.specs.Words.{cuNumber}
 use Rattle.scb.specs.declared.CuState.{CuState}
 use Rattle.scb.specs.declared.CuState.the-variants as cus
@@ -19,42 +21,54 @@ use Rattle.chip.specs.Attention.{attentionOf}
 use Rattle.chip.specs.Call.{Call, attention, turn, ran}
 use Rattle.calls.specs.Calls.{Areas, answerNumber}
 use Rattle.traces.specs.Bytes.{edge}
-use Rattle.traces.specs.Event.{Event, call, host}
-use Rattle.kinds.specs.Chips.{Chip, ours, Given, Lent, Meets, run, answersOf, ranThrough}
-use Rattle.kinds.specs.Demands.{FrameOk, Sound, Demand2}
+use Rattle.progress.specs.Trace.{run}
+use Rattle.traces.specs.Areas.{Hosted}
+use Rattle.traces.specs.Event.{Event, call, host, step}
+use Rattle.closure.specs.Refusals.{FrameRight}
+use Rattle.kinds.specs.Chips.{Chip, ours, Given, Handed, Meets, chipRun, chipAnswers}
+use Rattle.kinds.specs.Demands.{Sound, Demand2}
 use Rattle.kinds.specs.Closed.{Right, Closed}
-use Rattle.kinds.specs.Lists.{turnsOf, AllReports, Hosted, Fair, shown, DoneAsIn2, Demand3}
+use Rattle.kinds.specs.Lists.{turnsOf, AllReports, Fair, shown, DoneAsIn2, Demand3}
 use Rattle.kinds.specs.Kinds.{InventedAlong, anotherCount, anotherEdges, InventsAlong}
 use Rattle.kinds.proofs.Equal.{all-areas}
 use Rattle.kinds.proofs.Ours.{has-demand2, ours-demand2}
+use Rattle.kinds.proofs.Witness.{attending}
 use Rattle.kinds.proofs.Runs.{runs}
 use Rattle.kinds.proofs.Start.{list-ends}
 
-right-sound : (c : Call) (w : World) → FrameOk c → Right w → Sound c (w .device) (w .memory) (w .holding) (w .outgoing)
+right-sound : (c : Call) (w : World) → FrameRight c → Right w → Sound c (w .device) (w .memory) (w .holding) (w .outgoing)
 right-sound c w f r =
-    record { size = r .size; holding = r .holding; outgoing = r .outgoing; frame = f; wide = r .wide; range = r .range }
+    let a = r .areas in
+    record { size = a .size; holding = a .holding; outgoing = a .outgoing; frame = f; wide = r .wide; range = r .range }
 
-right-lent : (c : Call) (w : World) → Given c → Right w → Lent c (shown w)
-right-lent c w g r =
+right-handed : (c : Call) (w : World) → Given c → Right w → Handed c (shown w)
+right-handed c w g r =
+    let a = r .areas in
     record {
       given = g;
-      memory = r .memory-bytes;
-      holding = r .holding-bytes;
-      outgoing = r .outgoing-bytes;
-      kept = image-bytes (w .device) (r .wide);
+      areas =
+          record {
+            memory = a .memory-bytes;
+            holding = a .holding-bytes;
+            outgoing = a .outgoing-bytes;
+            kept = image-bytes (w .device) (r .wide);
+          };
     }
 
-sound-right : (c : Call) (w : World) → Sound c (w .device) (w .memory) (w .holding) (w .outgoing) → Lent c (shown w) → Right w
+sound-right : (c : Call) (w : World) → Sound c (w .device) (w .memory) (w .holding) (w .outgoing) → Handed c (shown w) → Right w
 sound-right c w s l =
     record {
-      size = s .size;
-      holding = s .holding;
-      outgoing = s .outgoing;
+      areas =
+          record {
+            size = s .size;
+            holding = s .holding;
+            outgoing = s .outgoing;
+            memory-bytes = l .areas .memory;
+            holding-bytes = l .areas .holding;
+            outgoing-bytes = l .areas .outgoing;
+          };
       wide = s .wide;
       range = s .range;
-      memory-bytes = l .memory;
-      holding-bytes = l .holding;
-      outgoing-bytes = l .outgoing;
     }
 
 not-active : (s : CuState) → isActive s ≡ false → cuNumber s ≡ cuNumber cus.Active → ⊥
@@ -64,40 +78,30 @@ not-active cus.Active a e = let z : _≡_ {A = ℕ} 0 1 = cc in omega arith
 
 -- what the host leaves is right, with a device that is
 hosted : (w : World) (m h out : List ℕ) → Hosted m h out → Right w → Right (worldOf (w .device) m h out)
-hosted w m h out k r =
-    record {
-      size = k .size;
-      holding = k .holding;
-      outgoing = k .outgoing;
-      wide = r .wide;
-      range = r .range;
-      memory-bytes = k .memory-bytes;
-      holding-bytes = k .holding-bytes;
-      outgoing-bytes = k .outgoing-bytes;
-    }
+hosted w m h out k r = record { areas = k; wide = r .wide; range = r .range }
 
 -- turns
 fair-turns : (rs : List ℕ) → AllReports rs → Fair (turnsOf rs)
 fair-turns [] p = tt
-fair-turns (r ∷ rs) p = (p .0, tt, fair-turns rs (p .1))
+fair-turns (r ∷ rs) p = (record { frame = bytes-nil; numbers = p .0 }, lit≤ tt, fair-turns rs (p .1))
 
-through-runs : (rs : List ℕ) (w : World) → ranThrough (turnsOf rs) w ≡ runs rs w
+through-runs : (rs : List ℕ) (w : World) → run step (turnsOf rs) w ≡ runs rs w
 through-runs [] w = refl
 through-runs (r ∷ rs) w = through-runs rs (afterwards (ran (turn r) w))
 
 module _ (closed : Closed) (chip : Chip) (q : Demand2 chip) where
   -- a chip that has demand 2 leaves, call by call, what shows the world that the definitions leave
-  goes-along : (s : chip .Inner) (c : Call) (w : World) → Given c → FrameOk c → Right w
+  goes-along : (s : chip .Inner) (c : Call) (w : World) → Given c → FrameRight c → Right w
       → chip .calls s c (shown w) .areas ≡ shown (afterwards (ran c w))
   goes-along s c w g f r =
-      let a = q .each s c (w .device) (w .memory) (w .holding) (w .outgoing) (right-sound c w f r) (right-lent c w g r) in
+      let a = q .each s c (w .device) (w .memory) (w .holding) (w .outgoing) (right-sound c w f r) (right-handed c w g r) in
       all-areas (chip .calls s c (shown w) .areas) (ran c w .memory) (ran c w .holding) (ran c w .outgoing) (imageOf (ran c w .outcome .device))
       (a .memory) (a .holding) (a .outgoing) (a .kept)
 
-  answers-alike : (s : chip .Inner) (c : Call) (w : World) → Given c → FrameOk c → Right w
+  answers-alike : (s : chip .Inner) (c : Call) (w : World) → Given c → FrameRight c → Right w
       → chip .calls s c (shown w) .answer ≡ answerNumber (ran c w .outcome .answer)
   answers-alike s c w g f r =
-      q .each s c (w .device) (w .memory) (w .holding) (w .outgoing) (right-sound c w f r) (right-lent c w g r) .answer
+      q .each s c (w .device) (w .memory) (w .holding) (w .outgoing) (right-sound c w f r) (right-handed c w g r) .answer
 
   -- so it is along every run, whatever happens: all that is shown of the definitions' runs holds of such a chip's
   pub along : (es : List Event) (s : chip .Inner) (w : World) → Fair es → Right w → DoneAsIn2 chip s es w
@@ -107,8 +111,8 @@ module _ (closed : Closed) (chip : Chip) (q : Demand2 chip) where
       let e = goes-along s c w (f .0) (f .1) r in
       let more = along es s′ (afterwards (ran c w)) (f .2) (closed .each c w (f .0) (f .1) r) in
       record {
-        areas = ap (run chip s′ es) e ∙ more .areas;
-        answers = ap₂ (λ (y : ℕ) (ys : List ℕ). y ∷ ys) (answers-alike s c w (f .0) (f .1) r) (ap (answersOf chip s′ es) e ∙ more .answers);
+        areas = ap (chipRun chip s′ es) e ∙ more .areas;
+        answers = ap₂ (λ (y : ℕ) (ys : List ℕ). y ∷ ys) (answers-alike s c w (f .0) (f .1) r) (ap (chipAnswers chip s′ es) e ∙ more .answers);
       }
   along (host m h out ∷ es) s w f r =
       let more = along es s (worldOf (w .device) m h out) (f .1) (hosted w m h out (f .0) r) in
@@ -122,7 +126,7 @@ module _ (closed : Closed) (chip : Chip) (q : Demand2 chip) where
             let w = worldOf d m h out in
             let v = afterwards (attentionOf w) in
             let over = list-ends w b bs start rs (omega (arith, k .size .least)) (omega (arith, n)) in
-            let run-is = along (call attention ∷ turnsOf rs) s w (tt, tt, fair-turns rs p) (sound-right attention w k l) .areas in
+            let run-is = along (call attention ∷ turnsOf rs) s w (attending, lit≤ tt, fair-turns rs p) (sound-right attention w k l) .areas in
             let same = ap (λ (a : Areas). a .memory) run-is ∙ ap (λ (x : World). x .memory) (through-runs rs v) in
             record {
               done = rw same (over .done);
@@ -130,7 +134,7 @@ module _ (closed : Closed) (chip : Chip) (q : Demand2 chip) where
             };
         as-in-2 =
             λ s d m h out b bs es k l start f c.
-            let w = worldOf d m h out in along (call attention ∷ es) s w (tt, tt, f) (sound-right attention w k l);
+            let w = worldOf d m h out in along (call attention ∷ es) s w (attending, lit≤ tt, f) (sound-right attention w k l);
       }
 
 pub meets-demand3 : Closed → (chip : Chip) → Meets chip → Demand3 chip

@@ -9,7 +9,7 @@ use Rattle.memory.specs.Address.{place, beyond}
 use Rattle.memory.specs.Memory.{byteAt, putByte, bytesAt, putBytes, value, digits, fieldAt, wordAt}
 use Rattle.memory.specs.Size.{Allowed}
 use Rattle.memory.specs.declared.Offset.{Offset}
-use Rattle.memory.proofs.Bytes.{Bytes}
+use Rattle.memory.proofs.Bytes.{Bytes, bytes-nil}
 use Rattle.scb.specs.Words.{bitsAt, joined, anyOf, eventBits, statusWord, bit, noEvents}
 use Rattle.device.specs.Limits.{areaSize}
 use Rattle.device.specs.State.{fresh, freshSettings}
@@ -38,8 +38,9 @@ use Rattle.chip.specs.Turn.{concluded, commandTurn, turnOf}
 use Rattle.chip.specs.Call.{Call, attention, turn, ran}
 use Rattle.calls.specs.Calls.{answerNumber}
 use Rattle.traces.specs.Bytes.{sentLength}
-use Rattle.kinds.specs.Chips.{Given, Lent}
-use Rattle.kinds.specs.Demands.{FrameOk, Sound, lentOf}
+use Rattle.closure.specs.Refusals.{FrameRight}
+use Rattle.kinds.specs.Chips.{Given, Handed}
+use Rattle.kinds.specs.Demands.{Sound, lentOf}
 use Rattle.kinds.specs.Kinds.{settingsIn}
 
 -- ---- the areas
@@ -66,7 +67,7 @@ zeros-allowed = rw (length-replicate {A = ℕ} 8192 0) smallest
 
 -- ---- a state in range on them is a call that is not refused
 
-pub sound-on : (c : Call) (d : Device) → FrameOk c → Wide d → inRange d ≡ true → Sound c d zeros area area
+pub sound-on : (c : Call) (d : Device) → FrameRight c → Wide d → inRange d ≡ true → Sound c d zeros area area
 sound-on c d f w e =
     record {
       size = zeros-allowed;
@@ -77,9 +78,19 @@ sound-on c d f w e =
       range = e;
     }
 
-pub lent-on : (c : Call) (d : Device) → Given c → Wide d → Lent c (lentOf d zeros area area)
-lent-on c d g w =
-    record { given = g; memory = zero-bytes 8192; holding = zero-bytes areaSize; outgoing = zero-bytes areaSize; kept = image-bytes d w }
+-- an attention and a turn bring no frame
+pub attending : Given attention
+attending = record { frame = bytes-nil; numbers = tt }
+
+pub turning : Given (turn 0)
+turning = record { frame = bytes-nil; numbers = omega arith }
+
+pub handed-on : (c : Call) (d : Device) → Given c → Wide d → Handed c (lentOf d zeros area area)
+handed-on c d g w =
+    record {
+      given = g;
+      areas = record { memory = zero-bytes 8192; holding = zero-bytes areaSize; outgoing = zero-bytes areaSize; kept = image-bytes d w };
+    }
 
 -- ---- the fresh chip: the first attention reports an edge and writes A000h, a turn does neither
 

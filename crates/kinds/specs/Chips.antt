@@ -1,13 +1,12 @@
 -- An arbitrary chip, and what the promises of the exported calls permit it: 01, "The inspector's list". Assumes nothing.
 use mathlib.Core.Path.{_≡_}
 use mathlib.Core.List.{List, [], _∷_}
-use Prim.Native.Nat.{ℕ, _<_}
-use Rattle.memory.proofs.Bytes.{Bytes}
-use Rattle.chip.specs.World.{World}
-use Rattle.chip.specs.Call.{Call, reset, attention, arrive, turn, ran}
-use Rattle.calls.specs.Calls.{Areas, areasOf, Called, Calls, Renews, answerNumber, attentionCall, arrivalCall, turnCall, resetCall}
+use Prim.Native.Nat.{ℕ, _^_, _<_}
+use Rattle.chip.specs.Call.{Call, reset, attention, arrive, turn}
+use Rattle.calls.specs.Calls.{Areas, areasOf, Called, Calls, Renews, attentionCall, arrivalCall, turnCall, resetCall}
 use Rattle.traces.specs.Bytes.{called}
-use Rattle.traces.specs.Event.{Event, call, host, step}
+use Rattle.traces.specs.Areas.{FrameBytes, AreBytes}
+use Rattle.traces.specs.Event.{Event, call, host}
 
 -- anything with the four calls on bytes. Inner: all that its calls may depend on besides what is lent, be it kept from call to call or chance
 pub record Chip : Type 1 where
@@ -22,18 +21,19 @@ ours = record { Inner = Unit {0}; first = tt; calls = λ s c a. called c a; next
 
 -- ---- what C can hand over: every element of an area and of a frame is a byte, a verdict has 32 bits, a line report 16
 
-abbrev pub Given : Call → Type 0
-Given reset = Unit {0}
-Given attention = Unit {0}
-Given (arrive f v) = Bytes f × (v < 4294967296)
-Given (turn report) = report < 65536
+abbrev pub Numbers : Call → Type 0
+Numbers reset = Unit {0}
+Numbers attention = Unit {0}
+Numbers (arrive f v) = v < 2 ^ 32
+Numbers (turn report) = report < 2 ^ 16
 
-pub record Lent (c : Call) (a : Areas) : Type 0 where
+pub record Given (c : Call) : Type 0 where
+  pub frame : FrameBytes c
+  pub numbers : Numbers c
+
+pub record Handed (c : Call) (a : Areas) : Type 0 where
   pub given : Given c
-  pub memory : Bytes (a .memory)
-  pub holding : Bytes (a .holding)
-  pub outgoing : Bytes (a .outgoing)
-  pub kept : Bytes (a .kept)
+  pub areas : AreBytes a
 
 -- ---- the promises: the clauses of lq_reset, lq_attention, lq_arrival and lq_turn, of what a call leaves
 
@@ -55,28 +55,18 @@ Permits (turn report) a r = Says (turnCall a report) r
 
 -- whatever its inner state, each call leaves what its promise permits
 pub record Meets (chip : Chip) : Type 0 where
-  pub each : (s : chip .Inner) (c : Call) (a : Areas) → Lent c a → Permits c a (chip .calls s c a)
+  pub each : (s : chip .Inner) (c : Call) (a : Areas) → Handed c a → Permits c a (chip .calls s c a)
 
 -- ---- a run: each call is lent the areas that were left before it; between calls the host may leave memory, holding area and outgoing area
 -- otherwise, and keeps the record
 
-abbrev pub run : (chip : Chip) → chip .Inner → List Event → Areas → Areas
-run chip s [] a = a
-run chip s (call c ∷ es) a = run chip (chip .next s c a) es (chip .calls s c a .areas)
-run chip s (host m h out ∷ es) a = run chip s es (areasOf m h out (a .kept))
+abbrev pub chipRun : (chip : Chip) → chip .Inner → List Event → Areas → Areas
+chipRun chip s [] a = a
+chipRun chip s (call c ∷ es) a = chipRun chip (chip .next s c a) es (chip .calls s c a .areas)
+chipRun chip s (host m h out ∷ es) a = chipRun chip s es (areasOf m h out (a .kept))
 
 -- the answers along it
-abbrev pub answersOf : (chip : Chip) → chip .Inner → List Event → Areas → List ℕ
-answersOf chip s [] a = []
-answersOf chip s (call c ∷ es) a = chip .calls s c a .answer ∷ answersOf chip (chip .next s c a) es (chip .calls s c a .areas)
-answersOf chip s (host m h out ∷ es) a = answersOf chip s es (areasOf m h out (a .kept))
-
--- what the definitions make of the same run, on states
-abbrev pub ranThrough : List Event → World → World
-ranThrough [] w = w
-ranThrough (e ∷ es) w = ranThrough es (step e w)
-
-abbrev pub answersBy : List Event → World → List ℕ
-answersBy [] w = []
-answersBy (call c ∷ es) w = answerNumber (ran c w .outcome .answer) ∷ answersBy es (step (call c) w)
-answersBy (host m h out ∷ es) w = answersBy es (step (host m h out) w)
+abbrev pub chipAnswers : (chip : Chip) → chip .Inner → List Event → Areas → List ℕ
+chipAnswers chip s [] a = []
+chipAnswers chip s (call c ∷ es) a = chip .calls s c a .answer ∷ chipAnswers chip (chip .next s c a) es (chip .calls s c a .areas)
+chipAnswers chip s (host m h out ∷ es) a = chipAnswers chip s es (areasOf m h out (a .kept))

@@ -2,12 +2,12 @@
 use mathlib.Core.Path.{_≡_}
 use mathlib.Core.Bool.{true, not}
 use mathlib.Core.List.{List}
-use Prim.Native.Nat.{ℕ, _≤_, _<_}
+use Prim.Native.Nat.{ℕ, _<_}
 use lib.Dec.{eqb}
 use lib.ListN.{length, getD}
 use Rattle.memory.specs.Size.{Allowed}
 use Rattle.scb.specs.Words.{anyOf}
-use Rattle.device.specs.Limits.{areaSize, recordSize, longest}
+use Rattle.device.specs.Limits.{areaSize, recordSize}
 use Rattle.device.specs.Numbers.{refusalNumber}
 use Rattle.device.specs.State.{fresh}
 use Rattle.device.specs.declared.Device.{Device}
@@ -15,18 +15,11 @@ use Rattle.device.specs.declared.Refusal.{Refusal}
 use Rattle.image.specs.Image.{imageOf}
 use Rattle.image.specs.Ranges.{inRange, Wide}
 use Rattle.chip.specs.World.{Ran, worldOf}
-use Rattle.chip.specs.Call.{Call, reset, attention, arrive, turn, ran}
+use Rattle.chip.specs.Call.{Call, reset, ran}
 use Rattle.calls.specs.Calls.{Areas, areasOf, Called, answerNumber}
 use Rattle.traces.specs.Bytes.{number}
-use Rattle.closure.specs.Refusals.{When, Untouched}
-use Rattle.kinds.specs.Chips.{Chip, Lent}
-
--- no arriving frame exceeds 2,048 bytes; the other calls have none
-abbrev pub FrameOk : Call → Type 0
-FrameOk reset = Unit {0}
-FrameOk attention = Unit {0}
-FrameOk (arrive f v) = length f ≤ longest
-FrameOk (turn report) = Unit {0}
+use Rattle.closure.specs.Refusals.{FrameRight, When, Untouched}
+use Rattle.kinds.specs.Chips.{Chip, Handed}
 
 -- ---- demand 1
 
@@ -38,7 +31,7 @@ pub record Tabled (c : Call) (a : Areas) (r : Called) : Type 0 where
   pub refused : 0 < number (r .answer) → Untouched a r
 
 pub record Demand1 (chip : Chip) : Type 0 where
-  pub each : (s : chip .Inner) (c : Call) (a : Areas) → Lent c a → Tabled c a (chip .calls s c a)
+  pub each : (s : chip .Inner) (c : Call) (a : Areas) → Handed c a → Tabled c a (chip .calls s c a)
 
 -- ---- demand 2: after each call that is not refused, memory, areas, record and answer are what the definitions say of the state
 
@@ -47,7 +40,7 @@ pub record Sound (c : Call) (d : Device) (m h out : List ℕ) : Type 0 where
   pub size : Allowed (length m)
   pub holding : length h ≡ areaSize
   pub outgoing : length out ≡ areaSize
-  pub frame : FrameOk c
+  pub frame : FrameRight c
   pub wide : Wide d
   pub range : inRange d ≡ true
 
@@ -64,8 +57,8 @@ pub record AsDefined (said : Ran) (r : Called) : Type 0 where
   pub interrupt : not (eqb (getD (r .areas .kept) 5 0) 0) ≡ anyOf (said .outcome .device .units .events)
 
 pub record Demand2 (chip : Chip) : Type 0 where
-  pub each : (s : chip .Inner) (c : Call) (d : Device) (m h out : List ℕ) → Sound c d m h out → Lent c (lentOf d m h out)
+  pub each : (s : chip .Inner) (c : Call) (d : Device) (m h out : List ℕ) → Sound c d m h out → Handed c (lentOf d m h out)
       → AsDefined (ran c (worldOf d m h out)) (chip .calls s c (lentOf d m h out))
   -- reset ignores the record's content
-  pub renewed : (s : chip .Inner) (a : Areas) → Lent reset a → length (a .kept) ≡ recordSize
+  pub renewed : (s : chip .Inner) (a : Areas) → Handed reset a → length (a .kept) ≡ recordSize
       → AsDefined (ran reset (worldOf fresh (a .memory) (a .holding) (a .outgoing))) (chip .calls s reset a)

@@ -2,19 +2,16 @@
 use mathlib.Core.Path.{_≡_}
 use mathlib.Core.Bool.{Bool, true, false, _||_}
 use mathlib.Core.List.{List, [], _∷_}
-use Prim.Native.Nat.{ℕ, _*_, _≤_, _<_}
+use Prim.Native.Nat.{ℕ, _*_, _^_, _≤_, _<_}
 use lib.ListN.{length}
 use Rattle.memory.specs.Address.{place, offsetAt}
 use Rattle.memory.specs.Memory.{wordAt}
-use Rattle.memory.specs.Size.{Allowed}
 use Rattle.memory.specs.declared.Offset.{Offset}
 use Rattle.memory.specs.declared.RealAddress.{RealAddress}
-use Rattle.memory.proofs.Bytes.{Bytes}
 use Rattle.memory.proofs.Fields.{Apart}
 use Rattle.scb.specs.Words as scb
 use Rattle.scb.specs.Words.{bitsAt, bit, cuc, resets, cuNumber}
 use Rattle.scb.specs.declared.CuState.the-variants as cus
-use Rattle.device.specs.Limits.{areaSize}
 use Rattle.device.specs.Numbers.{actionNumber}
 use Rattle.device.specs.State.{cuState, isActive, isHolding}
 use Rattle.device.specs.declared.Action.the-variants as action
@@ -25,9 +22,12 @@ use Rattle.control.specs.Obey.{ofScb}
 use Rattle.chip.specs.World.{World, worldOf}
 use Rattle.chip.specs.Call.{attention, turn}
 use Rattle.calls.specs.Calls.{Areas}
-use Rattle.traces.specs.Event.{Event, call, host, isCalm}
-use Rattle.kinds.specs.Chips.{Chip, Given, Lent, run, answersOf, ranThrough, answersBy}
-use Rattle.kinds.specs.Demands.{FrameOk, Sound, lentOf}
+use Rattle.progress.specs.Trace.{run, AllMay}
+use Rattle.traces.specs.Areas.{Hosted}
+use Rattle.traces.specs.Event.{Event, call, host, step, answersOf, Calm}
+use Rattle.closure.specs.Refusals.{FrameRight}
+use Rattle.kinds.specs.Chips.{Chip, Given, Handed, chipRun, chipAnswers}
+use Rattle.kinds.specs.Demands.{Sound, lentOf}
 
 -- ---- a list: 01, "Turns". The first block that has EL or S is the last, each other's link leads to the next
 
@@ -81,29 +81,16 @@ turnsOf (r ∷ rs) = call (turn r) ∷ turnsOf rs
 
 abbrev pub AllReports : List ℕ → Type 0
 AllReports [] = Unit {0}
-AllReports (r ∷ rs) = (r < 65536) × AllReports rs
+AllReports (r ∷ rs) = (r < 2 ^ 16) × AllReports rs
 
 abbrev pub started : (chip : Chip) → chip .Inner → List Event → Areas → Areas
-started chip s es a = run chip s (call attention ∷ es) a
+started chip s es a = chipRun chip s (call attention ∷ es) a
 
 -- any events: calls that are not to be refused for what they bring; areas of bytes of the right lengths, as the host leaves them
-pub record Hosted (m h out : List ℕ) : Type 0 where
-  pub size : Allowed (length m)
-  pub holding : length h ≡ areaSize
-  pub outgoing : length out ≡ areaSize
-  pub memory-bytes : Bytes m
-  pub holding-bytes : Bytes h
-  pub outgoing-bytes : Bytes out
-
 abbrev pub Fair : List Event → Type 0
 Fair [] = Unit {0}
-Fair (call c ∷ es) = Given c × FrameOk c × Fair es
+Fair (call c ∷ es) = Given c × FrameRight c × Fair es
 Fair (host m h out ∷ es) = Hosted m h out × Fair es
-
--- neither attentions nor resets
-abbrev pub Calm : List Event → Type 0
-Calm [] = Unit {0}
-Calm (e ∷ es) = (isCalm e ≡ true) × Calm es
 
 -- a block has C
 abbrev pub isDone : RealAddress → List ℕ → Offset → Type 0
@@ -122,16 +109,17 @@ pub record Completed (d : Device) (bs : List Offset) (m : List ℕ) : Type 0 whe
 
 -- done as in 2: all bytes are as the definitions leave them, and the answers were the definitions'
 pub record DoneAsIn2 (chip : Chip) (s : chip .Inner) (es : List Event) (w : World) : Type 0 where
-  pub areas : run chip s es (shown w) ≡ shown (ranThrough es w)
-  pub answers : answersOf chip s es (shown w) ≡ answersBy es w
+  pub areas : chipRun chip s es (shown w) ≡ shown (run step es w)
+  pub answers : chipAnswers chip s es (shown w) ≡ answersOf es w
 
 pub record Demand3 (chip : Chip) : Type 0 where
   -- within 132 times n turns. It is asked of runs of turns while no frame is held: nothing but the commands' results and the SCB's status is
   -- written then. Arguments, descriptors and data may lie anywhere, since each block gets its C all the same
   pub within : (s : chip .Inner) (d : Device) (m h out : List ℕ) (b : Offset) (bs : List Offset) (reports : List ℕ)
-      → Sound attention d m h out → Lent attention (lentOf d m h out) → Starting d m b bs → AllReports reports
+      → Sound attention d m h out → Handed attention (lentOf d m h out) → Starting d m b bs → AllReports reports
       → 132 * length (b ∷ bs) ≤ length reports → Completed d (b ∷ bs) (started chip s (turnsOf reports) (lentOf d m h out) .memory)
   -- and at every moment after the start: turns, frames that arrive, whatever the host writes
   pub as-in-2 : (s : chip .Inner) (d : Device) (m h out : List ℕ) (b : Offset) (bs : List Offset) (es : List Event)
-      → Sound attention d m h out → Lent attention (lentOf d m h out) → Starting d m b bs → Fair es → Calm es
+      → Sound attention d m h out → Handed attention (lentOf d m h out) → Starting d m b bs → Fair es
+      → AllMay Calm step es (step (call attention) (worldOf d m h out))
       → DoneAsIn2 chip s (call attention ∷ es) (worldOf d m h out)

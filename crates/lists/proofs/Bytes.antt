@@ -1,49 +1,39 @@
--- Demand 3, first half, over the calls on the areas that are lent: refused calls stand anywhere and count for nothing. Assumes nothing: that a
--- record which a call leaves holds the state which it leaves is `Carries`, an argument of each statement here.
+-- Demand 3, first half, over the calls on the areas that are lent: refused calls stand anywhere and count for nothing; and runs of turns are as many
+-- turns as their answer says. Assumes nothing.
 use mathlib.Core.Path.{_≡_, refl, sym, ap, _∙_, subst}
 use mathlib.Core.Bool.{Bool, true, false, true≢false}
-use mathlib.Core.List.{List, [], _∷_}
-use Prim.Native.Nat.{ℕ, _+_, _*_, _≤_}
-use native.Mathlib.Nat.{zero-add}
+use mathlib.Core.List.{List, []}
+use Prim.Native.Nat.{ℕ, _*_, _≤_}
+use native.Mathlib.Omega.{arith}
 use lib.ListN.{length}
 use Rattle.memory.specs.Memory.{wordAt}
 use Rattle.memory.specs.Size.{sizeAllowed}
+use Rattle.memory.proofs.Bytes.{bytes-nil}
 use Rattle.memory.proofs.Power.{allowed}
 use Rattle.scb.specs.Words.{cblAt}
 use Rattle.device.specs.declared.Device.{Device}
 use Rattle.command.specs.Part.{Part}
 use Rattle.control.specs.Obey.{ofScb}
-use Rattle.chip.specs.Call.{Call, attention}
+use Rattle.chip.specs.Call.{attention}
 use Rattle.chip.specs.Attention.{attentionOf}
 use Rattle.chip.specs.World.{World}
-use Rattle.calls.specs.Calls.{Areas, Called, answerNumber, attentionCall}
+use Rattle.calls.specs.Calls.{Areas, answerNumber, attentionCall}
 use Rattle.calls.proofs.Laws.{bad-size}
+use Rattle.progress.specs.Trace.{run, turns}
+use Rattle.progress.specs.Machine.{Laws, Undisturbed}
 use Rattle.traces.specs.Bytes.{called, isRefused}
-use Rattle.traces.specs.Event.{Event, call, host, step, isTurn}
-use Rattle.progress.specs.Machine.{Laws, Mays, Undisturbed, run, turns, bit}
-use Rattle.closure.specs.Driven.{Lending}
+use Rattle.traces.specs.Event.{Event, call, step, isTurn, DuringList}
+use Rattle.traces.specs.Areas.{AreBytes, Holds, worldIn, Shows}
+use Rattle.traces.specs.Driven.{Lending, left, isTaken, eventsOf, Drive, leftOne, turnsDriven, unrolled, AllFair, AllFairDrive}
+use Rattle.closure.proofs.Runs.{carry-shown}
+use Rattle.closure.proofs.Driven.{turns-same, fair-along, LetsTurns, spread}
 use Rattle.lists.specs.Uses.{Listed, firstOf, NoClash}
 use Rattle.lists.specs.Unit.{machine}
-use Rattle.lists.specs.Done.{Calm, Starts, Done, bytesOf}
-use Rattle.lists.specs.Lent.{refusedAt, leftBy, left, countsBy, turnsOf, eventsBy, eventsOf, worldIn, Carried, Carries}
-use Rattle.lists.specs.Lent.{Shows, Lends, LendsBy, AllLend, LentPremises, CalmlyBy, AllCalmly}
-use Rattle.lists.proofs.Laws.{calm-laws}
+use Rattle.lists.specs.Done.{Starts, Done, bytesOf}
+use Rattle.lists.specs.OnBytes.{PremisesOnBytes}
+use Rattle.lists.proofs.Laws.{list-laws}
 use Rattle.lists.proofs.Start.{begins, started}
 use Rattle.lists.proofs.Order.{listDone}
-
--- ---- turns that are not refused
-
-turns-by : (r : Bool) (l : Lending) (ls : List Lending) (w : World)
-    → ((v : World) → turns (λ e x. isTurn e) step (eventsOf ls) v ≡ turnsOf ls)
-    → turns (λ e x. isTurn e) step (eventsBy r l (eventsOf ls)) w ≡ countsBy r (l .made) + turnsOf ls
-turns-by true l ls w f = f w ∙ sym (zero-add (turnsOf ls))
-turns-by false l ls w f =
-    zero-add _ ∙ ap (λ (n : ℕ). bit (isTurn (call (l .made))) + n)
-    (f (step (call (l .made)) (step (host (l .lent .memory) (l .lent .holding) (l .lent .outgoing)) w)))
-
-pub turns-same : (ls : List Lending) (w : World) → turns (λ e x. isTurn e) step (eventsOf ls) w ≡ turnsOf ls
-turns-same [] w = refl
-turns-same (l ∷ ls) w = turns-by (refusedAt l) l ls w (turns-same ls)
 
 -- ---- an attention that is not refused has an allowed N
 
@@ -55,108 +45,72 @@ size-by false a s r = absurd (true≢false (sym (ap isRefused (bad-size a [] att
 size-least : (a : Areas) → isRefused (called attention a) ≡ false → 8192 ≤ length (a .memory)
 size-least a r = allowed (length (a .memory)) (size-by (sizeAllowed (length (a .memory))) a refl r) .least
 
-module _ (C : Carries) where
-  open Carries C using (Holds, Given, carry)
+-- ---- the whole
 
-  -- ---- the areas show the state, all along a trace
+-- what the starting attention leaves
+pub start-shows : (a : Areas) (d : Device) → AreBytes a → Holds (a .kept) d → isRefused (called attention a) ≡ false
+    → Shows (called attention a .areas) (step (call attention) (worldIn d a))
+start-shows a d l h r =
+    carry-shown attention a (worldIn d a) bytes-nil l (record { memory = refl; holding = refl; outgoing = refl; kept = h }) r .0
 
-  -- a call that is not refused, on areas with the record of a state
-  call-shows : (c : Call) (a : Areas) (d : Device) → Carried Holds c d a → Shows C (called c a .areas) (step (call c) (worldIn d a))
-  call-shows c a d k =
-      record {
-        memory = ap (λ (x : Called). x .areas .memory) (k .same);
-        holding = ap (λ (x : Called). x .areas .holding) (k .same);
-        outgoing = ap (λ (x : Called). x .areas .outgoing) (k .same);
-        kept = k .holds;
-      }
+-- The starting attention is not refused; a is what it is lent, d the state of the record. Then come calls, refused or not, each with what it
+-- is lent. Once 132 n turns have come that are not refused, the list is done; and what stands in the areas, the record among them, is what
+-- the definitions leave
+pub lent-list-done : (May : Event → World → Type 0) → Laws machine May → (bs : List ℕ) (ls : List Lending) (a : Areas) (d : Device)
+    → AreBytes a → Holds (a .kept) d
+    → isRefused (called attention a) ≡ false → Starts (worldIn d a) → firstOf bs ≡ wordAt (a .memory) (ofScb (d .units) cblAt)
+    → Listed (step (call attention) (worldIn d a) .device .units .base) (step (call attention) (worldIn d a) .memory) bs
+    → PremisesOnBytes May bs ls (called attention a .areas) (step (call attention) (worldIn d a))
+    → Done bs (eventsOf ls) (step (call attention) (worldIn d a))
+    × Shows (run left ls (called attention a .areas)) (run step (eventsOf ls) (step (call attention) (worldIn d a)))
+lent-list-done May K bs ls a d l h r s first listed p =
+    let w = worldIn d a in
+    let v = step (call attention) w in
+    let least : 8192 ≤ length (v .memory) = subst (λ (n : ℕ). 8192 ≤ n) (sym (begins w s .size)) (size-least a r) in
+    let count : 132 * length bs ≤ turns isTurn (eventsOf ls) = subst (λ (n : ℕ). 132 * length bs ≤ n) (sym (turns-same ls)) (p .turns) in
+    let along = fair-along May ls (called attention a .areas) v (p .fair) (start-shows a d l h r) in (
+      listDone May K bs (eventsOf ls) v (started bs w s first listed)
+          (record { size = least; apart = p .apart; events = along .1; kept = p .intact; turns = count }),
+      along .0,
+    )
 
-  -- what the starting attention leaves
-  pub start-shows : (a : Areas) (d : Device) → Given attention a → Holds (a .kept) d → isRefused (called attention a) ≡ false
-      → Shows C (called attention a .areas) (step (call attention) (worldIn d a))
-  start-shows a d g h r = call-shows attention a d (carry attention a d g h r)
+-- The starting attention is not refused; a is what it is lent, and its record holds the state d. Then come calls, refused or not, each with what it
+-- is lent: one that is not refused is no attention and no reset, is lent bytes, and finds record and outgoing area as the last such call left them.
+-- Nothing writes into the list but each command's own results, of which none is a later command's byte, and N stays. Once 132 n turns have come
+-- that are not refused, all n are done as the definitions say, once each, in list order, nothing else is begun, and what stands in the areas and
+-- in the record is what the definitions leave
+pub areas-list-done : (bs : List ℕ) (ls : List Lending) (a : Areas) (d : Device) → AreBytes a → Holds (a .kept) d
+    → isRefused (called attention a) ≡ false → Starts (worldIn d a) → firstOf bs ≡ wordAt (a .memory) (ofScb (d .units) cblAt)
+    → Listed (d .units .base) (step (call attention) (worldIn d a) .memory) bs
+    → AllFair DuringList ls (called attention a .areas)
+    → NoClash (length (a .memory)) (d .units .base) (step (call attention) (worldIn d a) .memory) bs
+    → Undisturbed machine (bytesOf (step (call attention) (worldIn d a)) bs) (eventsOf ls) (step (call attention) (worldIn d a))
+    → 132 * length bs ≤ turns isTaken ls
+    → Done bs (eventsOf ls) (step (call attention) (worldIn d a))
+    × Shows (run left ls (called attention a .areas)) (run step (eventsOf ls) (step (call attention) (worldIn d a)))
+areas-list-done bs ls a d l h r s first listed fair apart intact count =
+    let w = worldIn d a in
+    let b : step (call attention) w .device .units .base ≡ d .units .base = ap (λ (p : Part). p .base) (begins w s .part) in
+    lent-list-done DuringList list-laws bs ls a d l h r s first (rw b listed)
+    (record { fair = fair; apart = rw (begins w s .size, b) apart; intact = intact; turns = count })
 
-  pub next-shows : (l : Lending) (a : Areas) (w : World) → refusedAt l ≡ false → Lends C l a → Shows C a w
-      → Shows C (called (l .made) (l .lent) .areas) (step (call (l .made)) (worldIn (w .device) (l .lent)))
-  next-shows l a w r k s =
-      call-shows (l .made) (l .lent) (w .device)
-      (carry (l .made) (l .lent) (w .device) (k .given) (subst (λ (x : List ℕ). Holds x (w .device)) (sym (k .record-kept)) (s .kept)) r)
+-- ---- runs of turns among the calls
 
-  module _ (May : Event → World → Type 0) where
-    shows-by : (r : Bool) (l : Lending) (ls : List Lending) (a : Areas) (w : World) → refusedAt l ≡ r → LendsBy C r l a → Shows C a w
-        → AllLend C ls (leftBy r l a)
-        → ((b : Areas) (v : World) → AllLend C ls b → Shows C b v → Shows C (left ls b) (run (machine May) (eventsOf ls) v))
-        → Shows C (left ls (leftBy r l a)) (run (machine May) (eventsBy r l (eventsOf ls)) w)
-    shows-by true l ls a w e k s m f = f a w m s
-    shows-by false l ls a w e k s m f =
-        f (called (l .made) (l .lent) .areas) (step (call (l .made)) (worldIn (w .device) (l .lent))) m (next-shows l a w e k s)
+pub list-turns : LetsTurns DuringList
+list-turns = record { still = λ a. (refl, refl); turns = λ report w. (refl, tt) }
 
-    pub shows : (ls : List Lending) (a : Areas) (w : World) → AllLend C ls a → Shows C a w
-        → Shows C (left ls a) (run (machine May) (eventsOf ls) w)
-    shows [] a w m s = s
-    shows (l ∷ ls) a w m s = shows-by (refusedAt l) l ls a w refl (m .0) s (m .1) (λ b v n t. shows ls b v n t)
-
-    -- ---- the whole
-
-    -- The starting attention is not refused; a is what it is lent, d the state of the record. Then come calls, refused or not, each with what it
-    -- is lent. Once 132 n turns have come that are not refused, the list is done; and what stands in the areas, the record among them, is what
-    -- the definitions leave
-    pub lent-list-done : Laws (machine May) → (bs : List ℕ) (ls : List Lending) (a : Areas) (d : Device) → Given attention a → Holds (a .kept) d
-        → isRefused (called attention a) ≡ false → Starts (worldIn d a) → firstOf bs ≡ wordAt (a .memory) (ofScb (d .units) cblAt)
-        → Listed (step (call attention) (worldIn d a) .device .units .base) (step (call attention) (worldIn d a) .memory) bs
-        → LentPremises C May bs ls (called attention a .areas) (step (call attention) (worldIn d a))
-        → Done May bs (eventsOf ls) (step (call attention) (worldIn d a))
-        × Shows C (left ls (called attention a .areas)) (run (machine May) (eventsOf ls) (step (call attention) (worldIn d a)))
-    lent-list-done K bs ls a d g h r s first listed p =
-        let w = worldIn d a in
-        let v = step (call attention) w in
-        let least : 8192 ≤ length (v .memory) = subst (λ (n : ℕ). 8192 ≤ n) (sym (begins w s .size)) (size-least a r) in
-        let count : 132 * length bs ≤ turns (λ e x. isTurn e) step (eventsOf ls) v =
-        subst (λ (n : ℕ). 132 * length bs ≤ n) (sym (turns-same ls v)) (p .turns) in (
-          listDone May K bs (eventsOf ls) v (started bs w s first listed)
-              (record { size = least; apart = p .apart; events = p .events; kept = p .intact; turns = count }),
-          shows ls (called attention a .areas) v (p .lends) (start-shows a d g h r),
-        )
-
-  -- ---- no attention, no reset: the events may occur
-
-  calm-by : (r : Bool) (l : Lending) (ls : List Lending) (a : Areas) (w : World) → refusedAt l ≡ r → LendsBy C r l a → CalmlyBy r l a → Shows C a w
-      → AllLend C ls (leftBy r l a) → AllCalmly ls (leftBy r l a)
-      → ((b : Areas) (v : World) → AllLend C ls b → AllCalmly ls b → Shows C b v → Mays (machine Calm) (eventsOf ls) v)
-      → Mays (machine Calm) (eventsBy r l (eventsOf ls)) w
-  calm-by true l ls a w e k c s m n f = f a w m n s
-  calm-by false l ls a w e k c s m n f = (
-    (refl, c .outgoing-kept ∙ s .outgoing),
-    (
-      (c .calm, tt),
-      f (called (l .made) (l .lent) .areas) (step (call (l .made)) (worldIn (w .device) (l .lent))) m n (next-shows l a w e k s),
-    ),
-  )
-
-  pub calm-events : (ls : List Lending) (a : Areas) (w : World) → AllLend C ls a → AllCalmly ls a → Shows C a w
-      → Mays (machine Calm) (eventsOf ls) w
-  calm-events [] a w m n s = tt
-  calm-events (l ∷ ls) a w m n s =
-      calm-by (refusedAt l) l ls a w refl (m .0) (n .0) s (m .1) (n .1) (λ b v x y t. calm-events ls b v x y t)
-
-  -- the whole, with what is asked of the host said of the areas alone
-  pub calm-lent-list-done : (bs : List ℕ) (ls : List Lending) (a : Areas) (d : Device) → Given attention a → Holds (a .kept) d
-      → isRefused (called attention a) ≡ false → Starts (worldIn d a) → firstOf bs ≡ wordAt (a .memory) (ofScb (d .units) cblAt)
-      → Listed (step (call attention) (worldIn d a) .device .units .base) (step (call attention) (worldIn d a) .memory) bs
-      → AllLend C ls (called attention a .areas) → AllCalmly ls (called attention a .areas)
-      → NoClash (length (a .memory)) (d .units .base) (step (call attention) (worldIn d a) .memory) bs
-      → Undisturbed (machine Calm) (bytesOf (step (call attention) (worldIn d a)) bs) (eventsOf ls) (step (call attention) (worldIn d a))
-      → 132 * length bs ≤ turnsOf ls
-      → Done Calm bs (eventsOf ls) (step (call attention) (worldIn d a))
-      × Shows C (left ls (called attention a .areas)) (run (machine Calm) (eventsOf ls) (step (call attention) (worldIn d a)))
-  calm-lent-list-done bs ls a d g h r s first listed lends calmly apart intact count =
-      let w = worldIn d a in
-      let v = step (call attention) w in
-      let b : v .device .units .base ≡ d .units .base = ap (λ (p : Part). p .base) (begins w s .part) in
-      lent-list-done Calm calm-laws bs ls a d g h r s first listed
-      (record {
-        lends = lends;
-        events = calm-events ls (called attention a .areas) v lends calmly (start-shows a d g h r);
-        apart = rw (begins w s .size, b) apart;
-        intact = intact;
-        turns = count;
-      })
+-- As `areas-list-done`, with runs of turns among the calls: the turns inside a run count as turns. What stands in the areas and in the record when
+-- 132 n turns have been taken, in calls and in runs, is what the definitions leave, and all n commands are done
+pub runs-list-done : (bs : List ℕ) (ds : List Drive) (a : Areas) (d : Device) → AreBytes a → Holds (a .kept) d
+    → isRefused (called attention a) ≡ false → Starts (worldIn d a) → firstOf bs ≡ wordAt (a .memory) (ofScb (d .units) cblAt)
+    → Listed (d .units .base) (step (call attention) (worldIn d a) .memory) bs
+    → AllFairDrive DuringList ds (called attention a .areas)
+    → NoClash (length (a .memory)) (d .units .base) (step (call attention) (worldIn d a) .memory) bs
+    → Undisturbed machine (bytesOf (step (call attention) (worldIn d a)) bs) (eventsOf (unrolled ds)) (step (call attention) (worldIn d a))
+    → 132 * length bs ≤ turnsDriven ds
+    → Done bs (eventsOf (unrolled ds)) (step (call attention) (worldIn d a))
+    × Shows (run leftOne ds (called attention a .areas)) (run step (eventsOf (unrolled ds)) (step (call attention) (worldIn d a)))
+runs-list-done bs ds a d l h r s first listed drives apart intact count =
+    let p = spread DuringList list-turns ds (called attention a .areas) drives in
+    let x = areas-list-done bs (unrolled ds) a d l h r s first listed (p .fair) apart intact (omega (arith, count, p .counts)) in
+    (x .0, subst (λ (b : Areas). Shows b (run step (eventsOf (unrolled ds)) (step (call attention) (worldIn d a)))) (p .leaves) (x .1))

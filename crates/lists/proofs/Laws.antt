@@ -34,13 +34,12 @@ use Rattle.chip.specs.Call.{reset, attention, arrive, turn}
 use Rattle.chip.specs.Turn.{servedBy, concluded, commandTurn, receiveTurn, turnBy, turnOf}
 use Rattle.chip.specs.Arrival.{arrivalOf}
 use Rattle.chip.specs.World.{World, afterwards}
-use Rattle.traces.specs.Event.{Event, call, host, isTurn}
+use Rattle.traces.specs.Event.{Event, call, host, isTurn, DuringList}
 use Rattle.progress.specs.Machine.{Laws, Served, Passed, Between}
 use Rattle.progress.specs.Same.{In, here, there, range, Same}
 use Rattle.progress.proofs.Same.{in-left, in-right, same-part, same-apply, same-bytes, same-field}
 use Rattle.lists.specs.Uses.{block, from, argumentBytes, listedBytes, descriptorBytes}
 use Rattle.lists.specs.Unit.{noteBy, beginReads, dataReads, endReads, readsBy, goesToCommand, commandNext, machine}
-use Rattle.lists.specs.Done.{Calm}
 
 -- ---- parts of a list of addresses
 
@@ -277,84 +276,83 @@ received : (w : World) → Received w (afterwards (receiveTurn w))
 unfolding receiveTurn concluded
 received w = record { part = refl; turned = refl }
 
-module _ (May : Event → World → Type 0) where
-  serve-by : (c h l : Bool) (w : World) (r : ℕ) → isActive (cuState (w .device .units .cu)) ≡ c → goesToCommand c h l ≡ true
-      → (isActive (cuState (w .device .units .cu)) ≡ true) × Commanded w r (afterwards (turnBy (servedBy c h l) w r))
-  serve-by false h l w r a g = absurd (false≢true g)
-  serve-by true false l w r a g = (a, commanded w r)
-  serve-by true true true w r a g = (a, commanded w r)
-  serve-by true true false w r a g = absurd (false≢true g)
+serve-by : (c h l : Bool) (w : World) (r : ℕ) → isActive (cuState (w .device .units .cu)) ≡ c → goesToCommand c h l ≡ true
+    → (isActive (cuState (w .device .units .cu)) ≡ true) × Commanded w r (afterwards (turnBy (servedBy c h l) w r))
+serve-by false h l w r a g = absurd (false≢true g)
+serve-by true false l w r a g = (a, commanded w r)
+serve-by true true true w r a g = (a, commanded w r)
+serve-by true true false w r a g = absurd (false≢true g)
 
-  serve-turn : (w : World) (r : ℕ) → commandNext (w .device .units) ≡ true → Served (machine May) (call (turn r)) w
-  unfolding turnOf
-  serve-turn w r g =
-      let u = w .device .units in
-      let s = serve-by (isActive (cuState (u .cu))) (isHolding (u .ru)) (u .rulast) w r refl g in
-      record { part = s .1 .part; turned = s .1 .turned; busy = s .0 }
+serve-turn : (w : World) (r : ℕ) → commandNext (w .device .units) ≡ true → Served machine (call (turn r)) w
+unfolding turnOf
+serve-turn w r g =
+    let u = w .device .units in
+    let s = serve-by (isActive (cuState (u .cu))) (isHolding (u .ru)) (u .rulast) w r refl g in
+    record { part = s .1 .part; turned = s .1 .turned; busy = s .0 }
 
-  serve : (e : Event) (w : World) → isTurn e ≡ true → commandNext (w .device .units) ≡ true → Served (machine May) e w
-  serve (call reset) w t g = absurd (false≢true t)
-  serve (call attention) w t g = absurd (false≢true t)
-  serve (call (arrive f v)) w t g = absurd (false≢true t)
-  serve (call (turn r)) w t g = serve-turn w r g
-  serve (host m h out) w t g = absurd (false≢true t)
+serve : (e : Event) (w : World) → isTurn e ≡ true → commandNext (w .device .units) ≡ true → Served machine e w
+serve (call reset) w t g = absurd (false≢true t)
+serve (call attention) w t g = absurd (false≢true t)
+serve (call (arrive f v)) w t g = absurd (false≢true t)
+serve (call (turn r)) w t g = serve-turn w r g
+serve (host m h out) w t g = absurd (false≢true t)
 
-  record Waits (w v : World) : Type 0 where
-    part : viewOf v ≡ viewOf w
-    waits : isActive (cuState (w .device .units .cu)) ≡ true
-        → (not (w .device .units .rulast) ≡ true) × (not (v .device .units .rulast) ≡ false)
+record Waits (w v : World) : Type 0 where
+  part : viewOf v ≡ viewOf w
+  waits : isActive (cuState (w .device .units .cu)) ≡ true
+      → (not (w .device .units .rulast) ≡ true) × (not (v .device .units .rulast) ≡ false)
 
-  pass-by : (c h l : Bool) (w : World) (r : ℕ) → isActive (cuState (w .device .units .cu)) ≡ c → w .device .units .rulast ≡ l
-      → goesToCommand c h l ≡ false → Waits w (afterwards (turnBy (servedBy c h l) w r))
-  pass-by false false l w r a e g = record { part = refl; waits = λ b. absurd (true≢false (sym b ∙ a)) }
-  pass-by false true l w r a e g = record { part = received w .part; waits = λ b. absurd (true≢false (sym b ∙ a)) }
-  pass-by true false l w r a e g = absurd (true≢false g)
-  pass-by true true true w r a e g = absurd (true≢false g)
-  pass-by true true false w r a e g = record { part = received w .part; waits = λ b. (ap not e, received w .turned) }
+pass-by : (c h l : Bool) (w : World) (r : ℕ) → isActive (cuState (w .device .units .cu)) ≡ c → w .device .units .rulast ≡ l
+    → goesToCommand c h l ≡ false → Waits w (afterwards (turnBy (servedBy c h l) w r))
+pass-by false false l w r a e g = record { part = refl; waits = λ b. absurd (true≢false (sym b ∙ a)) }
+pass-by false true l w r a e g = record { part = received w .part; waits = λ b. absurd (true≢false (sym b ∙ a)) }
+pass-by true false l w r a e g = absurd (true≢false g)
+pass-by true true true w r a e g = absurd (true≢false g)
+pass-by true true false w r a e g = record { part = received w .part; waits = λ b. (ap not e, received w .turned) }
 
-  pass-turn : (w : World) (r : ℕ) → commandNext (w .device .units) ≡ false → Passed (machine May) (call (turn r)) w
-  unfolding turnOf
-  pass-turn w r g =
-      let u = w .device .units in
-      let s = pass-by (isActive (cuState (u .cu))) (isHolding (u .ru)) (u .rulast) w r refl refl g in
-      record { part = s .part; waits = s .waits }
+pass-turn : (w : World) (r : ℕ) → commandNext (w .device .units) ≡ false → Passed machine (call (turn r)) w
+unfolding turnOf
+pass-turn w r g =
+    let u = w .device .units in
+    let s = pass-by (isActive (cuState (u .cu))) (isHolding (u .ru)) (u .rulast) w r refl refl g in
+    record { part = s .part; waits = s .waits }
 
-  pass : (e : Event) (w : World) → isTurn e ≡ true → commandNext (w .device .units) ≡ false → Passed (machine May) e w
-  pass (call reset) w t g = absurd (false≢true t)
-  pass (call attention) w t g = absurd (false≢true t)
-  pass (call (arrive f v)) w t g = absurd (false≢true t)
-  pass (call (turn r)) w t g = pass-turn w r g
-  pass (host m h out) w t g = absurd (false≢true t)
+pass : (e : Event) (w : World) → isTurn e ≡ true → commandNext (w .device .units) ≡ false → Passed machine e w
+pass (call reset) w t g = absurd (false≢true t)
+pass (call attention) w t g = absurd (false≢true t)
+pass (call (arrive f v)) w t g = absurd (false≢true t)
+pass (call (turn r)) w t g = pass-turn w r g
+pass (host m h out) w t g = absurd (false≢true t)
 
-  -- what is asked of the events that may occur and are no turns: they leave the command unit's part and the order of service alone
-  pub laws : ((e : Event) (w : World) → May e w → isTurn e ≡ false → Between (machine May) e w) → Laws (machine May)
-  unfolding service
-  laws between =
-      record {
-        local = λ p m q r h.
-            let s : serviceBy (p .unit) p m r ≡ serviceBy (p .unit) p q r = service-local (p .unit) p m q r h in
-            record {
-              part = ap (λ (x : Service). x .part) s;
-              writes = ap (λ (x : Service). x .writes) s;
-              notes = note-local (p .unit) p m q r h;
-            };
-        serve = serve;
-        pass = pass;
-        between = between;
-      }
+-- what is asked of the events that may occur and are no turns: they leave the command unit's part and the order of service alone
+pub laws : (May : Event → World → Type 0) → ((e : Event) (w : World) → May e w → isTurn e ≡ false → Between machine e w) → Laws machine May
+unfolding service
+laws May between =
+    record {
+      local = λ p m q r h.
+          let s : serviceBy (p .unit) p m r ≡ serviceBy (p .unit) p q r = service-local (p .unit) p m q r h in
+          record {
+            part = ap (λ (x : Service). x .part) s;
+            writes = ap (λ (x : Service). x .writes) s;
+            notes = note-local (p .unit) p m q r h;
+          };
+      serve = serve;
+      pass = pass;
+      between = between;
+    }
 
--- ---- no attention, no reset
+-- ---- while a list is run: no attention, no reset, and the host keeps the outgoing area
 
-arrival-between : (w : World) (f : List ℕ) (v : ℕ) → Between (machine Calm) (call (arrive f v)) w
+arrival-between : (w : World) (f : List ℕ) (v : ℕ) → Between machine (call (arrive f v)) w
 unfolding arrivalOf
 arrival-between w f v = record { part = refl; kept = refl }
 
-calm-between : (e : Event) (w : World) → Calm e w → isTurn e ≡ false → Between (machine Calm) e w
-calm-between (call reset) w y t = absurd (false≢true (y .0))
-calm-between (call attention) w y t = absurd (false≢true (y .0))
-calm-between (call (arrive f v)) w y t = arrival-between w f v
-calm-between (call (turn r)) w y t = absurd (true≢false t)
-calm-between (host m h out) w y t = record { part = rw (y .1); kept = refl }
+list-between : (e : Event) (w : World) → DuringList e w → isTurn e ≡ false → Between machine e w
+list-between (call reset) w y t = absurd (false≢true (y .0))
+list-between (call attention) w y t = absurd (false≢true (y .0))
+list-between (call (arrive f v)) w y t = arrival-between w f v
+list-between (call (turn r)) w y t = absurd (true≢false t)
+list-between (host m h out) w y t = record { part = rw (y .1); kept = refl }
 
-pub calm-laws : Laws (machine Calm)
-calm-laws = laws Calm calm-between
+pub list-laws : Laws machine DuringList
+list-laws = laws DuringList list-between

@@ -1,4 +1,4 @@
--- A command list is done: the laws of taking turns, the starting attention, and list order service by service.
+-- A command list is done: the laws of taking turns, the starting attention, and list order service by service; the same on bytes.
 pub mod Laws
 pub mod Start
 pub mod Blocks
@@ -11,5 +11,4 @@ pub mod Order
 pub mod Whole
 pub mod Bytes
 pub mod Lift
-pub mod Carry
-pub mod Runs
+pub mod Accepted

@@ -96,11 +96,11 @@ module _ (base : RealAddress) (m₀ : List ℕ) (big : 8192 ≤ length m₀) whe
       subst (λ (x : Part). Sub (readsBy (x .unit) x q) (listBytes base m₀ all)) (whole p (i .0))
       (λ y k. in-list base m₀ (u c here) y (reads-at (p .unit) (p .setup) (p .outgoing) c q (i .1) y k))
 
-  module _ (May : Event → World → Type 0) (all : List ℕ) where
+  module _ (all : List ℕ) where
     Inv : List ℕ → Part → List ℕ → Type 0
     Inv bs p q = Stands base m₀ bs p q × Sub bs all
 
-    listing : Listing (machine May)
+    listing : Listing machine
     unfolding Inv
     listing =
         record {
@@ -131,35 +131,35 @@ start-todo (c ∷ cs) w st = rw (st .unit)
 start-rank : (bs : List ℕ) (w : World) → Started bs w → rank (w .device .units .cu) (length bs) ≡ 66 * length bs
 start-rank bs w st = rw (st .unit)
 
-module _ (May : Event → World → Type 0) where
-  -- the bytes of the list hold all that its commands read when they run alone
-  covers-list : (bs : List ℕ) (w : World) → 8192 ≤ length (w .memory)
-      → Stands (w .device .units .base) (w .memory) bs (partOf (w .device) (w .outgoing)) (w .memory)
-      → Covers (machine May) (bytesOf w bs) (partOf (w .device) (w .outgoing)) (w .memory)
-  unfolding listing Inv
-  covers-list bs w big st rs live act =
-      let base = w .device .units .base in
-      let p = partOf (w .device) (w .outgoing) in
-      let o = ordered (machine May) (listing base (w .memory) big May bs) rs bs p (w .memory) (st, sub-refl bs) live in
-      covers-at base (w .memory) big bs (o .0) (part′ (machine May) rs p (w .memory)) (mem′ (machine May) rs p (w .memory))
-      (o .1 .0 .0) (o .1 .0 .1) act
+-- the bytes of the list hold all that its commands read when they run alone
+covers-list : (bs : List ℕ) (w : World) → 8192 ≤ length (w .memory)
+    → Stands (w .device .units .base) (w .memory) bs (partOf (w .device) (w .outgoing)) (w .memory)
+    → Covers machine (bytesOf w bs) (partOf (w .device) (w .outgoing)) (w .memory)
+unfolding listing Inv
+covers-list bs w big st rs live act =
+    let base = w .device .units .base in
+    let p = partOf (w .device) (w .outgoing) in
+    let o = ordered machine (listing base (w .memory) big bs) rs bs p (w .memory) (st, sub-refl bs) live in
+    covers-at base (w .memory) big bs (o .0) (part′ machine rs p (w .memory)) (mem′ machine rs p (w .memory))
+    (o .1 .0 .0) (o .1 .0 .1) act
 
-  -- Let a list of the blocks bs be started, the last the first that ends or suspends it; let no result be a byte of a later command; let the
-  -- events of a trace be such as may occur, and nothing write into the list, as it stands at the start, but each command's own results. Once
-  -- 132 times as many turns have come as there are blocks, all are done, once each, in list order, exactly as the command unit alone does them
-  -- on the memory at the start, and nothing else is begun. May is any choice of events under which the units keep to the laws of taking turns
-  pub listDone : Laws (machine May) → (bs : List ℕ) (es : List Event) (w : World) → Started bs w → Premises May bs es w → Done May bs es w
-  unfolding listing Inv
-  listDone laws bs es w st pr =
-      let base = w .device .units .base in
-      let h = stands-start bs w st (pr .apart) in
-      let f : Finished (machine May) (listing base (w .memory) (pr .size) May bs) (bytesOf w bs) bs es w =
-      finish (machine May) (listing base (w .memory) (pr .size) May bs) laws (bytesOf w bs) bs es w (h, sub-refl bs) (covers-list bs w (pr .size) h)
-      (pr .events) (pr .kept) (omega (arith, start-rank bs w st, pr .turns)) in
-      record {
-        order = f .order ∙ start-todo bs w st;
-        notes = f .alone .notes;
-        part = f .alone .part;
-        bytes = f .alone .bytes;
-        stopped = f .stopped;
-      }
+-- Let a list of the blocks bs be started, the last the first that ends or suspends it; let no result be a byte of a later command; let the
+-- events of a trace be such as may occur, and nothing write into the list, as it stands at the start, but each command's own results. Once
+-- 132 times as many turns have come as there are blocks, all are done, once each, in list order, exactly as the command unit alone does them
+-- on the memory at the start, and nothing else is begun. May is any choice of events under which the units keep to the laws of taking turns
+pub listDone : (May : Event → World → Type 0) → Laws machine May → (bs : List ℕ) (es : List Event) (w : World) → Started bs w
+    → Premises May bs es w → Done bs es w
+unfolding listing Inv
+listDone May laws bs es w st pr =
+    let base = w .device .units .base in
+    let h = stands-start bs w st (pr .apart) in
+    let f : Finished machine (listing base (w .memory) (pr .size) bs) (bytesOf w bs) bs es w =
+    finish machine (listing base (w .memory) (pr .size) bs) May laws (bytesOf w bs) bs es w (h, sub-refl bs) (covers-list bs w (pr .size) h)
+    (pr .events) (pr .kept) (omega (arith, start-rank bs w st, pr .turns)) in
+    record {
+      order = f .order ∙ start-todo bs w st;
+      notes = f .alone .notes;
+      part = f .alone .part;
+      bytes = f .alone .bytes;
+      stopped = f .stopped;
+    }

@@ -11,21 +11,12 @@ use Rattle.device.specs.declared.Cu.the-variants as cu
 use Rattle.command.specs.Part.{partOf}
 use Rattle.control.specs.Obey.{ofScb}
 use Rattle.chip.specs.World.{World}
-use Rattle.traces.specs.Event.{Event, call, host, step, isTurn, isCalm}
-use Rattle.progress.specs.Machine.{eachOnce, turns, run, log, log′, reports, part′, mem′, Undisturbed, Mays}
+use Rattle.traces.specs.Event.{Event, step, isTurn}
+use Rattle.progress.specs.Trace.{run, AllMay, turns}
+use Rattle.progress.specs.Machine.{eachOnce, log, log′, reports, part′, mem′, Undisturbed}
 use Rattle.progress.specs.Same.{Same}
 use Rattle.lists.specs.Uses.{block, listBytes, NoClash, Listed, firstOf}
 use Rattle.lists.specs.Unit.{machine, tag}
-
--- ---- which events may occur
-
--- no attention and no reset; the host keeps the outgoing area (that it keeps N is in `Undisturbed`, and no event but a call changes the record)
-abbrev pub KeepsOutgoing : Event → World → Type 0
-KeepsOutgoing (call c) w = Unit {0}
-KeepsOutgoing (host m h out) w = out ≡ w .outgoing
-
-abbrev pub Calm : Event → World → Type 0
-Calm e w = (isCalm e ≡ true) × KeepsOutgoing e w
 
 -- ---- the start
 
@@ -47,25 +38,24 @@ pub record Started (bs : List ℕ) (w : World) : Type 0 where
 abbrev pub bytesOf : World → List ℕ → List ℕ
 bytesOf w bs = listBytes (w .device .units .base) (w .memory) bs
 
-module _ (May : Event → World → Type 0) where
-  pub record Done (bs : List ℕ) (es : List Event) (w : World) : Type 0 where
-    -- begun and done, once each, in list order, and nothing else is begun
-    pub order : map tag (log (machine May) es w) ≡ eachOnce bs
-    -- each as the definitions say: status, frame sent
-    pub notes : log (machine May) es w ≡ log′ (machine May) (reports (machine May) es w) (partOf (w .device) (w .outgoing)) (w .memory)
-    -- settings, addresses, outgoing area, and where the unit stands
-    pub part : partOf (run (machine May) es w .device) (run (machine May) es w .outgoing)
-        ≡ part′ (machine May) (reports (machine May) es w) (partOf (w .device) (w .outgoing)) (w .memory)
-    -- the bytes of the list, its results among them
-    pub bytes : Same (bytesOf w bs) (run (machine May) es w .memory)
-        (mem′ (machine May) (reports (machine May) es w) (partOf (w .device) (w .outgoing)) (w .memory))
-    -- and the unit has left Active
-    pub stopped : isActive (cuState (run (machine May) es w .device .units .cu)) ≡ false
+pub record Done (bs : List ℕ) (es : List Event) (w : World) : Type 0 where
+  -- begun and done, once each, in list order, and nothing else is begun
+  pub order : map tag (log machine es w) ≡ eachOnce bs
+  -- each as the definitions say: status, frame sent
+  pub notes : log machine es w ≡ log′ machine (reports machine es w) (partOf (w .device) (w .outgoing)) (w .memory)
+  -- settings, addresses, outgoing area, and where the unit stands
+  pub part : partOf (run step es w .device) (run step es w .outgoing)
+      ≡ part′ machine (reports machine es w) (partOf (w .device) (w .outgoing)) (w .memory)
+  -- the bytes of the list, its results among them
+  pub bytes : Same (bytesOf w bs) (run step es w .memory)
+      (mem′ machine (reports machine es w) (partOf (w .device) (w .outgoing)) (w .memory))
+  -- and the unit has left Active
+  pub stopped : isActive (cuState (run step es w .device .units .cu)) ≡ false
 
-  -- 132 times n turns; the events of the trace may occur; nothing writes into the list but each command's own results
-  pub record Premises (bs : List ℕ) (es : List Event) (w : World) : Type 0 where
-    pub size : 8192 ≤ length (w .memory)
-    pub apart : NoClash (length (w .memory)) (w .device .units .base) (w .memory) bs
-    pub events : Mays (machine May) es w
-    pub kept : Undisturbed (machine May) (bytesOf w bs) es w
-    pub turns : 132 * length bs ≤ turns (λ e v. isTurn e) step es w
+-- 132 times n turns; the events of the trace may occur, by May; nothing writes into the list but each command's own results, and N stays
+pub record Premises (May : Event → World → Type 0) (bs : List ℕ) (es : List Event) (w : World) : Type 0 where
+  pub size : 8192 ≤ length (w .memory)
+  pub apart : NoClash (length (w .memory)) (w .device .units .base) (w .memory) bs
+  pub events : AllMay May step es w
+  pub kept : Undisturbed machine (bytesOf w bs) es w
+  pub turns : 132 * length bs ≤ turns isTurn es

@@ -3,5 +3,4 @@
 pub mod Uses
 pub mod Unit
 pub mod Done
-pub mod Lent
-pub mod Runs
+pub mod OnBytes

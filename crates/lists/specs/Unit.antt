@@ -87,9 +87,8 @@ goesToCommand true true rulast = rulast
 abbrev pub commandNext : Units → Bool
 commandNext u = goesToCommand (isActive (cuState (u .cu))) (isHolding (u .ru)) (u .rulast)
 
--- May says which events may occur
-abbrev pub machine : (Event → World → Type 0) → Machine
-machine May =
+abbrev pub machine : Machine
+machine =
     record {
       S = World;
       E = Event;
@@ -97,8 +96,7 @@ machine May =
       R = ℕ;
       B = Note;
       step = step;
-      may = May;
-      isTurn = λ e w. isTurn e;
+      isTurn = isTurn;
       report = report;
       view = λ w. partOf (w .device) (w .outgoing);
       mem = λ w. w .memory;

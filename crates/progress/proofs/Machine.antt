@@ -7,7 +7,8 @@ use native.Mathlib.Omega.{arith}
 use lib.ListN.{length}
 use Rattle.memory.specs.Memory.{Write, apply}
 use Rattle.progress.specs.Same.{In, Same}
-use Rattle.progress.specs.Machine.{Machine, Laws, bit, turns, Alike, Served, Passed, Between, run, atService, reports, log, own, Undisturbed, Mays, part′, mem′, log′, Live, Covers, Alone, Tag, begun, done, eachOnce, Listing, Ordered, Finished}
+use Rattle.progress.specs.Trace.{run, AllMay, bit, turns}
+use Rattle.progress.specs.Machine.{Machine, Laws, Alike, Served, Passed, Between, atService, reports, log, own, Undisturbed, part′, mem′, log′, Live, Covers, Alone, Tag, begun, done, eachOnce, Listing, Ordered, Finished}
 use Rattle.progress.proofs.Same.{same-refl, same-trans, same-part, same-apply}
 
 pub bit-le : (b : Bool) → bit b ≤ 1
@@ -15,13 +16,13 @@ bit-le true = omega arith
 bit-le false = omega arith
 
 module _ (M : Machine) where
-  open Machine M using (S, E, P, R, B, step, may, isTurn, report, view, mem, active, served, last, work, results, note, reads)
+  open Machine M using (S, E, P, R, B, step, isTurn, report, view, mem, active, served, last, work, results, note, reads)
 
-  module _ (K : Laws M) (L : List ℕ) where
+  module _ (may : E → S → Type 0) (K : Laws M may) (L : List ℕ) where
     abbrev Next : E → List E → S → P → List ℕ → Type 0
     Next e es s v q = Covers M L v q → Same L (mem (step e s)) q → view (step e s) ≡ v → Alone M L es (step e s) v q
 
-    after-service : (e : E) (es : List E) (s : S) (v : P) (q : List ℕ) → isTurn e s ≡ true → served s ≡ true
+    after-service : (e : E) (es : List E) (s : S) (v : P) (q : List ℕ) → isTurn e ≡ true → served s ≡ true
         → view s ≡ v → Covers M L v q → Same L (mem s) q → Same L (mem (step e s)) (apply (own M e s) (mem s))
         → Next e es s (work v q (report e)) (apply (results v q (report e)) q) → Alone M L (e ∷ es) s v q
     after-service e es s v q t h p c a k f =
@@ -42,7 +43,7 @@ module _ (M : Machine) where
           pace = λ b. rw (t, h) (omega (arith, rw (sv .turned) at (ih .pace b)));
         }
 
-    after-pass : (e : E) (es : List E) (s : S) (v : P) (q : List ℕ) → isTurn e s ≡ true → served s ≡ false
+    after-pass : (e : E) (es : List E) (s : S) (v : P) (q : List ℕ) → isTurn e ≡ true → served s ≡ false
         → view s ≡ v → Covers M L v q → Same L (mem s) q → Same L (mem (step e s)) (apply (own M e s) (mem s))
         → Next e es s v q → Alone M L (e ∷ es) s v q
     after-pass e es s v q t h p c a k f =
@@ -60,7 +61,7 @@ module _ (M : Machine) where
               rw (t, h, w .0) (omega (arith, rw (w .1) at (ih .pace b)));
         }
 
-    after-other : (e : E) (es : List E) (s : S) (v : P) (q : List ℕ) → may e s → isTurn e s ≡ false
+    after-other : (e : E) (es : List E) (s : S) (v : P) (q : List ℕ) → may e s → isTurn e ≡ false
         → view s ≡ v → Covers M L v q → Same L (mem s) q → Same L (mem (step e s)) (apply (own M e s) (mem s))
         → Next e es s v q → Alone M L (e ∷ es) s v q
     after-other e es s v q y t p c a k f =
@@ -76,23 +77,23 @@ module _ (M : Machine) where
           pace = λ b. rw t (omega (arith, rw (bt .kept) at (ih .pace b)));
         }
 
-    after : (t : Bool) (h : Bool) (e : E) (es : List E) (s : S) (v : P) (q : List ℕ) → may e s → isTurn e s ≡ t → served s ≡ h
+    after : (t : Bool) (h : Bool) (e : E) (es : List E) (s : S) (v : P) (q : List ℕ) → may e s → isTurn e ≡ t → served s ≡ h
         → view s ≡ v → Covers M L v q → Same L (mem s) q → Same L (mem (step e s)) (apply (own M e s) (mem s))
         → ((w : P) (p : List ℕ) → Next e es s w p) → Alone M L (e ∷ es) s v q
     after true true e es s v q y t h p c a k f = after-service e es s v q t h p c a k (f _ _)
     after true false e es s v q y t h p c a k f = after-pass e es s v q t h p c a k (f v q)
     after false h e es s v q y t _ p c a k f = after-other e es s v q y t p c a k (f v q)
 
-    pub alone : (es : List E) (s : S) (v : P) (q : List ℕ) → view s ≡ v → Mays M es s → Undisturbed M L es s → Covers M L v q
+    pub alone : (es : List E) (s : S) (v : P) (q : List ℕ) → view s ≡ v → AllMay may step es s → Undisturbed M L es s → Covers M L v q
         → Same L (mem s) q → Alone M L es s v q
     alone [] s v q p y k c a =
         record { part = p; bytes = a; notes = refl; live = tt; was = λ b. rw p at b; pace = λ b. omega arith }
     alone (e ∷ es) s v q p y k c a =
-        after (isTurn e s) (served s) e es s v q (y .0) refl refl p c a (k .0)
+        after (isTurn e) (served s) e es s v q (y .0) refl refl p c a (k .0)
         (λ w q₁ c₁ a₁ p₁. alone es (step e s) w q₁ p₁ (y .1) (k .1) c₁ a₁)
 
 module _ (M : Machine) (O : Listing M) where
-  open Machine M using (S, E, P, R, B, step, may, isTurn, report, view, mem, active, served, last, work, results, note, reads)
+  open Machine M using (S, E, P, R, B, step, isTurn, report, view, mem, active, served, last, work, results, note, reads)
   open Listing O using (tag, Inv, todo, rank, next, some, over)
 
   pub ordered : (rs : List R) (bs : List ℕ) (v : P) (q : List ℕ) → Inv bs v q → Live M rs v q → (cs : List ℕ) × Ordered M O bs rs v q cs
@@ -108,8 +109,8 @@ module _ (M : Machine) (O : Listing M) where
         ),
       )
 
-  finish-if : (b : Bool) (L bs : List ℕ) (es : List E) (s : S) → active (view (run M es s)) ≡ b → Inv bs (view s) (mem s) → Alone M L es s (view s) (mem s)
-      → 2 * rank bs (view s) ≤ turns isTurn step es s → Finished M O L bs es s
+  finish-if : (b : Bool) (L bs : List ℕ) (es : List E) (s : S) → active (view (run step es s)) ≡ b → Inv bs (view s) (mem s) → Alone M L es s (view s) (mem s)
+      → 2 * rank bs (view s) ≤ turns isTurn es → Finished M O L bs es s
   finish-if false L bs es s e i a t =
       let h = ordered (reports M es s) bs (view s) (mem s) i (a .live) in
       let z : todo (h .0) (part′ M (reports M es s) (view s) (mem s)) ≡ [] = over (h .0) _ _ (h .1 .0) (rw (a .part) at e) in
@@ -119,8 +120,8 @@ module _ (M : Machine) (O : Listing M) where
       let p : 0 < rank (h .0) (part′ M (reports M es s) (view s) (mem s)) = some (h .0) _ _ (h .1 .0) (rw (a .part) at e) in
       absurd (omega (arith, h .1 .2, a .pace e, bit-le (last s)))
 
-  pub finish : Laws M → (L bs : List ℕ) (es : List E) (s : S) → Inv bs (view s) (mem s) → Covers M L (view s) (mem s) → Mays M es s
+  pub finish : (may : E → S → Type 0) → Laws M may → (L bs : List ℕ) (es : List E) (s : S) → Inv bs (view s) (mem s) → Covers M L (view s) (mem s) → AllMay may step es s
       → Undisturbed M L es s
-      → 2 * rank bs (view s) ≤ turns isTurn step es s → Finished M O L bs es s
-  finish K L bs es s i c y k t =
-      finish-if (active (view (run M es s))) L bs es s refl i (alone M K L es s (view s) (mem s) refl y k c (same-refl L (mem s))) t
+      → 2 * rank bs (view s) ≤ turns isTurn es → Finished M O L bs es s
+  finish may K L bs es s i c y k t =
+      finish-if (active (view (run step es s))) L bs es s refl i (alone M may K L es s (view s) (mem s) refl y k c (same-refl L (mem s))) t

@@ -3,7 +3,7 @@ use mathlib.Core.Path.{_≡_}
 use mathlib.Core.Bool.{Bool, true, false}
 use mathlib.Core.List.{List, [], _∷_, _++_}
 use Prim.Native.Nat.{ℕ, _<_}
-use Rattle.progress.specs.Machine.{turns}
+use Rattle.progress.specs.Trace.{run, turns}
 
 -- ---- the held frame: the other unit's work ends within twice the services that it can take, whatever the memory holds
 
@@ -11,9 +11,8 @@ pub record Holder : Type 1 where
   pub S : Type 0
   pub E : Type 0
   pub step : E → S → S
-  -- the event may occur in a trace; the event is a turn, and not refused
-  pub may : E → S → Type 0
-  pub isTurn : E → S → Bool
+  -- the event is a turn, and not refused
+  pub isTurn : E → Bool
   -- a frame is held; a turn now goes to the receive unit; it was the unit served at the last working turn
   pub held : S → Bool
   pub served : S → Bool
@@ -27,13 +26,8 @@ pub record Holder : Type 1 where
   pub frame : S → F
   pub of : O → F
 
--- what a trace makes of a state, where f is what an event does
-abbrev pub run : {S E : Type 0} → (E → S → S) → List E → S → S
-run f [] s = s
-run f (e ∷ es) s = run f es (f e s)
-
 module _ (H : Holder) where
-  open Holder H using (S, E, step, may, isTurn, held, served, last, left, O, ends, F, frame, of)
+  open Holder H using (S, E, step, isTurn, held, served, last, left, O, ends, F, frame, of)
 
   pub data Went (e : E) (s : S) : Type 0 where
     ended : (o : O) → ends e s ≡ o ∷ [] → of o ≡ frame s → Went e s
@@ -45,18 +39,13 @@ module _ (H : Holder) where
     pub same : frame (step e s) ≡ frame s
     pub count : left (step e s) ≡ left s
 
-  -- every event of the trace may occur
-  abbrev pub Mays : List E → S → Type 0
-  Mays [] s = Unit {0}
-  Mays (e ∷ es) s = may e s × Mays es (step e s)
-
   -- what an event that may occur does with a held frame: a turn that goes to the receive unit, another turn, an event that is no turn
-  pub record Laws : Type 0 where
+  pub record Laws (may : E → S → Type 0) : Type 0 where
     pub positive : (s : S) → 0 < left s
-    pub serve : (e : E) (s : S) → may e s → held s ≡ true → isTurn e s ≡ true → served s ≡ true → Went e s
-    pub pass : (e : E) (s : S) → may e s → held s ≡ true → isTurn e s ≡ true → served s ≡ false
+    pub serve : (e : E) (s : S) → may e s → held s ≡ true → isTurn e ≡ true → served s ≡ true → Went e s
+    pub pass : (e : E) (s : S) → may e s → held s ≡ true → isTurn e ≡ true → served s ≡ false
         → Stays e s × (last s ≡ true) × (last (step e s) ≡ false)
-    pub between : (e : E) (s : S) → may e s → held s ≡ true → isTurn e s ≡ false → Stays e s × (last (step e s) ≡ last s)
+    pub between : (e : E) (s : S) → may e s → held s ≡ true → isTurn e ≡ false → Stays e s × (last (step e s) ≡ last s)
 
   -- the frame x is held all along, and nothing is noted of it
   abbrev pub Holds : F → List E → S → Type 0
@@ -69,9 +58,9 @@ module _ (H : Holder) where
     pub event : E
     pub after : List E
     pub split : es ≡ before ++ (event ∷ after)
-    pub soon : turns isTurn step before s < n
+    pub soon : turns isTurn before < n
     pub holds : Holds x before s
-    pub turned : isTurn event (run step before s) ≡ true
+    pub turned : isTurn event ≡ true
     pub note : O
     pub noted : ends event (run step before s) ≡ note ∷ []
     pub own : of note ≡ x

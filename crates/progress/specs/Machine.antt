@@ -6,17 +6,8 @@ use mathlib.Core.List.{List, [], _∷_, _++_, map}
 use Prim.Native.Nat.{ℕ, _+_, _*_, _≤_, _<_}
 use lib.ListN.{length}
 use Rattle.memory.specs.Memory.{Write, apply}
+use Rattle.progress.specs.Trace.{run, bit, turns}
 use Rattle.progress.specs.Same.{In, Same}
-
--- ---- how many turns a trace has: t says which events are turns (that are not refused), f what an event does
-
-abbrev pub bit : Bool → ℕ
-bit true = 1
-bit false = 0
-
-abbrev pub turns : {S E : Type 0} → (E → S → Bool) → (E → S → S) → List E → S → ℕ
-turns t f [] s = 0
-turns t f (e ∷ es) s = bit (t e s) + turns t f es (f e s)
 
 -- ---- the machine
 
@@ -29,9 +20,8 @@ pub record Machine : Type 1 where
   pub R : Type 0
   pub B : Type 0
   pub step : E → S → S
-  -- the event may occur in a trace; the event is a turn, and not refused
-  pub may : E → S → Type 0
-  pub isTurn : E → S → Bool
+  -- the event is a turn, and not refused
+  pub isTurn : E → Bool
   pub report : E → R
   pub view : S → P
   pub mem : S → List ℕ
@@ -46,7 +36,7 @@ pub record Machine : Type 1 where
   pub reads : P → List ℕ → List ℕ
 
 module _ (M : Machine) where
-  open Machine M using (S, E, P, R, B, step, may, isTurn, report, view, mem, active, served, last, work, results, note, reads)
+  open Machine M using (S, E, P, R, B, step, isTurn, report, view, mem, active, served, last, work, results, note, reads)
 
   -- a service reads its addresses alone
   pub record Alike (v : P) (m q : List ℕ) (r : R) : Type 0 where
@@ -67,23 +57,15 @@ module _ (M : Machine) where
     pub part : view (step e s) ≡ view s
     pub kept : last (step e s) ≡ last s
 
-  pub record Laws : Type 0 where
+  -- may says which events may occur
+  pub record Laws (may : E → S → Type 0) : Type 0 where
     pub local : (v : P) (m q : List ℕ) (r : R) → Same (reads v q) m q → Alike v m q r
-    pub serve : (e : E) (s : S) → isTurn e s ≡ true → served s ≡ true → Served e s
-    pub pass : (e : E) (s : S) → isTurn e s ≡ true → served s ≡ false → Passed e s
+    pub serve : (e : E) (s : S) → isTurn e ≡ true → served s ≡ true → Served e s
+    pub pass : (e : E) (s : S) → isTurn e ≡ true → served s ≡ false → Passed e s
     -- all that is asked of an event that may occur and is no turn
-    pub between : (e : E) (s : S) → may e s → isTurn e s ≡ false → Between e s
+    pub between : (e : E) (s : S) → may e s → isTurn e ≡ false → Between e s
 
   -- ---- a trace
-
-  abbrev pub run : List E → S → S
-  run [] s = s
-  run (e ∷ es) s = run es (step e s)
-
-  -- every event of the trace may occur
-  abbrev pub Mays : List E → S → Type 0
-  Mays [] s = Unit {0}
-  Mays (e ∷ es) s = may e s × Mays es (step e s)
 
   -- x at a turn that goes to the command unit, y at every other event
   abbrev pub atService : {A : Type 0} → Bool → Bool → A → A → A
@@ -94,15 +76,15 @@ module _ (M : Machine) where
   -- the reports given with the command unit's turns; what was noted at them
   abbrev pub reports : List E → S → List R
   reports [] s = []
-  reports (e ∷ es) s = atService (isTurn e s) (served s) (report e ∷ reports es (step e s)) (reports es (step e s))
+  reports (e ∷ es) s = atService (isTurn e) (served s) (report e ∷ reports es (step e s)) (reports es (step e s))
 
   abbrev pub log : List E → S → List B
   log [] s = []
-  log (e ∷ es) s = atService (isTurn e s) (served s) (note (view s) (mem s) (report e)) [] ++ log es (step e s)
+  log (e ∷ es) s = atService (isTurn e) (served s) (note (view s) (mem s) (report e)) [] ++ log es (step e s)
 
   -- the results that the command in work writes at an event
   abbrev pub own : E → S → List Write
-  own e s = atService (isTurn e s) (served s) (results (view s) (mem s) (report e)) []
+  own e s = atService (isTurn e) (served s) (results (view s) (mem s) (report e)) []
 
   -- at each event of the trace the bytes at L change by the results of the command in work and by nothing else
   abbrev pub Undisturbed : List ℕ → List E → S → Type 0
@@ -134,14 +116,14 @@ module _ (M : Machine) where
 
   -- what a trace comes to, beside the command unit alone
   pub record Alone (L : List ℕ) (es : List E) (s : S) (v : P) (q : List ℕ) : Type 0 where
-    pub part : view (run es s) ≡ part′ (reports es s) v q
-    pub bytes : Same L (mem (run es s)) (mem′ (reports es s) v q)
+    pub part : view (run step es s) ≡ part′ (reports es s) v q
+    pub bytes : Same L (mem (run step es s)) (mem′ (reports es s) v q)
     pub notes : log es s ≡ log′ (reports es s) v q
     -- every service came while it had work
     pub live : Live (reports es s) v q
     -- it has work only if it had work before, and then it was served at least at every second turn
-    pub was : active (view (run es s)) ≡ true → active v ≡ true
-    pub pace : active (view (run es s)) ≡ true → turns isTurn step es s ≤ 2 * length (reports es s) + bit (last s)
+    pub was : active (view (run step es s)) ≡ true → active v ≡ true
+    pub pace : active (view (run step es s)) ≡ true → turns isTurn es ≤ 2 * length (reports es s) + bit (last s)
 
 -- ---- in list order, once each, and how soon
 
@@ -180,6 +162,6 @@ module _ (M : Machine) where
 
     -- the whole: the list is done, each command once and in order, and everything at L is as the command unit alone leaves it
     pub record Finished (L : List ℕ) (bs : List ℕ) (es : List E) (s : S) : Type 0 where
-      pub stopped : active (view (run M es s)) ≡ false
+      pub stopped : active (view (run step es s)) ≡ false
       pub order : map tag (log M es s) ≡ todo bs (view s)
       pub alone : Alone M L es s (view s) (mem s)

@@ -1,2 +1,2 @@
--- What an answer says, and what an event is.
+-- What an answer says, what an event is, and what calls come to that are refused.
 pub mod Shown

@@ -28,3 +28,10 @@ edge answer = answer / 4294967296
 -- 0 if not refused
 abbrev pub isRefused : Called → Bool
 isRefused r = not (eqb (number (r .answer)) 0)
+
+-- of a run of turns: the number of turns taken, in bits 48 to 63, and the last turn's answer
+abbrev pub turnsTaken : ℕ → ℕ
+turnsTaken answer = answer / 281474976710656
+
+abbrev pub withoutTurns : ℕ → ℕ
+withoutTurns answer = answer % 281474976710656

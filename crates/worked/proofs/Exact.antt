@@ -11,11 +11,12 @@ use Rattle.device.specs.State.{cuState, isActive}
 use Rattle.chip.specs.Cases.{Word, _is_, put, startOn}
 use Rattle.chip.specs.Call.{attention, arrive, turn}
 use Rattle.chip.specs.World.{World}
-use Rattle.traces.specs.Event.{Event, call, host, step, isTurn}
-use Rattle.progress.specs.Machine.{Undisturbed, Mays, log, run, turns}
+use Rattle.traces.specs.Event.{Event, call, host, step, isTurn, DuringList}
+use Rattle.progress.specs.Trace.{run, AllMay, turns}
+use Rattle.progress.specs.Machine.{Undisturbed, log}
 use Rattle.lists.specs.Uses.{Listed, firstOf, NoClash}
 use Rattle.lists.specs.Unit.{machine, began, ended}
-use Rattle.lists.specs.Done.{Calm, Starts, Done, bytesOf}
+use Rattle.lists.specs.Done.{Starts, Done, bytesOf}
 use Rattle.lists.proofs.Start.{cblOf}
 use Rattle.lists.proofs.Whole.{attention-list-done}
 use Rattle.worked.proofs.Tests.{keptb, kept-ok, kept-sub, sub-ok, clash-ok, calls-ok}
@@ -26,15 +27,15 @@ use Rattle.worked.proofs.Tests.{keptb, kept-ok, kept-sub, sub-ok, clash
 pub record PremisesBy (least : ℕ → ℕ) (bs : List ℕ) (es : List Event) (v : World) : Type 0 where
   pub size : 8192 ≤ length (v .memory)
   pub apart : NoClash (length (v .memory)) (v .device .units .base) (v .memory) bs
-  pub events : Mays (machine Calm) es v
-  pub kept : Undisturbed (machine Calm) (bytesOf v bs) es v
-  pub turns : least (length bs) ≤ turns (λ e x. isTurn e) step es v
+  pub events : AllMay DuringList step es v
+  pub kept : Undisturbed machine (bytesOf v bs) es v
+  pub turns : least (length bs) ≤ turns isTurn es
 
 abbrev pub FirstHalf : (ℕ → ℕ) → Type 0
 FirstHalf least =
     (bs : List ℕ) (es : List Event) (w : World) → Starts w → firstOf bs ≡ cblOf w .0
     → Listed (step (call attention) w .device .units .base) (step (call attention) w .memory) bs
-    → PremisesBy least bs es (step (call attention) w) → Done Calm bs es (step (call attention) w)
+    → PremisesBy least bs es (step (call attention) w) → Done bs es (step (call attention) w)
 
 -- ---- the board: ISCP at 0, SCB at 8, base 0
 
@@ -86,7 +87,7 @@ abbrev one : ℕ → List Event
 one k = frame ∷ replicate k (call (turn 0))
 
 -- its 64 descriptors are one
-one-kept : Undisturbed (machine Calm) (bytesOf alone (0x18 ∷ [])) (one 131) alone
+one-kept : Undisturbed machine (bytesOf alone (0x18 ∷ [])) (one 131) alone
 unfolding keptb
 one-kept =
     kept-sub (bytesOf alone (0x18 ∷ [])) addresses (one 131) alone (sub-ok (bytesOf alone (0x18 ∷ [])) addresses tt)
@@ -103,11 +104,11 @@ one-premises least l =
       turns = l;
     }
 
-not-after-131 : isActive (cuState (run (machine Calm) (one 131) alone .device .units .cu)) ≡ true
+not-after-131 : isActive (cuState (run step (one 131) alone .device .units .cu)) ≡ true
 unfolding keptb
 not-after-131 = refl
 
-after-132 : log (machine Calm) (one 132) alone ≡ began 0x18 ∷ ended 0x18 0x8100 [] ∷ []
+after-132 : log machine (one 132) alone ≡ began 0x18 ∷ ended 0x18 0x8100 [] ∷ []
 unfolding keptb
 after-132 = refl
 
@@ -138,17 +139,17 @@ addresses₂ =
     0x54 ∷ 0x55 ∷ 0x56 ∷ 0x57 ∷ 0x58 ∷ 0x59 ∷ 0x5A ∷ 0x5B ∷ 0x5C ∷ 0x5D ∷ 0x5E ∷ 0x5F ∷ 0x60 ∷ 0x61 ∷ 0x62 ∷ 0x63
     ∷ addresses
 
-two-kept : Undisturbed (machine Calm) (bytesOf pair both) (two 132) pair
+two-kept : Undisturbed machine (bytesOf pair both) (two 132) pair
 unfolding keptb
 two-kept =
     kept-sub (bytesOf pair both) addresses₂ (two 132) pair (sub-ok (bytesOf pair both) addresses₂ tt)
     (kept-ok addresses₂ (two 132) pair tt)
 
-not-after-263 : isActive (cuState (run (machine Calm) (two 132) pair .device .units .cu)) ≡ true
+not-after-263 : isActive (cuState (run step (two 132) pair .device .units .cu)) ≡ true
 unfolding keptb
 not-after-263 = refl
 
-after-264 : log (machine Calm) (two 133) pair ≡ began 0x18 ∷ ended 0x18 0x8100 [] ∷ began 0x54 ∷ ended 0x54 0x8100 [] ∷ []
+after-264 : log machine (two 133) pair ≡ began 0x18 ∷ ended 0x18 0x8100 [] ∷ began 0x54 ∷ ended 0x54 0x8100 [] ∷ []
 unfolding keptb
 after-264 = refl
 

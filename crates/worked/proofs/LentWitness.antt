@@ -16,20 +16,20 @@ use Rattle.chip.specs.Cases.{_is_, put}
 use Rattle.chip.specs.Call.{attention, turn}
 use Rattle.calls.specs.Calls.{Areas, areasOf, answerNumber, refusalOf, turnCall}
 use Rattle.traces.specs.Bytes.{called}
-use Rattle.traces.specs.Event.{Event, call, host, step}
-use Rattle.progress.specs.Machine.{run}
+use Rattle.traces.specs.Event.{Event, call, host, step, DuringList}
+use Rattle.progress.specs.Trace.{run}
 use Rattle.closure.specs.Sound.{Sound}
 use Rattle.closure.proofs.Closed.{closed}
-use Rattle.closure.specs.Driven.{Lending}
-use Rattle.lists.specs.Unit.{machine}
-use Rattle.lists.specs.Done.{Calm, Done}
-use Rattle.lists.specs.Lent.{refusedAt, left, eventsOf, Shows, LentPremises}
-use Rattle.lists.proofs.Laws.{calm-laws}
+use Rattle.traces.specs.Areas.{Shows}
+use Rattle.traces.specs.Driven.{Lending, refusedAt, left, eventsOf}
+use Rattle.lists.specs.Done.{Done}
+use Rattle.lists.specs.OnBytes.{PremisesOnBytes}
+use Rattle.lists.proofs.Laws.{list-laws}
 use Rattle.worked.proofs.Tests.{keptb, and-l, and-r}
 use Rattle.worked.proofs.Witness.{cold, before, starts, begun, three, is-started, frame, early, writes, late, middle, busy, trace, premises}
 use Rattle.lists.proofs.Bytes.{start-shows, lent-list-done}
 use Rattle.lists.proofs.Lift.{lendings, lifted, refused-anywhere}
-use Rattle.lists.proofs.Carry.{carries, Right, accepts, right-again, Rights, all-accepted}
+use Rattle.lists.proofs.Accepted.{Right, accepts, right-again, Rights, all-accepted}
 
 -- ---- bytes, by a test
 
@@ -65,7 +65,7 @@ first = areasOf (before .memory) (before .holding) (before .outgoing) (imageOf (
 right-first : Right first (before .device)
 unfolding keptb
 right-first =
-    let s : Sound (step (call attention) cold) = closed attention cold tt sound-cold in
+    let s : Sound (step (call attention) cold) = closed attention cold bytes-nil sound-cold in
     record {
       bytes =
           record {
@@ -88,17 +88,18 @@ rights-append (host m h out ∷ es) fs x y = (x .0, rights-append es fs (x .1) y
 
 rights-turns : (n r : ℕ) → Rights (replicate n (call (turn r)))
 rights-turns zero r = tt
-rights-turns (suc n) r = ((tt, lit≤ tt), rights-turns n r)
+rights-turns (suc n) r = ((bytes-nil, lit≤ tt), rights-turns n r)
 
 right-writes : Rights (writes middle ∷ [])
 unfolding keptb
 right-writes = (
   record {
-    bytes = bytes-ok (put (0xB0 is 0x5555 ∷ []) (middle .memory)) tt;
-    held = bytes-ok (replicate 2048 9) tt;
-    sent = bytes-ok (middle .outgoing) tt;
     size = smallest;
-    lengths = (refl, refl);
+    holding = refl;
+    outgoing = refl;
+    memory-bytes = bytes-ok (put (0xB0 is 0x5555 ∷ []) (middle .memory)) tt;
+    holding-bytes = bytes-ok (replicate 2048 9) tt;
+    outgoing-bytes = bytes-ok (middle .outgoing) tt;
   },
   tt,
 )
@@ -120,26 +121,26 @@ unfolding turnCall refusalOf answerNumber sizeAllowed
 stray-refused = refl
 
 abbrev pub worked : List Lending
-worked = stray ∷ lendings carries trace (called attention first .areas)
+worked = stray ∷ lendings trace (called attention first .areas)
 
 started-right : Right (called attention first .areas) (begun .device)
-started-right = right-again attention first (before .device) right-first tt (lit≤ tt)
+started-right = right-again attention first (before .device) right-first bytes-nil (lit≤ tt)
 
-pub shows-begun : Shows carries (called attention first .areas) begun
+pub shows-begun : Shows (called attention first .areas) begun
 shows-begun =
-    start-shows carries first (before .device) (tt, right-first .bytes) (right-first .holds)
+    start-shows first (before .device) (right-first .bytes) (right-first .holds)
     (accepts attention first (before .device) right-first (lit≤ tt))
 
-pub lent-premises : LentPremises carries Calm three worked (called attention first .areas) begun
+pub lent-premises : PremisesOnBytes DuringList three worked (called attention first .areas) begun
 lent-premises =
-    refused-anywhere carries Calm three [] (lendings carries trace (called attention first .areas)) stray (called attention first .areas) begun
+    refused-anywhere DuringList three [] (lendings trace (called attention first .areas)) stray (called attention first .areas) begun
     stray-refused
-    (lifted carries three trace (called attention first .areas) begun shows-begun
+    (lifted three trace (called attention first .areas) begun shows-begun
     (all-accepted trace (called attention first .areas) (begun .device) started-right rights) premises)
 
-pub lent-done : Done Calm three (eventsOf worked) begun
-    × Shows carries (left worked (called attention first .areas)) (run (machine Calm) (eventsOf worked) begun)
+pub lent-done : Done three (eventsOf worked) begun
+    × Shows (run left worked (called attention first .areas)) (run step (eventsOf worked) begun)
 unfolding keptb
 lent-done =
-    lent-list-done carries Calm calm-laws three worked first (before .device) (tt, right-first .bytes) (right-first .holds)
+    lent-list-done DuringList list-laws three worked first (before .device) (right-first .bytes) (right-first .holds)
     (accepts attention first (before .device) right-first (lit≤ tt)) starts refl (is-started .listed) lent-premises

@@ -33,13 +33,13 @@ use Rattle.chip.specs.Attention.{attentionOf}
 use Rattle.chip.specs.Arrival as arrivals
 use Rattle.chip.specs.Turn.{concluded, commandTurn, receiveTurn, servedBy, turnBy, turnOf}
 use Rattle.chip.specs.Call.{attention, turn}
-use Rattle.traces.specs.Event.{Event, call, host, step, isCalm}
+use Rattle.traces.specs.Event.{Event, call, host, step, isCalm, DuringList}
 use Rattle.progress.specs.Same.{In, here, there, range, Same}
-use Rattle.progress.specs.Machine.{Undisturbed, Mays, own, run}
+use Rattle.progress.specs.Trace.{run, AllMay}
+use Rattle.progress.specs.Machine.{Undisturbed, own}
 use Rattle.progress.proofs.Same.{Sub, same-part, same-refl}
 use Rattle.lists.specs.Uses.{marked, uses, resultBytes, NoClash}
 use Rattle.lists.specs.Unit.{machine, commandNext, goesToCommand}
-use Rattle.lists.specs.Done.{Calm}
 
 -- ---- two tests
 
@@ -79,14 +79,14 @@ same-ok L m q t =
 unfoldable pub keptb : List ℕ → List Event → World → Bool
 unfolding byteAt putByte bytesAt putBytes value digits fieldAt place beyond cuNext ruNext bitsAt joined acknowledged anyOf eventBits statusWord counts actionOf verdictOf agree isListed matches command-begin.begunBy command-begin.headerOf command-begin.begin command-buffer.descriptorAt command-buffer.buffer settingsBy listing act reported isSent sent nextAfter end command-service.service lengthOf judged fateOf arrival receive-begin.begunBy receive-begin.begin receive-buffer.descriptorAt receive-buffer.buffer frameStatus settles close lack receive-service.service statusTo resetOf attentions.iscpOf attentions.initialise attentions.resetBy cuFirst obeyCuc ruFirst obeyRuc attentions.unitsAfter attentions.obey attentions.attend attentions.attention attentionOf arrivals.arrival arrivals.arrivalOf concluded commandTurn receiveTurn turnOf range marked uses resultBytes
 keptb L [] w = true
-keptb L (e ∷ es) w = sameb L (step e w .memory) (apply (own (machine Calm) e w) (w .memory)) && keptb L es (step e w)
+keptb L (e ∷ es) w = sameb L (step e w .memory) (apply (own machine e w) (w .memory)) && keptb L es (step e w)
 
-pub kept-ok : (L : List ℕ) (es : List Event) (w : World) → T (keptb L es w) → Undisturbed (machine Calm) L es w
+pub kept-ok : (L : List ℕ) (es : List Event) (w : World) → T (keptb L es w) → Undisturbed machine L es w
 unfolding keptb
 kept-ok L [] w t = tt
 kept-ok L (e ∷ es) w t =
     let m = step e w .memory in
-    let q = apply (own (machine Calm) e w) (w .memory) in (
+    let q = apply (own machine e w) (w .memory) in (
       same-ok L m q (and-l (sameb L m q) (keptb L es (step e w)) t),
       kept-ok L es (step e w) (and-r (sameb L m q) (keptb L es (step e w)) t),
     )
@@ -113,7 +113,7 @@ pub sub-ok : (F L : List ℕ) → T (subb F L) → Sub F L
 sub-ok (b ∷ F) L t a here = in-ok b L (and-l (isIn b L) (subb F L) t)
 sub-ok (b ∷ F) L t a (there i) = sub-ok F L (and-r (isIn b L) (subb F L) t) a i
 
-pub kept-sub : (F L : List ℕ) (es : List Event) (w : World) → Sub F L → Undisturbed (machine Calm) L es w → Undisturbed (machine Calm) F es w
+pub kept-sub : (F L : List ℕ) (es : List Event) (w : World) → Sub F L → Undisturbed machine L es w → Undisturbed machine F es w
 kept-sub F L [] w s k = tt
 kept-sub F L (e ∷ es) w s k = (same-part s (k .0), kept-sub F L es (step e w) s (k .1))
 
@@ -169,23 +169,18 @@ abbrev pub callsb : List Event → Bool
 callsb [] = true
 callsb (e ∷ es) = isCalmCall e && callsb es
 
-calm-call : (e : Event) (w : World) → T (isCalmCall e) → Calm e w
+calm-call : (e : Event) (w : World) → T (isCalmCall e) → DuringList e w
 calm-call (call c) w t = (T-is (isCalm (call c)) t, tt)
 calm-call (host m h out) w t = absurd t
 
-pub calls-ok : (es : List Event) (w : World) → T (callsb es) → Mays (machine Calm) es w
+pub calls-ok : (es : List Event) (w : World) → T (callsb es) → AllMay DuringList step es w
 calls-ok [] w t = tt
 calls-ok (e ∷ es) w t = (calm-call e w (and-l (isCalmCall e) (callsb es) t), calls-ok es (step e w) (and-r (isCalmCall e) (callsb es) t))
 
 -- ---- one trace after another
 
-pub mays-append : (es fs : List Event) (w : World) → Mays (machine Calm) es w → Mays (machine Calm) fs (run (machine Calm) es w)
-    → Mays (machine Calm) (es ++ fs) w
-mays-append [] fs w a b = b
-mays-append (e ∷ es) fs w a b = (a .0, mays-append es fs (step e w) (a .1) b)
-
-pub kept-append : (L : List ℕ) (es fs : List Event) (w : World) → Undisturbed (machine Calm) L es w → Undisturbed (machine Calm) L fs (run (machine Calm) es w)
-    → Undisturbed (machine Calm) L (es ++ fs) w
+pub kept-append : (L : List ℕ) (es fs : List Event) (w : World) → Undisturbed machine L es w → Undisturbed machine L fs (run step es w)
+    → Undisturbed machine L (es ++ fs) w
 kept-append L [] fs w a b = b
 kept-append L (e ∷ es) fs w a b = (a .0, kept-append L es fs (step e w) (a .1) b)
 
@@ -205,16 +200,16 @@ not-next : (c h l : Bool) → c ≡ false → goesToCommand c h l ≡ false
 not-next true h l e = absurd (true≢false e)
 not-next false h l e = refl
 
-idle-next : (r : ℕ) (L : List ℕ) (es : List Event) (w : World) → commandNext (w .device .units) ≡ false → Undisturbed (machine Calm) L es w
-    → Same L (w .memory) (apply (own (machine Calm) (call (turn r)) w) (w .memory)) × Undisturbed (machine Calm) L es w
+idle-next : (r : ℕ) (L : List ℕ) (es : List Event) (w : World) → commandNext (w .device .units) ≡ false → Undisturbed machine L es w
+    → Same L (w .memory) (apply (own machine (call (turn r)) w) (w .memory)) × Undisturbed machine L es w
 idle-next r L es w c k = (rw c (same-refl L (w .memory)), k)
 
 pub idle-kept : (n r : ℕ) (L : List ℕ) (w : World) → isActive (cuState (w .device .units .cu)) ≡ false → isHolding (w .device .units .ru) ≡ false
-    → Undisturbed (machine Calm) L (replicate n (call (turn r))) w
+    → Undisturbed machine L (replicate n (call (turn r))) w
 idle-kept zero r L w a b = tt
 idle-kept (suc n) r L w a b =
     let es : List Event = replicate n (call (turn r)) in
     let c : commandNext (w .device .units) ≡ false =
     not-next (isActive (cuState (w .device .units .cu))) (isHolding (w .device .units .ru)) (w .device .units .rulast) a in
-    subst (λ (v : World). Same L (v .memory) (apply (own (machine Calm) (call (turn r)) w) (w .memory)) × Undisturbed (machine Calm) L es v)
+    subst (λ (v : World). Same L (v .memory) (apply (own machine (call (turn r)) w) (w .memory)) × Undisturbed machine L es v)
     (sym (idle-turn w r a b)) (idle-next r L es w c (idle-kept n r L w a b))

@@ -11,14 +11,16 @@ use Rattle.device.specs.State.{cuState, isActive, isHolding}
 use Rattle.chip.specs.Cases.{Word, _is_, put, startOn}
 use Rattle.chip.specs.Call.{attention, arrive, turn}
 use Rattle.chip.specs.World.{World}
-use Rattle.traces.specs.Event.{Event, call, host, step}
-use Rattle.progress.specs.Machine.{Undisturbed, Mays, log, run, turns}
+use Rattle.traces.specs.Event.{Event, call, host, step, DuringList}
+use Rattle.progress.specs.Trace.{run, AllMay, turns}
+use Rattle.progress.specs.Machine.{Undisturbed, log}
+use Rattle.progress.proofs.Trace.{may-append}
 use Rattle.lists.specs.Unit.{machine, began, ended}
-use Rattle.lists.specs.Done.{Calm, Starts, Started, Premises, Done, bytesOf}
-use Rattle.lists.proofs.Laws.{calm-laws}
+use Rattle.lists.specs.Done.{Starts, Started, Premises, Done, bytesOf}
+use Rattle.lists.proofs.Laws.{list-laws}
 use Rattle.lists.proofs.Start.{started}
 use Rattle.lists.proofs.Order.{listDone}
-use Rattle.worked.proofs.Tests.{keptb, kept-ok, clash-ok, calls-ok, mays-append, kept-append, idle-kept}
+use Rattle.worked.proofs.Tests.{keptb, kept-ok, clash-ok, calls-ok, kept-append, idle-kept}
 
 -- ---- the board: ISCP at 0, SCB at 8, base 0
 
@@ -92,7 +94,7 @@ abbrev pub late : List Event
 late = call (arrive (frame 2) 0) ∷ replicate 7 (call (turn 0))
 
 abbrev pub middle : World
-middle = run (machine Calm) early begun
+middle = run step early begun
 
 abbrev pub busy : List Event
 busy = early ++ (writes middle ∷ late)
@@ -101,22 +103,22 @@ busy = early ++ (writes middle ∷ late)
 abbrev pub trace : List Event
 trace = busy ++ replicate 383 (call (turn 0))
 
-kept-busy : Undisturbed (machine Calm) (bytesOf begun three) busy begun
+kept-busy : Undisturbed machine (bytesOf begun three) busy begun
 unfolding keptb
 kept-busy = kept-ok (bytesOf begun three) busy begun tt
 
-idle-after : (isActive (cuState (run (machine Calm) busy begun .device .units .cu)) ≡ false)
-    × (isHolding (run (machine Calm) busy begun .device .units .ru) ≡ false)
+idle-after : (isActive (cuState (run step busy begun .device .units .cu)) ≡ false)
+    × (isHolding (run step busy begun .device .units .ru) ≡ false)
 unfolding keptb
 idle-after = (refl, refl)
 
-mays : Mays (machine Calm) trace begun
+mays : AllMay DuringList step trace begun
 mays =
-    mays-append busy (replicate 383 (call (turn 0))) begun
-    (mays-append early (writes middle ∷ late) begun (calls-ok early begun tt) ((refl, refl), calls-ok late (step (writes middle) middle) tt))
-    (calls-ok (replicate 383 (call (turn 0))) (run (machine Calm) busy begun) tt)
+    may-append DuringList step busy (replicate 383 (call (turn 0))) begun
+    (may-append DuringList step early (writes middle ∷ late) begun (calls-ok early begun tt) ((refl, refl), calls-ok late (step (writes middle) middle) tt))
+    (calls-ok (replicate 383 (call (turn 0))) (run step busy begun) tt)
 
-pub premises : Premises Calm three trace begun
+pub premises : Premises DuringList three trace begun
 unfolding keptb
 premises =
     record {
@@ -125,12 +127,12 @@ premises =
       events = mays;
       kept =
           kept-append (bytesOf begun three) busy (replicate 383 (call (turn 0))) begun kept-busy
-          (idle-kept 383 0 (bytesOf begun three) (run (machine Calm) busy begun) (idle-after .0) (idle-after .1));
+          (idle-kept 383 0 (bytesOf begun three) (run step busy begun) (idle-after .0) (idle-after .1));
       turns = lit≤ tt;
     }
 
 -- what was noted: the frame that was sent, the report in its status
-noted : log (machine Calm) busy begun
+noted : log machine busy begun
     ≡ began 0x18 ∷ ended 0x18 0xA003 (2 ∷ 0 ∷ 0 ∷ 0 ∷ 0 ∷ 1 ∷ 255 ∷ 255 ∷ 255 ∷ 255 ∷ 255 ∷ 255 ∷ 8 ∷ 0 ∷ 0x11 ∷ 0x22 ∷ [])
     ∷ began 0x32 ∷ ended 0x32 0xA000 []
     ∷ began 0x3A ∷ ended 0x3A 0xA000 []
@@ -143,10 +145,10 @@ abbrev words : List ℕ → List ℕ → List ℕ
 words [] m = []
 words (a ∷ rest) m = wordAt m a ∷ words rest m
 
-stored : words (0x40 ∷ 0x58 ∷ 0x38 ∷ 0xB0 ∷ []) (run (machine Calm) busy begun .memory) ≡ 0xA000 ∷ 0xA000 ∷ 0x8000 ∷ 0x5555 ∷ []
+stored : words (0x40 ∷ 0x58 ∷ 0x38 ∷ 0xB0 ∷ []) (run step busy begun .memory) ≡ 0xA000 ∷ 0xA000 ∷ 0x8000 ∷ 0x5555 ∷ []
 unfolding keptb
 stored = refl
 
 -- so the three commands are done
-pub witness-done : Done Calm three trace begun
-witness-done = listDone Calm calm-laws three trace begun is-started premises
+pub witness-done : Done three trace begun
+witness-done = listDone DuringList list-laws three trace begun is-started premises
