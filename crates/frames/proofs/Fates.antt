@@ -24,7 +24,7 @@ use Rattle.chip.specs.World.{World, Ran, resetOf}
 use Rattle.filter.specs.Match.{matches}
 use Rattle.traces.specs.Event.{Event, call, host}
 use Rattle.frames.specs.Arrival.{unitOf, settingsOf}
-use Rattle.frames.specs.Held.{ofHeld, keptIf, heldFates, FatesOfHeld}
+use Rattle.frames.specs.Held.{ofHeld, chosen, heldFates, FatesOfHeld}
 use Rattle.frames.specs.Fates.{Deed, event, alter, worldAfter, Scene, opening, Noted, noted, numbersOf, numbered, Way, by-call, by-altering, Ended, heldAs, still, begunIf, begun}
 use Rattle.frames.specs.Fates.{endedAs, endedBy, fatesIn, ended, takes, advance, after, beginnings, endings, times, namesOf, fateOne, alterOne}
 use Rattle.frames.specs.Fates.{timesFated, timesAltered, isUnaltered, Proper, AllProper, AllFates}
@@ -98,7 +98,7 @@ balance-arrival f v s =
     let m = matches (settingsOf w) (w .device .own) (w .device .listed) f in
     let j = arrivals.judged (settingsOf w) f v in
     let x = arrivals.fateBy few m (unitOf w) j in
-    subst (λ (b : Bool). Joins (keptIf b x []) (isHeld x) (s .next) (s .held) (unitOf w) j) (sym (arrival-new few m (unitOf w) j))
+    subst (λ (b : Bool). Joins (chosen b x []) (isHeld x) (s .next) (s .held) (unitOf w) j) (sym (arrival-new few m (unitOf w) j))
     (joins few m (s .next) (s .held) (unitOf w) j (arrives few m (unitOf w) j))
 
 -- the reset call, and the host at the record: all end
@@ -171,7 +171,7 @@ arrival-fates w f v =
     let few = ltb (length f) header in
     let m = matches (settingsOf w) (w .device .own) (w .device .listed) f in
     let j = arrivals.judged (settingsOf w) f v in
-    ap (λ (b : Bool). keptIf b (arrivals.fateBy few m (unitOf w) j) []) (arrival-new few m (unitOf w) j)
+    ap (λ (b : Bool). chosen b (arrivals.fateBy few m (unitOf w) j) []) (arrival-new few m (unitOf w) j)
 
 reset-fates : (w : World) → heldFates (ran reset w .outcome .fates) ≡ []
 unfolding resetOf
@@ -191,7 +191,7 @@ proper-append A [] ys h k = k
 proper-append A (x ∷ xs) ys h k = (h .0, proper-append A xs ys (h .1) k)
 
 proper-if : (A : Type 0) (o : Bool) (x : Fate) (xs : List Fate) → ofHeld x ≡ o → ((ns : List Noted) → AllProper A (endedAs xs ns))
-    → (ns : List Noted) → AllProper A (endedAs (keptIf o x xs) ns)
+    → (ns : List Noted) → AllProper A (endedAs (chosen o x xs) ns)
 proper-if A true x xs h k [] = (h, k [])
 proper-if A true x xs h k (n ∷ ns) = (h, k ns)
 proper-if A false x xs h k ns = k ns

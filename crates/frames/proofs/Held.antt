@@ -42,7 +42,7 @@ use Rattle.chip.specs.Turn.{servedBy, turnBy, turnOf, commandTurn, receiveTurn,
 use Rattle.chip.specs.World.{World, Ran, writing, resetOf}
 use Rattle.filter.specs.Match.{matches}
 use Rattle.frames.specs.Arrival.{inScb, unitOf, settingsOf}
-use Rattle.frames.specs.Held.{ofHeld, keptIf, heldFates, forEach, commandOf, loses, endIsNext, servedRu, ends, StaysHeld, Lost, by-reset, by-resetting, by-abort, GoodFate, BadFate}
+use Rattle.frames.specs.Held.{ofHeld, chosen, heldFates, forEach, commandOf, loses, endIsNext, servedRu, ends, StaysHeld, Lost, by-reset, by-resetting, by-abort, GoodFate, BadFate}
 use Rattle.frames.specs.Held as held
 use Rattle.frames.proofs.End.{part, turned, Closed, closed, Both, both, OnlyCounted, only-counted, Kept, kept}
 
@@ -162,7 +162,7 @@ at-arrival w f bs v h =
     let matched = matches (settingsOf w) (w .device .own) (w .device .listed) bs in
     let j = arrivals.judged (settingsOf w) bs v in
     let k = arrival-fate few matched (unitOf w) j f h in
-    record { unit = rw (k .0) h; holding = rw (k .0); fates = ap (λ (b : Bool). keptIf b (arrivals.fateBy few matched (unitOf w) j) []) (k .1) }
+    record { unit = rw (k .0) h; holding = rw (k .0); fates = ap (λ (b : Bool). chosen b (arrivals.fateBy few matched (unitOf w) j) []) (k .1) }
 
 -- ---- an attention
 

@@ -38,7 +38,7 @@ use Rattle.chip.specs.Turn.{servedBy, turnBy, turnOf, commandTurn, receiveTurn,
 use Rattle.chip.specs.World.{World, Ran, resetOf}
 use Rattle.filter.specs.Match.{matches}
 use Rattle.frames.specs.Arrival.{unitOf, settingsOf}
-use Rattle.frames.specs.Held.{ofHeld, keptIf, heldFates, forEach, FatesOfHeld, commandOf, loses, Lost, by-resetting, by-abort, GoodFate, BadFate}
+use Rattle.frames.specs.Held.{ofHeld, chosen, heldFates, forEach, FatesOfHeld, commandOf, loses, Lost, by-resetting, by-abort, GoodFate, BadFate}
 use Rattle.frames.specs.Held as held
 use Rattle.frames.proofs.Held.{none≢one, or-left, or-right, held-saved, held-fate, good-of, bad-of, goes-on, attended, obeyed, obey-is, to-attend, served-as}
 
@@ -188,7 +188,7 @@ held-went false c w f s h g e = bad-went c w f h g (bad-sound c w f s h e)
 for-each : (x : Fate) (fs : List Frame) → ofHeld x ≡ true → length (heldFates (map (λ (f : Frame). x) fs)) ≡ length fs
 for-each x [] o = refl
 for-each x (f ∷ fs) o =
-    ap (λ (b : Bool). length (keptIf b x (heldFates (map (λ (f : Frame). x) fs)))) o ∙ ap suc (for-each x fs o)
+    ap (λ (b : Bool). length (chosen b x (heldFates (map (λ (f : Frame). x) fs)))) o ∙ ap suc (for-each x fs o)
 
 lost-went : (w : World) → Lost w attention → FatesOfHeld w (attentionOf w)
 lost-went w (by-resetting r x d m) =

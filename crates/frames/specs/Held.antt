@@ -44,13 +44,13 @@ ofHeld fate.Aborted = true
 ofHeld fate.Reset = true
 
 -- those among the fates that a call gives
-abbrev pub keptIf : (held : Bool) → Fate → List Fate → List Fate
-keptIf true x xs = x ∷ xs
-keptIf false x xs = xs
+abbrev pub chosen : (held : Bool) → Fate → List Fate → List Fate
+chosen true x xs = x ∷ xs
+chosen false x xs = xs
 
 abbrev pub heldFates : List Fate → List Fate
 heldFates [] = []
-heldFates (x ∷ xs) = keptIf (ofHeld x) x (heldFates xs)
+heldFates (x ∷ xs) = chosen (ofHeld x) x (heldFates xs)
 
 -- ---- which calls end the holding
 
