@@ -8,14 +8,13 @@ use Rattle.memory.specs.declared.Offset.{Offset}
 use Rattle.memory.specs.declared.RealAddress.{RealAddress}
 use Rattle.scb.specs.Words.{scbStatusAt, scbCommandAt, resets, acknowledged, raise, anyOf}
 use Rattle.scb.specs.declared.Events.{Events}
-use Rattle.device.specs.Answers.{answered, outcomeOf}
+use Rattle.device.specs.Answers.{answered, Outcome, outcomeOf}
 use Rattle.device.specs.Change.{withCu, withRu, withEvents, withUnits, initialisedAt}
-use Rattle.device.specs.State.{isHolding, fresh}
+use Rattle.device.specs.State.{heldIn, fresh}
 use Rattle.device.specs.declared.Cu.{Cu}
 use Rattle.device.specs.declared.Device.{Device}
 use Rattle.device.specs.declared.Fate.{Fate}
 use Rattle.device.specs.declared.Fate.the-variants as fate
-use Rattle.device.specs.declared.Outcome.{Outcome}
 use Rattle.device.specs.declared.Ru.{Ru}
 use Rattle.device.specs.declared.Units.{Units}
 use Rattle.control.specs.Control.{lostBy}
@@ -45,7 +44,7 @@ initialWrites iscp base scb =
 abbrev pub initialisedBy : Device → RealAddress → RealAddress → Offset → Attended
 initialisedBy d iscp base scb =
     record {
-      outcome = outcomeOf (withUnits d (initialisedAt (d .units) base scb initialEvents)) (answered 0 true) fate.Nothing;
+      outcome = outcomeOf (withUnits d (initialisedAt (d .units) base scb initialEvents)) (answered 0 true) [];
       writes = initialWrites iscp base scb;
     }
 
@@ -60,7 +59,7 @@ initialise d m =
 unfoldable pub resetBy : Device → Attended
 resetBy d =
     record {
-      outcome = outcomeOf fresh (answered 0 false) (lostBy fate.Reset (isHolding (d .units .ru)) false);
+      outcome = outcomeOf fresh (answered 0 false) (lostBy fate.Reset (heldIn (d .units .ru)) []);
       writes = wordTo (ofScb (d .units) scbCommandAt) 0x0000 ∷ [];
     }
 
@@ -77,14 +76,14 @@ unitsAfter u command c cleft r rleft =
 abbrev pub settledWrites : Units → List Write
 settledWrites u = statusTo u ∷ wordTo (ofScb u scbCommandAt) 0x0000 ∷ []
 
-abbrev pub settledBy : Device → Units → List Write → Fate → Attended
-settledBy d u writes f =
-    record { outcome = outcomeOf (withUnits d u) (answered 0 (anyOf (u .events))) f; writes = writes ++ settledWrites u }
+abbrev pub settledBy : Device → Units → List Write → List Fate → Attended
+settledBy d u writes fs =
+    record { outcome = outcomeOf (withUnits d u) (answered 0 (anyOf (u .events))) fs; writes = writes ++ settledWrites u }
 
 abbrev pub obeyedBy : Device → ℕ → Obeyed Cu → Obeyed Ru → Attended
 obeyedBy d command c r =
     settledBy d (unitsAfter (d .units) command (c .unit) (c .left) (r .unit) (r .left)) (c .writes ++ r .writes)
-    (lostBy fate.Aborted (isHolding (d .units .ru)) (isHolding (r .unit)))
+    (lostBy fate.Aborted (heldIn (d .units .ru)) (heldIn (r .unit)))
 
 -- clear acknowledged events; obey CUC; obey RUC, on memory as CUC left it; write status; write command 0
 unfoldable pub obey : Device → ℕ → List ℕ → Attended

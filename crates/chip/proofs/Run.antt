@@ -2,7 +2,7 @@
 -- Assumes nothing.
 use mathlib.Core.Path.{_≡_, refl, sym, ap, _∙_}
 use mathlib.Core.Bool.{Bool, true, false, not, _||_, true≢false, false≢true}
-use mathlib.Core.List.{List}
+use mathlib.Core.List.{List, []}
 use Prim.Native.Nat.{ℕ, zero, suc, _+_, _-_, _≤_, _<_}
 use native.Mathlib.Omega.{arith}
 use borrow.Author.Tests.{eqb-true, eqb-false, not-false}
@@ -65,7 +65,7 @@ rnr-raises true = refl
 rnr-raises false = refl
 
 ru-fate : (u : Ru) (p : receive.Part) (m : List ℕ) → isHolding u ≡ true → anyOf (receive-service.serviceBy u p m .raised) ≡ false
-    → receive-service.serviceBy u p m .fate ≡ fate.Nothing
+    → receive-service.serviceBy u p m .fates ≡ []
 unfolding anyOf receive-begin.begin receive-buffer.buffer endings.close endings.lack
 ru-fate ru.Idle p m a h = refl
 ru-fate ru.NoResources p m a h = refl
@@ -78,14 +78,14 @@ ru-fate (ru.Closing s free full) p m a h =
 ru-fate (ru.Lacking s) p m a h = absurd (true≢false (sym (rnr-raises (isStored (endings.fateOf true (s .frame)))) ∙ h))
 
 receive-fate : (w : World) → isHolding (w .device .units .ru) ≡ true → tells (receiveTurn w .outcome .answer) ≡ false
-    → receiveTurn w .outcome .fate ≡ fate.Nothing
+    → receiveTurn w .outcome .fates ≡ []
 unfolding receiveTurn concluded receive-service.service
 receive-fate w a h =
     ru-fate (w .device .units .ru) (receive.partOf (w .device .units) (w .holding)) (w .memory) a h
 
 fate-by : (c r l : Bool) (w : World) (report : ℕ) → isHolding (w .device .units .ru) ≡ r
     → stops (servedBy c r l) (turnBy (servedBy c r l) w report .outcome .answer) ≡ false
-    → turnBy (servedBy c r l) w report .outcome .fate ≡ fate.Nothing
+    → turnBy (servedBy c r l) w report .outcome .fates ≡ []
 unfolding stops commandTurn concluded
 fate-by false false l w report a s = refl
 fate-by true false l w report a s = refl
@@ -93,7 +93,7 @@ fate-by false true l w report a s = receive-fate w a s
 fate-by true true true w report a s = refl
 fate-by true true false w report a s = receive-fate w a s
 
-pub going-fate : (w : World) (report : ℕ) → stopsAt w report ≡ false → turnOf w report .outcome .fate ≡ fate.Nothing
+pub going-fate : (w : World) (report : ℕ) → stopsAt w report ≡ false → turnOf w report .outcome .fates ≡ []
 unfolding turnOf
 going-fate w report s =
     fate-by (isActive (cuState (w .device .units .cu))) (isHolding (w .device .units .ru)) (w .device .units .rulast) w report refl s

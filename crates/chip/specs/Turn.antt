@@ -5,13 +5,11 @@ use Prim.Native.Nat.{ℕ}
 use Rattle.memory.specs.Memory.{Write, apply}
 use Rattle.scb.specs.Words.{raise, anyOf}
 use Rattle.scb.specs.declared.Events.{Events}
-use Rattle.device.specs.Answers.{answered, outcomeOf}
+use Rattle.device.specs.Answers.{answered, Outcome, outcomeOf}
 use Rattle.device.specs.Change.{withRu, withEvents, servedRu, withUnits}
 use Rattle.device.specs.State.{cuState, isActive, isHolding}
 use Rattle.device.specs.declared.Device.{Device}
 use Rattle.device.specs.declared.Fate.{Fate}
-use Rattle.device.specs.declared.Fate.the-variants as fate
-use Rattle.device.specs.declared.Outcome.{Outcome}
 use Rattle.device.specs.declared.Units.{Units}
 use Rattle.command.specs.Part as command
 use Rattle.command.specs.Service as command-service
@@ -51,8 +49,8 @@ abbrev pub written : List Write → Events → Units → List Write
 written writes raised u = writes ++ statusBy (anyOf raised) (raisedIn u raised)
 
 -- the outcome of a working turn: an edge is reported when an event is raised, again included
-unfoldable pub concluded : Device → Units → Events → ℕ → Fate → Outcome
-concluded d u raised length f = outcomeOf (withUnits d (raisedIn u raised)) (answered length (anyOf raised)) f
+unfoldable pub concluded : Device → Units → Events → ℕ → List Fate → Outcome
+concluded d u raised length fs = outcomeOf (withUnits d (raisedIn u raised)) (answered length (anyOf raised)) fs
 
 -- ---- the command unit is served
 
@@ -63,7 +61,7 @@ unfoldable pub commandTurn : World → ℕ → Ran
 commandTurn w report =
     let s = command-service.service (command.partOf (w .device) (w .outgoing)) (w .memory) report in
     record {
-      outcome = concluded (command.withPart (w .device) (s .part)) (commandUnits (w .device) s) (s .raised) (s .length) fate.Nothing;
+      outcome = concluded (command.withPart (w .device) (s .part)) (commandUnits (w .device) s) (s .raised) (s .length) [];
       memory = apply (written (s .writes) (s .raised) (commandUnits (w .device) s)) (w .memory);
       holding = w .holding;
       outgoing = s .part .outgoing;
@@ -78,13 +76,13 @@ unfoldable pub receiveTurn : World → Ran
 receiveTurn w =
     let s = receive-service.service (receive.partOf (w .device .units) (w .holding)) (w .memory) in
     writing w (written (s .writes) (s .raised) (receiveUnits (w .device) s))
-    (concluded (w .device) (receiveUnits (w .device) s) (s .raised) 0 (s .fate))
+    (concluded (w .device) (receiveUnits (w .device) s) (s .raised) 0 (s .fates))
 
 -- ---- a turn
 
 -- with no work a turn changes nothing
 abbrev pub turnBy : Served → World → ℕ → Ran
-turnBy served.Neither w report = writing w [] (outcomeOf (w .device) (answered 0 false) fate.Nothing)
+turnBy served.Neither w report = writing w [] (outcomeOf (w .device) (answered 0 false) [])
 turnBy served.CommandUnit w report = commandTurn w report
 turnBy served.ReceiveUnit w report = receiveTurn w
 

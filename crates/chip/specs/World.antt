@@ -1,12 +1,10 @@
 -- What a call is given and what it leaves. Assumes nothing.
-use mathlib.Core.List.{List}
+use mathlib.Core.List.{List, []}
 use Prim.Native.Nat.{ℕ}
 use Rattle.memory.specs.Memory.{Write, apply}
 use Rattle.device.specs.State.{fresh}
-use Rattle.device.specs.Answers.{answered, outcomeOf}
+use Rattle.device.specs.Answers.{answered, Outcome, outcomeOf}
 use Rattle.device.specs.declared.Device.{Device}
-use Rattle.device.specs.declared.Fate.the-variants as fate
-use Rattle.device.specs.declared.Outcome.{Outcome}
 use mathlib.Core.Bool.{false}
 
 -- a device, and the three areas that are lent with it
@@ -38,4 +36,4 @@ afterwards r =
 
 -- 01, "Calls, lent areas, refusals": reset takes the record alone, ignores its content and writes a fresh one
 unfoldable pub resetOf : Outcome
-resetOf = outcomeOf fresh (answered 0 false) fate.Nothing
+resetOf = outcomeOf fresh (answered 0 false) []

@@ -2,7 +2,7 @@
 -- ranges hold every state a call can leave. Assumes nothing.
 use mathlib.Core.Path.{_≡_, refl, ap}
 use mathlib.Core.Bool.{Bool, true, false}
-use mathlib.Core.List.{List}
+use mathlib.Core.List.{List, []}
 use Prim.Native.Nat.{ℕ}
 use lib.ListN.{length}
 use Rattle.memory.specs.Memory.{Write}
@@ -14,7 +14,6 @@ use Rattle.device.specs.Change.{withUnits, withRu}
 use Rattle.device.specs.State.{cuState, isActive, isHolding, fresh, freshUnits, freshSettings}
 use Rattle.device.specs.declared.Device.{Device}
 use Rattle.device.specs.declared.Fate.{Fate}
-use Rattle.device.specs.declared.Fate.the-variants as fate
 use Rattle.device.specs.declared.Ru.{Ru}
 use Rattle.device.specs.declared.Ru.the-variants as ru
 use Rattle.device.specs.declared.Units.{Units}
@@ -134,10 +133,10 @@ written-bytes : (ws : List Write) (raised : Events) (u : Units) → AllBytes ws 
 written-bytes ws raised u h =
     all-append ws (statusBy (anyOf raised) (raisedIn u raised)) h (status-by-bytes (anyOf raised) (raisedIn u raised))
 
-command-running : (d : Device) (s : command.Service) (length : ℕ) (f : Fate) → Running d → CommandGood s
-    → Running (concluded (command.withPart d (s .part)) (commandUnits d s) (s .raised) length f .device)
+command-running : (d : Device) (s : command.Service) (length : ℕ) (fs : List Fate) → Running d → CommandGood s
+    → Running (concluded (command.withPart d (s .part)) (commandUnits d s) (s .raised) length fs .device)
 unfolding concluded
-command-running d s length f h g =
+command-running d s length fs h g =
     record {
       initialised = h .initialised;
       base = h .base;
@@ -159,12 +158,12 @@ unfolding commandTurn
 command-closed w report h p q r =
     let s = command-service.service (command.partOf (w .device) (w .outgoing)) (w .memory) report in
     let g = served-good (w .device) (w .memory) (w .outgoing) report (h .cu) (h .setup) p r in
-    running-sound _ _ _ _ (command-running (w .device) s (s .length) fate.Nothing h g)
+    running-sound _ _ _ _ (command-running (w .device) s (s .length) [] h g)
     (apply-bytes (written (s .writes) (s .raised) (commandUnits (w .device) s)) (w .memory)
     (written-bytes (s .writes) (s .raised) (commandUnits (w .device) s) (g .writes)) p) q (g .part .outgoing)
 
 receive-running : (d : Device) (s : receive.Service) → Running d → ReceiveGood s
-    → Running (concluded d (receiveUnits d s) (s .raised) 0 (s .fate) .device)
+    → Running (concluded d (receiveUnits d s) (s .raised) 0 (s .fates) .device)
 unfolding concluded
 receive-running d s h g =
     record {

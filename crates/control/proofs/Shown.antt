@@ -3,7 +3,7 @@ use mathlib.Core.Bool.{Bool, false, _&&_, not}
 use mathlib.Core.List.{List, [], _∷_}
 use Prim.Native.Nat.{ℕ, _*_}
 use lib.Dec.{T, eqb}
-use lib.ListN.{replicate}
+use lib.ListN.{length, replicate}
 use Rattle.memory.specs.Address.{place}
 use Rattle.memory.specs.Memory.{byteAt, putByte, bytesAt, putBytes, value, digits, fieldAt, wordAt, wordTo, apply}
 use Rattle.scb.specs.Control.{cuNext, ruNext}
@@ -14,10 +14,12 @@ use Rattle.device.specs.declared.Action.the-variants as action
 use Rattle.device.specs.declared.Begun.{Begun}
 use Rattle.device.specs.declared.Cu.{Cu}
 use Rattle.device.specs.declared.Cu.the-variants as cu
+use Rattle.device.specs.declared.Fate.the-variants as fate
 use Rattle.device.specs.declared.Frame.{Frame}
 use Rattle.device.specs.declared.Ru.{Ru}
 use Rattle.device.specs.declared.Ru.the-variants as ru
 use Rattle.device.specs.declared.Verdict.the-variants as verdict
+use Rattle.control.specs.Control.{lostBy}
 use Rattle.control.specs.Obey.{Obeyed, cuFirst, obeyCuc, ruFirst, obeyRuc}
 
 -- base and SCB are at 0; the CBL offset is 40h, the RFA offset 50h; 4000h stands at 60h and at 70h
@@ -171,3 +173,8 @@ descriptor unit = wordAt (apply (ruDoes 4 unit .writes) memory) 0x70
 pub ruAborts : T (eqb (ruPhase (ruDoes 4 held .unit)) 0 && ruDoes 4 held .left && eqb (descriptor held) 0x4000 && eqb (descriptor lacking) 0)
 unfolding byteAt putByte bytesAt putBytes value digits fieldAt place ruNext bitsAt ruFirst obeyRuc
 ruAborts = tt
+
+-- it drops every held frame, each by its fate, and nothing else does; one that is held after it is not dropped
+pub eachLost : T (eqb (length (lostBy fate.Aborted (frame ∷ frame ∷ []) [])) 2 && eqb (length (lostBy fate.Aborted (frame ∷ []) (frame ∷ []))) 0
+    && eqb (length (lostBy fate.Aborted [] [])) 0)
+eachLost = tt

@@ -1,6 +1,6 @@
 -- What a control code does to a unit: 01, "The SCB". The table gives the next state; here is how each unit goes to it. Assumes nothing.
 use mathlib.Core.Bool.{Bool, true, false, not, cond, _&&_}
-use mathlib.Core.List.{List, [], _∷_}
+use mathlib.Core.List.{List, [], _∷_, map}
 use Prim.Native.Nat.{ℕ}
 use Rattle.memory.specs.Memory.{Write, wordTo}
 use Rattle.memory.specs.Address.{place}
@@ -15,7 +15,7 @@ use Rattle.device.specs.State.{isHolding}
 use Rattle.device.specs.declared.Cu.{Cu}
 use Rattle.device.specs.declared.Cu.the-variants as cu
 use Rattle.device.specs.declared.Fate.{Fate}
-use Rattle.device.specs.declared.Fate.the-variants as fate
+use Rattle.device.specs.declared.Frame.{Frame}
 use Rattle.device.specs.declared.Ru.{Ru}
 use Rattle.device.specs.declared.Ru.the-variants as ru
 use Rattle.actions.specs.Block as block
@@ -139,8 +139,7 @@ ruWrites rus.Suspended base unit = []
 ruWrites rus.NoResources base unit = []
 ruWrites rus.Ready base unit = []
 
--- a held frame that an abort or a reset loses
-abbrev pub lostBy : Fate → (before after : Bool) → Fate
-lostBy f true true = fate.Nothing
-lostBy f true false = f
-lostBy f false after = fate.Nothing
+-- the held frames that an abort or a reset loses, each by this fate: all, or none where some are held after it
+abbrev pub lostBy : Fate → (before after : List Frame) → List Fate
+lostBy x before [] = map (λ (f : Frame). x) before
+lostBy x before (g ∷ gs) = []

@@ -10,7 +10,7 @@ use Rattle.memory.specs.declared.Offset.{Offset}
 use Rattle.memory.proofs.Bytes.{Bytes}
 use Rattle.scb.specs.Words.{cblAt}
 use Rattle.device.specs.Numbers.{refusalNumber}
-use Rattle.device.specs.State.{isGood, isHolding}
+use Rattle.device.specs.State.{isHolding, heldIn, isGood}
 use Rattle.device.specs.declared.Counter.the-variants as counter
 use Rattle.device.specs.declared.Device.{Device}
 use Rattle.device.specs.declared.Fate.the-variants as fate
@@ -39,7 +39,7 @@ use Rattle.closure.proofs.Closed as closure
 use Rattle.closure.proofs.Carried as carried
 use Rattle.closure.proofs.Turns as run-of-turns
 use Rattle.frames.specs.Arrival as arrival
-use Rattle.frames.specs.Held.{heldIn, GoodFate, BadFate}
+use Rattle.frames.specs.Held.{GoodFate, BadFate}
 use Rattle.frames.specs.Fates.{Deed, opening, still, after, beginnings, endings, times, timesFated, timesAltered, AllFates}
 use Rattle.frames.specs.Stands.{NoOverlap, pieces, GoodExit}
 use Rattle.frames.proofs.Arrival as arrivals

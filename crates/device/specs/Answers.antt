@@ -13,21 +13,26 @@ use Rattle.device.specs.declared.Counter.the-variants as counter
 use Rattle.device.specs.declared.Device.{Device}
 use Rattle.device.specs.declared.Fate.{Fate}
 use Rattle.device.specs.declared.Fate.the-variants as fate
-use Rattle.device.specs.declared.Outcome.{Outcome}
 use Rattle.device.specs.declared.Refusal.the-variants as refusal
 
 -- 01, "Calls, lent areas, refusals": an answer is the number (0 if not refused), the length sent (0 if none) and the edge
 abbrev pub answered : ℕ → Bool → Answer
 answered length edge = record { number = refusal.Accepted; length = length; edge = edge }
 
-abbrev pub outcomeOf : Device → Answer → Fate → Outcome
-outcomeOf d a f = record { device = d; answer = a; fate = f }
+-- what a call comes to, besides the lent bytes: its fates are those of the frames that it makes something of, an arriving one or held ones, these
+-- the oldest first
+pub record Outcome : Type 0 where
+  pub device : Device
+  pub answer : Answer
+  pub fates : List Fate
+
+abbrev pub outcomeOf : Device → Answer → List Fate → Outcome
+outcomeOf d a fs = record { device = d; answer = a; fates = fs }
 
 -- ---- what follows from a fate
 
 -- the counter that it adds one to
 abbrev pub counterOf : Fate → Counter
-counterOf fate.Nothing = counter.Uncounted
 counterOf fate.TooFew = counter.Uncounted
 counterOf fate.NoMatch = counter.Uncounted
 counterOf fate.UnitIdle = counter.Uncounted
@@ -44,7 +49,6 @@ counterOf fate.Reset = counter.Uncounted
 
 -- whether the frame is held from now on; whether it is stored
 abbrev pub isHeld : Fate → Bool
-isHeld fate.Nothing = false
 isHeld fate.TooFew = false
 isHeld fate.NoMatch = false
 isHeld fate.UnitIdle = false
@@ -60,7 +64,6 @@ isHeld fate.Aborted = false
 isHeld fate.Reset = false
 
 abbrev pub isStored : Fate → Bool
-isStored fate.Nothing = false
 isStored fate.TooFew = false
 isStored fate.NoMatch = false
 isStored fate.UnitIdle = false

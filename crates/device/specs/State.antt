@@ -1,5 +1,6 @@
 -- The units' states as document 01's tables have them, what is known of a begun command and a held frame, and the fresh state. Assumes nothing.
 use mathlib.Core.Bool.{Bool, true, false}
+use mathlib.Core.List.{List, [], _∷_}
 use lib.ListN.{replicate}
 use Rattle.memory.specs.declared.Offset.{Offset}
 use Rattle.memory.specs.Address.{origin}
@@ -68,6 +69,17 @@ isHolding (ru.Held o f p) = true
 isHolding (ru.Filling s w) = true
 isHolding (ru.Closing s o e) = true
 isHolding (ru.Lacking s) = true
+
+-- the frames that are held, each as it was judged at its arrival, the oldest first
+abbrev pub heldIn : Ru → List Frame
+heldIn ru.Idle = []
+heldIn ru.NoResources = []
+heldIn (ru.Suspended o) = []
+heldIn (ru.Ready o) = []
+heldIn (ru.Held o f p) = f ∷ []
+heldIn (ru.Filling s w) = s .frame ∷ []
+heldIn (ru.Closing s o e) = s .frame ∷ []
+heldIn (ru.Lacking s) = s .frame ∷ []
 
 -- 01, "Arrival and storing": neither short nor with a bad verdict
 abbrev pub goodBy : Bool → Verdict → Bool

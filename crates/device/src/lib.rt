@@ -145,7 +145,6 @@ pub enum Counter {
 
 // What a call makes of a frame: first the fates of an arriving one, in the order of the rules, then those of a held one.
 pub enum Fate {
-    Nothing,
     TooFew,
     NoMatch,
     UnitIdle,
@@ -159,13 +158,6 @@ pub enum Fate {
     Counted,
     Aborted,
     Reset,
-}
-
-// What a call comes to, besides the lent bytes.
-pub struct Outcome {
-    pub device: Device,
-    pub answer: Answer,
-    pub fate: Fate,
 }
 
 // ---- the paper's numbers

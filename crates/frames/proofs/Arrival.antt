@@ -73,7 +73,7 @@ not-held-said : (x : Fate) (w : World) (f : List ℕ) (v : ℕ) → isHeld x ≡
 unfolding said
 not-held-said x w f v h l =
     record {
-      fate = refl;
+      fates = refl;
       device = rw h;
       answer = refl;
       holding = rw h;
@@ -104,7 +104,7 @@ is-held-said : (c : Counter) (w : World) (f : List ℕ) (v : ℕ) (fd : Offset) 
 unfolding said
 is-held-said c w f v fd j l u e =
     record {
-      fate = refl;
+      fates = refl;
       device = ap (λ (n : Ru). withUnits (w .device) (withRu (w .device .units) n)) (ap₂ receive.holding u e);
       answer = refl;
       entered = entered (w .holding) f (fits l);

@@ -8,7 +8,7 @@ use Rattle.memory.specs.Memory.{Write, countTo, apply}
 use Rattle.memory.specs.declared.Offset.{Offset}
 use Rattle.scb.specs.Words.{anyOf, bit, bitsAt}
 use Rattle.device.specs.Answers.{counterOf, counts, isStored}
-use Rattle.device.specs.State.{isGood}
+use Rattle.device.specs.State.{heldIn, isGood}
 use Rattle.device.specs.declared.Fate.{Fate}
 use Rattle.device.specs.declared.Fate.the-variants as fate
 use Rattle.device.specs.declared.Frame.{Frame}
@@ -22,7 +22,7 @@ use Rattle.attention.specs.Status.{statusTo}
 use Rattle.chip.specs.Turn.{written, concluded, receiveUnits}
 use Rattle.chip.specs.World.{World, Ran, writing}
 use Rattle.frames.specs.Arrival.{inScb}
-use Rattle.frames.specs.Held.{heldIn, inFrame, markTo, bareTo, described, onwardBy, onward, statusAfter, Stored, Counted}
+use Rattle.frames.specs.Held.{inFrame, markTo, bareTo, described, onwardBy, onward, statusAfter, Stored, Counted}
 
 -- ---- a turn with a service of the receive unit
 
@@ -32,7 +32,7 @@ part w = receive.partOf (w .device .units) (w .holding)
 unfoldable pub turned : World → receive.Service → Ran
 turned w s =
     writing w (written (s .writes) (s .raised) (receiveUnits (w .device) s))
-    (concluded (w .device) (receiveUnits (w .device) s) (s .raised) 0 (s .fate))
+    (concluded (w .device) (receiveUnits (w .device) s) (s .raised) 0 (s .fates))
 
 -- ---- the status word
 
@@ -104,7 +104,7 @@ before-gone false link = refl
 
 -- what is said of a closing frame, of any turn
 pub record Closed (w : World) (s : Storing) (free : Offset) (full : Bool) (r : Ran) : Type 0 where
-  pub fate : r .outcome .fate ≡ fate.Stored
+  pub fates : r .outcome .fates ≡ fate.Stored ∷ []
   pub stored : Stored false s (bareTo w s ++ (onward w s free full ++ statusAfter w r)) w r
 
 closed-by : (x : Bool) (w : World) (s : Storing) (free : Offset)
@@ -137,7 +137,7 @@ closed-by false w s free =
     }
 
 stored-fate : (x : Bool) (w : World) (s : Storing) (free : Offset) (ws : List Write)
-    → turned w (proceeds x (part w) s free fate.Stored ws (w .memory)) .outcome .fate ≡ fate.Stored
+    → turned w (proceeds x (part w) s free fate.Stored ws (w .memory)) .outcome .fates ≡ fate.Stored ∷ []
 unfolding turned concluded
 stored-fate true w s free ws = refl
 stored-fate false w s free ws = refl
@@ -145,7 +145,7 @@ stored-fate false w s free ws = refl
 pub closed : (w : World) (s : Storing) (free : Offset) (full : Bool) → Closed w s free full (turned w (close (part w) s free full (w .memory)))
 closed w s free full =
     subst (λ (v : receive.Service). Closed w s free full (turned w v)) (close-is w s free full)
-    (record { fate = stored-fate (s .el || full) w s free (described false w s); stored = closed-by (s .el || full) w s free })
+    (record { fates = stored-fate (s .el || full) w s free (described false w s); stored = closed-by (s .el || full) w s free })
 
 -- ---- out of buffers
 
@@ -158,7 +158,7 @@ lack-is x w s e = ap (λ (y : Fate). lackBy y (part w) s (w .memory)) (sym e)
 
 -- a good one, kept
 pub record Both (w : World) (s : Storing) (r : Ran) : Type 0 where
-  pub fate : r .outcome .fate ≡ fate.StoredCounted
+  pub fates : r .outcome .fates ≡ fate.StoredCounted ∷ []
   pub stored : Stored true s (bareTo w s ++ (countTo (apply (described true w s) (w .memory)) (inScb w 12) ∷ statusAfter w r)) w r
   pub counted : Counted (described true w s) w r
 
@@ -170,7 +170,7 @@ both-by w s =
     (statusAfter w (turned w (lackBy fate.StoredCounted (part w) s (w .memory))))
     in
     record {
-      fate = refl;
+      fates = refl;
       stored =
           record {
             memory = ap (λ (ws : List Write). apply ws (w .memory)) l;
@@ -188,12 +188,12 @@ both w s b g = subst (λ (v : receive.Service). Both w s (turned w v)) (lack-is 
 
 -- a good one, not kept
 pub record OnlyCounted (w : World) (s : Storing) (r : Ran) : Type 0 where
-  pub fate : r .outcome .fate ≡ fate.Counted
+  pub fates : r .outcome .fates ≡ fate.Counted ∷ []
   pub counted : Counted (markTo w s 0x0000 ∷ []) w r
 
 counted-by : (w : World) (s : Storing) → OnlyCounted w s (turned w (lackBy fate.Counted (part w) s (w .memory)))
 unfolding turned lackBy endBy counts concluded anyOf statusTo
-counted-by w s = record { fate = refl; counted = record { memory = refl; gone = refl; holding = refl } }
+counted-by w s = record { fates = refl; counted = record { memory = refl; gone = refl; holding = refl } }
 
 pub only-counted : (w : World) (s : Storing) → s .frame .savebad ≡ false → isGood (s .frame) ≡ true
     → OnlyCounted w s (turned w (lack (part w) s (w .memory)))
@@ -202,14 +202,14 @@ only-counted w s b g =
 
 -- a bad one, which is held only to be saved
 pub record Kept (w : World) (s : Storing) (r : Ran) : Type 0 where
-  pub fate : r .outcome .fate ≡ fate.Stored
+  pub fates : r .outcome .fates ≡ fate.Stored ∷ []
   pub stored : Stored true s (bareTo w s ++ statusAfter w r) w r
 
 kept-by : (w : World) (s : Storing) → Kept w s (turned w (endAt fate.Stored ru.NoResources (described true w s)))
 unfolding turned concluded anyOf statusTo
 kept-by w s =
     record {
-      fate = refl;
+      fates = refl;
       stored =
           record {
             memory = refl;

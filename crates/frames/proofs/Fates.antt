@@ -1,15 +1,16 @@
 -- Demand 2 of frames over whole traces: each frame that was held has exactly one fate, or is still held at the end, or the host altered the record.
 -- Assumes nothing.
 use mathlib.Core.Path.{_≡_, refl, sym, ap, ap₂, _∙_, subst}
-use mathlib.Core.Bool.{Bool, true, false, cond, true≢false, false≢true}
+use mathlib.Core.Bool.{Bool, true, false, cond, false≢true}
 use mathlib.Core.List.{List, [], _∷_, _++_, append-nil, append-assoc}
-use Prim.Native.Nat.{ℕ, _+_, _≤_, _<_}
+use Prim.Native.Nat.{ℕ, suc, _+_, _≤_, _<_}
 use native.Mathlib.Omega.{arith}
-use borrow.Author.Tests.{eqb-true, ne-eqb}
+use borrow.Author.Tests.{eqb-true, ltb-true, ltb-false, ne-eqb}
 use lib.Dec.{eqb, ltb}
-use lib.ListN.{length}
+use lib.ListN.{length, drop}
 use Rattle.device.specs.Answers.{isHeld}
 use Rattle.device.specs.Limits.{header}
+use Rattle.device.specs.State.{heldIn}
 use Rattle.device.specs.declared.Device.{Device}
 use Rattle.device.specs.declared.Fate.{Fate}
 use Rattle.device.specs.declared.Fate.the-variants as fate
@@ -23,9 +24,11 @@ use Rattle.chip.specs.World.{World, Ran, resetOf}
 use Rattle.filter.specs.Match.{matches}
 use Rattle.traces.specs.Event.{Event, call, host}
 use Rattle.frames.specs.Arrival.{unitOf, settingsOf}
-use Rattle.frames.specs.Held.{heldIn, ofHeld, FateOfHeld}
-use Rattle.frames.specs.Fates.{Deed, event, alter, worldAfter, Scene, opening, Noted, noted, Way, by-call, by-altering, Ended, heldAs, still, begunIf, begun, endedIf, endedBy, fateIn, ended, takes, lastBy, advance, after, beginnings, endings, times, namesOf, fateOne, alterOne, timesFated, timesAltered, isUnaltered, Proper, AllProper, AllFates}
-use Rattle.frames.proofs.Sound.{Sound, in-range-sound, good-sound, bad-sound, Went, keeps, ends, attention-went, turn-went, Arrives, kept, comes, arrives, arrival-new, call-sound}
+use Rattle.frames.specs.Held.{ofHeld, chosen, heldFates, FatesOfHeld}
+use Rattle.frames.specs.Fates.{Deed, event, alter, worldAfter, Scene, opening, Noted, noted, numbersOf, numbered, Way, by-call, by-altering, Ended, heldAs, still, begunIf, begun}
+use Rattle.frames.specs.Fates.{endedAs, endedBy, fatesIn, ended, takes, advance, after, beginnings, endings, times, namesOf, fateOne, alterOne}
+use Rattle.frames.specs.Fates.{timesFated, timesAltered, isUnaltered, Proper, AllProper, AllFates}
+use Rattle.frames.proofs.Sound.{Sound, in-range-sound, good-sound, bad-sound, attention-went, turn-went, Arrives, kept, comes, arrives, arrival-new, call-sound}
 
 -- ---- one deed
 
@@ -33,83 +36,91 @@ use Rattle.frames.proofs.Sound.{Sound, in-range-sound, good-sound, bad-
 Balanced : Deed → Scene → Type 0
 Balanced d s = namesOf (ended d s) ++ still (advance d s) ≡ still s ++ begun d s
 
--- a call that keeps the frame, and one that ends it
-balance-kept : (o : Bool) (n : ℕ) (b a : List Frame) (x : Fate) → o ≡ false → a ≡ b → namesOf (endedIf o n b x) ++ heldAs n a ≡ heldAs n b ++ []
-balance-kept true n b a x o e = absurd (true≢false o)
-balance-kept false n b a x o e = ap (heldAs n) e ∙ sym (append-nil (heldAs n b))
+-- frames that are held under numbers of their own, and what comes behind them
+held-with : (fs : List Frame) (ns : List ℕ) (gs : List Frame) (ms : List Noted) → heldAs gs (numbersOf ms) ≡ ms
+    → heldAs (fs ++ gs) (numbersOf (heldAs fs ns ++ ms)) ≡ heldAs fs ns ++ ms
+held-with [] ns gs ms e = e
+held-with (f ∷ fs) [] gs ms e = ap (λ (l : List Noted). noted 0 (f ∷ []) ∷ l) (held-with fs [] gs ms e)
+held-with (f ∷ fs) (n ∷ ns) gs ms e = ap (λ (l : List Noted). noted n (f ∷ []) ∷ l) (held-with fs ns gs ms e)
 
-balance-ended : (o : Bool) (n : ℕ) (b a : List Frame) (f : Frame) (x : Fate) → o ≡ true → b ≡ f ∷ [] → a ≡ []
-    → namesOf (endedIf o n b x) ++ heldAs n a ≡ heldAs n b ++ []
-balance-ended false n b a f x o e q = absurd (false≢true o)
-balance-ended true n b a f x o e q =
-    ap₂ (λ (k l : List Frame). noted n k ∷ heldAs n l) e q ∙ ap (λ (k : List Frame). heldAs n k ++ []) (sym e)
+held-again : (fs : List Frame) (ns : List ℕ) → heldAs fs (numbersOf (heldAs fs ns ++ [])) ≡ heldAs fs ns ++ []
+held-again fs ns =
+    ap (λ (l : List Frame). heldAs l (numbersOf (heldAs fs ns ++ []))) (sym (append-nil fs)) ∙ held-with fs ns [] [] refl
 
-balance-went : (n : ℕ) (w : World) (r : Ran) → Went w r
-    → namesOf (endedIf (ofHeld (r .outcome .fate)) n (heldIn (unitOf w)) (r .outcome .fate)) ++ heldAs n (heldIn (r .outcome .device .units .ru))
-    ≡ heldAs n (heldIn (unitOf w)) ++ []
-balance-went n w r (keeps e x) =
-    balance-kept (ofHeld (r .outcome .fate)) n (heldIn (unitOf w)) (heldIn (r .outcome .device .units .ru)) (r .outcome .fate) x e
-balance-went n w r (ends f h e x) =
-    balance-ended (ofHeld (r .outcome .fate)) n (heldIn (unitOf w)) (heldIn (r .outcome .device .units .ru)) f (r .outcome .fate) x h e
+held-numbered : (n : ℕ) (fs : List Frame) → heldAs fs (numbersOf (numbered n fs)) ≡ numbered n fs
+held-numbered n [] = refl
+held-numbered n (f ∷ fs) = ap (λ (l : List Noted). noted n (f ∷ []) ∷ l) (held-numbered (suc n) fs)
 
--- an arrival
-balance-old : (o b : Bool) (next last : ℕ) (u : Ru) (j : Frame) (x : Fate) → o ≡ false → b ≡ false
-    → namesOf (endedIf o last (heldIn u) x) ++ heldAs (lastBy (begunIf b next j) last) (heldIn (arrivals.unitBy b u j))
-    ≡ heldAs last (heldIn u) ++ begunIf b next j
-balance-old true b next last u j x h e = absurd (true≢false h)
-balance-old false true next last u j x h e = absurd (true≢false e)
-balance-old false false next last u j x h e = sym (append-nil (heldAs last (heldIn u)))
+-- an attention or a turn: the oldest end, as many as have a fate
+Settles : List Fate → List Frame → List Frame → List ℕ → Type 0
+Settles xs before after ns =
+    let still = heldAs before ns in
+    let ended = endedAs xs still in
+    namesOf ended ++ heldAs after (numbersOf (drop (length ended) still ++ [])) ≡ still ++ []
 
-balance-new : (o b : Bool) (next last : ℕ) (u : Ru) (j : Frame) (x : Fate) → o ≡ false → b ≡ true → heldIn u ≡ []
-    → heldIn (arrivals.unitBy true u j) ≡ j ∷ []
-    → namesOf (endedIf o last (heldIn u) x) ++ heldAs (lastBy (begunIf b next j) last) (heldIn (arrivals.unitBy b u j))
-    ≡ heldAs last (heldIn u) ++ begunIf b next j
-balance-new true b next last u j x h e n q = absurd (true≢false h)
-balance-new false false next last u j x h e n q = absurd (false≢true e)
-balance-new false true next last u j x h e n q =
-    ap (heldAs next) q ∙ ap (λ (k : List Frame). heldAs last k ++ (noted next (j ∷ []) ∷ [])) (sym n)
+settles : (xs : List Fate) (gone stay : List Frame) (ns : List ℕ) → length xs ≡ length gone → Settles xs (gone ++ stay) stay ns
+unfolding Settles
+settles [] [] stay ns e = held-again stay ns
+settles [] (f ∷ fs) stay ns e = absurd (omega (arith, e))
+settles (x ∷ xs) [] stay ns e = absurd (omega (arith, e))
+settles (x ∷ xs) (f ∷ fs) stay [] e = ap (λ (l : List Noted). noted 0 (f ∷ []) ∷ l) (settles xs fs stay [] (omega (arith, e)))
+settles (x ∷ xs) (f ∷ fs) stay (n ∷ ns) e = ap (λ (l : List Noted). noted n (f ∷ []) ∷ l) (settles xs fs stay ns (omega (arith, e)))
 
-balance-arrives : (few matched : Bool) (next last : ℕ) (u : Ru) (j : Frame) → Arrives few matched u j
-    → namesOf (endedIf (ofHeld (arrivals.fateBy few matched u j)) last (heldIn u) (arrivals.fateBy few matched u j))
-    ++ heldAs (lastBy (begunIf (isHeld (arrivals.fateBy few matched u j)) next j) last)
-    (heldIn (arrivals.unitBy (isHeld (arrivals.fateBy few matched u j)) u j))
-    ≡ heldAs last (heldIn u) ++ begunIf (isHeld (arrivals.fateBy few matched u j)) next j
-balance-arrives few matched next last u j (kept k) =
-    balance-old (ofHeld (arrivals.fateBy few matched u j)) (isHeld (arrivals.fateBy few matched u j)) next last u j (arrivals.fateBy few matched u j)
-    (arrival-new few matched u j) k
-balance-arrives few matched next last u j (comes k n e g) =
-    balance-new (ofHeld (arrivals.fateBy few matched u j)) (isHeld (arrivals.fateBy few matched u j)) next last u j (arrivals.fateBy few matched u j)
-    (arrival-new few matched u j) k n e
+balance-went : (ns : List ℕ) (w : World) (r : Ran) → FatesOfHeld w r
+    → Settles (heldFates (r .outcome .fates)) (heldIn (unitOf w)) (heldIn (r .outcome .device .units .ru)) ns
+balance-went ns w r k =
+    let xs = heldFates (r .outcome .fates) in
+    subst (λ (l : List Frame). Settles xs l (heldIn (r .outcome .device .units .ru)) ns) (sym (k .held))
+    (subst (λ (l : List Frame). Settles xs (k .gone ++ k .stay) l ns) (sym (k .left)) (settles xs (k .gone) (k .stay) ns (k .each)))
+
+-- an arrival: nothing ends, and one may come behind those that are held
+Joins : List Fate → (held : Bool) → (next : ℕ) → List ℕ → Ru → Frame → Type 0
+Joins xs held next ns u j =
+    let still = heldAs (heldIn u) ns in
+    let ended = endedAs xs still in
+    let begins = begunIf held next j ++ [] in
+    namesOf ended ++ heldAs (heldIn (arrivals.unitBy held u j)) (numbersOf (drop (length ended) still ++ begins)) ≡ still ++ begins
+
+joins : (few matched : Bool) (next : ℕ) (ns : List ℕ) (u : Ru) (j : Frame) → Arrives few matched u j
+    → Joins [] (isHeld (arrivals.fateBy few matched u j)) next ns u j
+unfolding Joins
+joins few matched next ns u j (kept k) = subst (λ (b : Bool). Joins [] b next ns u j) (sym k) (held-again (heldIn u) ns)
+joins few matched next ns u j (comes k e g) =
+    subst (λ (b : Bool). Joins [] b next ns u j) (sym k)
+    (ap (λ (l : List Frame). heldAs l (numbersOf (heldAs (heldIn u) ns ++ (noted next (j ∷ []) ∷ [])))) e
+    ∙ held-with (heldIn u) ns (j ∷ []) (noted next (j ∷ []) ∷ []) refl)
 
 balance-arrival : (f : List ℕ) (v : ℕ) (s : Scene) → Balanced (event (call (arrive f v))) s
-unfolding Balanced chip.arrivalOf chip.arrival arrivals.arrival arrivals.fateOf
+unfolding Balanced Joins chip.arrivalOf chip.arrival arrivals.arrival arrivals.fateOf
 balance-arrival f v s =
     let w = s .world in
     let few = ltb (length f) header in
     let m = matches (settingsOf w) (w .device .own) (w .device .listed) f in
     let j = arrivals.judged (settingsOf w) f v in
-    balance-arrives few m (s .next) (s .last) (unitOf w) j (arrives few m (unitOf w) j)
+    let x = arrivals.fateBy few m (unitOf w) j in
+    subst (λ (b : Bool). Joins (chosen b x []) (isHeld x) (s .next) (s .held) (unitOf w) j) (sym (arrival-new few m (unitOf w) j))
+    (joins few m (s .next) (s .held) (unitOf w) j (arrives few m (unitOf w) j))
 
--- the reset call, and the host at the record
-balance-lost : (way : Way) (n : ℕ) (b : List Frame) → namesOf (endedBy way (heldAs n b)) ≡ heldAs n b
-balance-lost way n [] = refl
-balance-lost way n (f ∷ fs) = refl
+-- the reset call, and the host at the record: all end
+all-end : (way : Way) (ns : List Noted) → namesOf (endedBy way ns) ≡ ns
+all-end way [] = refl
+all-end way (n ∷ ns) = ap (λ (l : List Noted). n ∷ l) (all-end way ns)
 
-balance-altered : (n last : ℕ) (b : List Frame) → heldAs (lastBy (heldAs n b) last) b ≡ heldAs n b
-balance-altered n last [] = refl
-balance-altered n last (f ∷ fs) = refl
+none-left : (way : Way) (ns : List Noted) → drop (length (endedBy way ns)) ns ≡ []
+none-left way [] = refl
+none-left way (n ∷ ns) = none-left way ns
 
 balanced : (d : Deed) (s : Scene) → Sound (s .world .device) → Balanced d s
-unfolding Balanced resetOf
-balanced (event (call reset)) s k =
-    ap (λ (l : List Noted). l ++ []) (balance-lost (by-call fate.Reset) (s .last) (heldIn (unitOf (s .world))))
-balanced (event (call attention)) s k = balance-went (s .last) (s .world) (ran attention (s .world)) (attention-went (s .world) k)
+unfolding Balanced Settles resetOf
+balanced (event (call reset)) s k = ap (λ (l : List Noted). l ++ []) (all-end (by-call fate.Reset) (still s))
+balanced (event (call attention)) s k = balance-went (s .held) (s .world) (ran attention (s .world)) (attention-went (s .world) k)
 balanced (event (call (arrive f v))) s k = balance-arrival f v s
-balanced (event (call (turn report))) s k = balance-went (s .last) (s .world) (ran (turn report) (s .world)) (turn-went (s .world) report k)
-balanced (event (host m h out)) s k = sym (append-nil (still s))
+balanced (event (call (turn report))) s k = balance-went (s .held) (s .world) (ran (turn report) (s .world)) (turn-went (s .world) report k)
+balanced (event (host m h out)) s k = held-again (heldIn (unitOf (s .world))) (s .held)
 balanced (alter d r) s k =
-    ap₂ (λ (x y : List Noted). x ++ y) (balance-lost by-altering (s .last) (heldIn (unitOf (s .world))))
-    (balance-altered (s .next) (s .last) (heldIn (d .units .ru)))
+    let fs = heldIn (d .units .ru) in
+    ap₂ (λ (x y : List Noted). x ++ y) (all-end by-altering (still s))
+    (ap (λ (l : List Noted). heldAs fs (numbersOf (l ++ numbered (s .next) fs))) (none-left by-altering (still s)) ∙ held-numbered (s .next) fs)
 
 -- ---- over time
 
@@ -154,26 +165,24 @@ all-fates ds w r = fates-sound ds w (in-range-sound (w .device) r)
 
 -- ---- no fate is noted beside what is done
 
-went-held : (w : World) (r : Ran) → Went w r → ofHeld (r .outcome .fate) ≡ true → FateOfHeld w r
-went-held w r (keeps e x) h = absurd (false≢true (sym x ∙ h))
-went-held w r (ends f e n x) h = record { frame = f; held = e; gone = n }
-
-arrival-fate : (w : World) (f : List ℕ) (v : ℕ) → ofHeld (chip.arrivalOf w f v .outcome .fate) ≡ false
+arrival-fates : (w : World) (f : List ℕ) (v : ℕ) → heldFates (chip.arrivalOf w f v .outcome .fates) ≡ []
 unfolding chip.arrivalOf chip.arrival arrivals.arrival arrivals.fateOf
-arrival-fate w f v =
-    arrival-new (ltb (length f) header) (matches (settingsOf w) (w .device .own) (w .device .listed) f) (unitOf w)
-    (arrivals.judged (settingsOf w) f v)
+arrival-fates w f v =
+    let few = ltb (length f) header in
+    let m = matches (settingsOf w) (w .device .own) (w .device .listed) f in
+    let j = arrivals.judged (settingsOf w) f v in
+    ap (λ (b : Bool). chosen b (arrivals.fateBy few m (unitOf w) j) []) (arrival-new few m (unitOf w) j)
 
-reset-fate : (w : World) → ofHeld (ran reset w .outcome .fate) ≡ false
+reset-fates : (w : World) → heldFates (ran reset w .outcome .fates) ≡ []
 unfolding resetOf
-reset-fate w = refl
+reset-fates w = refl
 
--- an outcome that gives a held frame's fate: a frame was held, and is no more
-pub fate-of-held : (c : Call) (w : World) → inRange (w .device) ≡ true → ofHeld (ran c w .outcome .fate) ≡ true → FateOfHeld w (ran c w)
-fate-of-held reset w r h = absurd (false≢true (sym (reset-fate w) ∙ h))
-fate-of-held attention w r h = went-held w (ran attention w) (attention-went w (in-range-sound (w .device) r)) h
-fate-of-held (arrive f v) w r h = absurd (false≢true (sym (arrival-fate w f v) ∙ h))
-fate-of-held (turn report) w r h = went-held w (ran (turn report) w) (turn-went w report (in-range-sound (w .device) r)) h
+-- an outcome that gives held frames' fates: so many frames were held, and are no more
+pub fates-of-held : (c : Call) (w : World) → inRange (w .device) ≡ true → (heldFates (ran c w .outcome .fates) ≡ [] → ⊥) → FatesOfHeld w (ran c w)
+fates-of-held reset w r h = absurd (h (reset-fates w))
+fates-of-held attention w r h = attention-went w (in-range-sound (w .device) r)
+fates-of-held (arrive f v) w r h = absurd (h (arrival-fates w f v))
+fates-of-held (turn report) w r h = turn-went w report (in-range-sound (w .device) r)
 
 -- ---- the ways to end
 
@@ -181,23 +190,28 @@ proper-append : (A : Type 0) (xs ys : List Ended) → AllProper A xs → AllProp
 proper-append A [] ys h k = k
 proper-append A (x ∷ xs) ys h k = (h .0, proper-append A xs ys (h .1) k)
 
-proper-if : (A : Type 0) (o : Bool) (n : ℕ) (f : List Frame) (x : Fate) → ofHeld x ≡ o → AllProper A (endedIf o n f x)
-proper-if A true n f x h = (h, tt)
-proper-if A false n f x h = tt
+proper-if : (A : Type 0) (o : Bool) (x : Fate) (xs : List Fate) → ofHeld x ≡ o → ((ns : List Noted) → AllProper A (endedAs xs ns))
+    → (ns : List Noted) → AllProper A (endedAs (chosen o x xs) ns)
+proper-if A true x xs h k [] = (h, k [])
+proper-if A true x xs h k (n ∷ ns) = (h, k ns)
+proper-if A false x xs h k ns = k ns
+
+proper-as : (A : Type 0) (xs : List Fate) (ns : List Noted) → AllProper A (endedAs (heldFates xs) ns)
+proper-as A [] ns = tt
+proper-as A (x ∷ xs) ns = proper-if A (ofHeld x) x (heldFates xs) refl (proper-as A xs) ns
 
 proper-by : (A : Type 0) (way : Way) (ns : List Noted) → Proper A way → AllProper A (endedBy way ns)
 proper-by A way [] h = tt
-proper-by A way (n ∷ ns) h = (h, tt)
+proper-by A way (n ∷ ns) h = (h, proper-by A way ns h)
 
-proper-fate : (A : Type 0) (c : Call) (s : Scene) → AllProper A (fateIn c s)
-proper-fate A c s =
-    let x = ran c (s .world) .outcome .fate in proper-if A (ofHeld x) (s .last) (heldIn (unitOf (s .world))) x refl
+proper-fates : (A : Type 0) (c : Call) (s : Scene) → AllProper A (fatesIn c s)
+proper-fates A c s = proper-as A (ran c (s .world) .outcome .fates) (still s)
 
 proper-event : (A : Type 0) (e : Event) (s : Scene) → AllProper A (ended (event e) s)
 proper-event A (call reset) s = proper-by A (by-call fate.Reset) (still s) refl
-proper-event A (call attention) s = proper-fate A attention s
-proper-event A (call (arrive f v)) s = proper-fate A (arrive f v) s
-proper-event A (call (turn report)) s = proper-fate A (turn report) s
+proper-event A (call attention) s = proper-fates A attention s
+proper-event A (call (arrive f v)) s = proper-fates A (arrive f v) s
+proper-event A (call (turn report)) s = proper-fates A (turn report) s
 proper-event A (host m h out) s = tt
 
 -- an end is by a held frame's fate, or the host altered the record
@@ -225,65 +239,93 @@ times-append k (x ∷ xs) ys =
     let i : times k (xs ++ ys) ≡ times k xs + times k ys = times-append k xs ys in
     omega arith
 
--- what begins with a deed has the next number, and takes it
-data Begins (d : Deed) (s : Scene) : Type 0 where
-  nothing : begun d s ≡ [] → Begins d s
-  one : (f : List Frame) → begun d s ≡ noted (s .next) f ∷ [] → takes d ≡ 1 → Begins d s
+-- frames under numbers from n on: each number once, and none below or beyond
+below : (k n : ℕ) (fs : List Frame) → k < n → times k (numbered n fs) ≡ 0
+below k n [] h = refl
+below k n (f ∷ fs) h =
+    ap₂ (λ (b : Bool) (x : ℕ). cond b 1 0 + x) (ne-eqb n k (λ q. omega (arith, h, q))) (below k (suc n) fs (omega (arith, h)))
 
-begins-if : (b : Bool) (f : List ℕ) (v : ℕ) (s : Scene) → isHeld (ran (arrive f v) (s .world) .outcome .fate) ≡ b
-    → Begins (event (call (arrive f v))) s
-begins-if true f v s h =
-    let j = arrivals.judged (settingsOf (s .world)) f v in
-    one (j ∷ []) (ap (λ (b : Bool). begunIf b (s .next) j) h) refl
-begins-if false f v s h = nothing (ap (λ (b : Bool). begunIf b (s .next) (arrivals.judged (settingsOf (s .world)) f v)) h)
+beyond : (k n : ℕ) (fs : List Frame) → n + length fs ≤ k → times k (numbered n fs) ≡ 0
+beyond k n [] h = refl
+beyond k n (f ∷ fs) h =
+    ap₂ (λ (b : Bool) (x : ℕ). cond b 1 0 + x) (ne-eqb n k (λ q. omega (arith, h, q))) (beyond k (suc n) fs (omega (arith, h)))
 
-begins-held : (d : Device) (r : inRange d ≡ true) (s : Scene) (fs : List Frame) → heldIn (d .units .ru) ≡ fs → Begins (alter d r) s
-begins-held d r s [] h = nothing (ap (heldAs (s .next)) h)
-begins-held d r s (f ∷ fs) h = one (f ∷ []) (ap (heldAs (s .next)) h) refl
-
-begins : (d : Deed) (s : Scene) → Begins d s
-begins (event (call reset)) s = nothing refl
-begins (event (call attention)) s = nothing refl
-begins (event (call (arrive f v))) s = begins-if (isHeld (ran (arrive f v) (s .world) .outcome .fate)) f v s refl
-begins (event (call (turn report))) s = nothing refl
-begins (event (host m h out)) s = nothing refl
-begins (alter d r) s = begins-held d r s (heldIn (d .units .ru)) refl
-
--- no number that is behind begins
-behind-by : (d : Deed) (ds : List Deed) (s : Scene) (k : ℕ) → k < s .next → times k (beginnings ds (advance d s)) ≡ 0 → Begins d s
-    → times k (begun d s ++ beginnings ds (advance d s)) ≡ 0
-behind-by d ds s k h i (nothing e) = ap (λ (l : List Noted). times k (l ++ beginnings ds (advance d s))) e ∙ i
-behind-by d ds s k h i (one f e t) =
-    ap (λ (l : List Noted). times k (l ++ beginnings ds (advance d s))) e
-    ∙ ap₂ (λ (b : Bool) (n : ℕ). cond b 1 0 + n) (ne-eqb (s .next) k (λ q. omega arith)) i
-
-behind : (ds : List Deed) (s : Scene) (k : ℕ) → k < s .next → times k (beginnings ds s) ≡ 0
-behind [] s k h = refl
-behind (d ∷ ds) s k h = behind-by d ds s k h (behind ds (advance d s) k (omega arith)) (begins d s)
-
--- no number begins twice
 counts-once : (b : Bool) (rest : ℕ) → rest ≤ 1 → (b ≡ true → rest ≡ 0) → cond b 1 0 + rest ≤ 1
 counts-once true rest h z =
     let e = z refl in
     omega arith
 counts-once false rest h z = omega arith
 
-not-twice-by : (d : Deed) (ds : List Deed) (s : Scene) (k : ℕ) → times k (beginnings ds (advance d s)) ≤ 1 → Begins d s
-    → times k (begun d s ++ beginnings ds (advance d s)) ≤ 1
-not-twice-by d ds s k i (nothing e) = subst (λ (l : List Noted). times k (l ++ beginnings ds (advance d s)) ≤ 1) (sym e) i
-not-twice-by d ds s k i (one f e t) =
-    subst (λ (l : List Noted). times k (l ++ beginnings ds (advance d s)) ≤ 1) (sym e)
-    (counts-once (eqb (s .next) k) (times k (beginnings ds (advance d s))) i
-    (λ b. behind ds (advance d s) k (omega (arith, eqb-true (s .next) k b, t))))
+once : (k n : ℕ) (fs : List Frame) → times k (numbered n fs) ≤ 1
+once k n [] = omega arith
+once k n (f ∷ fs) =
+    counts-once (eqb n k) (times k (numbered (suc n) fs)) (once k (suc n) fs)
+    (λ b. below k (suc n) fs (omega (arith, eqb-true n k b)))
 
+-- and with what has other numbers
+once-with : (k n : ℕ) (fs : List Frame) (ms : List Noted) → times k ms ≤ 1 → (k < n + length fs → times k ms ≡ 0) → times k (numbered n fs ++ ms) ≤ 1
+once-with k n fs ms m z = by (ltb k (n + length fs)) refl
+  where
+    by : (b : Bool) → ltb k (n + length fs) ≡ b → times k (numbered n fs ++ ms) ≤ 1
+    by true e =
+        let i = z (ltb-true k (n + length fs) e) in
+        omega (arith, times-append k (numbered n fs) ms, i, once k n fs)
+    by false e = omega (arith, times-append k (numbered n fs) ms, beyond k n fs (ltb-false k (n + length fs) e), m)
+
+-- what begins with a deed has the next numbers, and takes them
+record Begins (d : Deed) (s : Scene) : Type 0 where
+  frames : List Frame
+  begins : begun d s ≡ numbered (s .next) frames
+  most : length frames ≤ takes d
+
+begins-if : (b : Bool) (f : List ℕ) (v : ℕ) (s : Scene) → begun (event (call (arrive f v))) s
+    ≡ begunIf b (s .next) (arrivals.judged (settingsOf (s .world)) f v) ++ []
+    → Begins (event (call (arrive f v))) s
+begins-if true f v s h = record { frames = arrivals.judged (settingsOf (s .world)) f v ∷ []; begins = h; most = omega arith }
+begins-if false f v s h = record { frames = []; begins = h; most = omega arith }
+
+arrival-begins : (f : List ℕ) (v : ℕ) (s : Scene) → Begins (event (call (arrive f v))) s
+unfolding chip.arrivalOf chip.arrival arrivals.arrival
+arrival-begins f v s =
+    let w = s .world in
+    begins-if (isHeld (arrivals.fateOf (settingsOf w) (matches (settingsOf w) (w .device .own) (w .device .listed) f) (unitOf w) f v)) f v s refl
+
+nothing : (d : Deed) (s : Scene) → begun d s ≡ [] → Begins d s
+nothing d s e = record { frames = []; begins = e; most = omega arith }
+
+begins : (d : Deed) (s : Scene) → Begins d s
+begins (event (call reset)) s = nothing (event (call reset)) s refl
+begins (event (call attention)) s = nothing (event (call attention)) s refl
+begins (event (call (arrive f v))) s = arrival-begins f v s
+begins (event (call (turn report))) s = nothing (event (call (turn report))) s refl
+begins (event (host m h out)) s = nothing (event (host m h out)) s refl
+begins (alter d r) s = record { frames = heldIn (d .units .ru); begins = refl; most = omega arith }
+
+-- no number that is behind begins
+behind : (ds : List Deed) (s : Scene) (k : ℕ) → k < s .next → times k (beginnings ds s) ≡ 0
+behind [] s k h = refl
+behind (d ∷ ds) s k h =
+    let b = begins d s in
+    let rest = beginnings ds (advance d s) in
+    ap (λ (l : List Noted). times k (l ++ rest)) (b .begins)
+    ∙ times-append k (numbered (s .next) (b .frames)) rest
+    ∙ ap₂ (λ (x y : ℕ). x + y) (below k (s .next) (b .frames) h) (behind ds (advance d s) k (omega (arith, h)))
+
+-- no number begins twice
 not-twice : (ds : List Deed) (s : Scene) (k : ℕ) → times k (beginnings ds s) ≤ 1
 not-twice [] s k = omega arith
-not-twice (d ∷ ds) s k = not-twice-by d ds s k (not-twice ds (advance d s) k) (begins d s)
+not-twice (d ∷ ds) s k =
+    let b = begins d s in
+    let rest = beginnings ds (advance d s) in
+    subst (λ (l : List Noted). times k (l ++ rest) ≤ 1) (sym (b .begins))
+    (once-with k (s .next) (b .frames) rest (not-twice ds (advance d s) k) (λ h. behind ds (advance d s) k (omega (arith, h, b .most))))
 
-all-once : (fs : List Frame) (ds : List Deed) (s : Scene) (k : ℕ) → s .last < s .next → times k (heldAs (s .last) fs ++ beginnings ds s) ≤ 1
-all-once [] ds s k l = not-twice ds s k
-all-once (f ∷ fs) ds s k l =
-    counts-once (eqb (s .last) k) (times k (beginnings ds s)) (not-twice ds s k) (λ b. behind ds s k (omega (arith, eqb-true (s .last) k b)))
+all-once : (w : World) (ds : List Deed) (k : ℕ) → times k (still (opening w) ++ beginnings ds (opening w)) ≤ 1
+all-once w ds k =
+    let fs = heldIn (unitOf w) in
+    let rest = beginnings ds (opening w) in
+    subst (λ (l : List Noted). times k (l ++ rest) ≤ 1) (sym (held-numbered 1 fs))
+    (once-with k 1 fs rest (not-twice ds (opening w) k) (λ h. behind ds (opening w) k (omega (arith, h))))
 
 -- every end is by a fate or by altering
 one-way : (b : Bool) (way : Way) → cond b 1 0 ≡ cond b (fateOne way) 0 + cond b (alterOne way) 0
@@ -314,7 +356,7 @@ pub exactly-one : (w : World) (ds : List Deed) (k : ℕ) → inRange (w .device)
     → 0 < times k (still (opening w) ++ beginnings ds (opening w))
     → timesFated k (endings ds (opening w)) + timesAltered k (endings ds (opening w)) + times k (still (after ds (opening w))) ≡ 1
 exactly-one w ds k r h =
-    omega (arith, conserved-times w ds k r, all-once (heldIn (unitOf w)) ds (opening w) k (omega arith))
+    omega (arith, conserved-times w ds k r, all-once w ds k)
 
 -- and no fate is noted under a number of which no frame was held
 pub no-other : (w : World) (ds : List Deed) (k : ℕ) → inRange (w .device) ≡ true → times k (still (opening w) ++ beginnings ds (opening w)) ≡ 0

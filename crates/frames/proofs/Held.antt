@@ -14,7 +14,8 @@ use Rattle.scb.specs.declared.RuState.{RuState}
 use Rattle.scb.specs.declared.RuState.the-variants as rus
 use Rattle.device.specs.Answers.{isHeld}
 use Rattle.device.specs.Limits.{header}
-use Rattle.device.specs.State.{cuState, ruState, isActive, isHolding, isGood, fresh}
+use Rattle.device.specs.State.{cuState, ruState, isActive, isHolding, heldIn, isGood, fresh}
+use Rattle.device.proofs.Laws.{some-held}
 use Rattle.device.specs.declared.Device.{Device}
 use Rattle.device.specs.declared.Fate.the-variants as fate
 use Rattle.device.specs.declared.Frame.{Frame}
@@ -41,7 +42,7 @@ use Rattle.chip.specs.Turn.{servedBy, turnBy, turnOf, commandTurn, receiveTurn,
 use Rattle.chip.specs.World.{World, Ran, writing, resetOf}
 use Rattle.filter.specs.Match.{matches}
 use Rattle.frames.specs.Arrival.{inScb, unitOf, settingsOf}
-use Rattle.frames.specs.Held.{heldIn, ofHeld, commandOf, loses, endIsNext, servedRu, ends, StaysHeld, Lost, by-reset, by-resetting, by-abort, GoodFate, BadFate}
+use Rattle.frames.specs.Held.{ofHeld, chosen, heldFates, forEach, commandOf, loses, endIsNext, servedRu, ends, StaysHeld, Lost, by-reset, by-resetting, by-abort, GoodFate, BadFate}
 use Rattle.frames.specs.Held as held
 use Rattle.frames.proofs.End.{part, turned, Closed, closed, Both, both, OnlyCounted, only-counted, Kept, kept}
 
@@ -51,14 +52,7 @@ pub none≢one : {f : Frame} → [] ≡ f ∷ [] → ⊥
 none≢one e = nil≢cons e
 
 pub holds : (u : Ru) (f : Frame) → heldIn u ≡ f ∷ [] → isHolding u ≡ true
-holds ru.Idle f h = absurd (none≢one h)
-holds ru.NoResources f h = absurd (none≢one h)
-holds (ru.Suspended fd) f h = absurd (none≢one h)
-holds (ru.Ready fd) f h = absurd (none≢one h)
-holds (ru.Held fd g p) f h = refl
-holds (ru.Filling s w) f h = refl
-holds (ru.Closing s free full) f h = refl
-holds (ru.Lacking s) f h = refl
+holds u f h = some-held u f [] h
 
 firstOf : Frame → List Frame → Frame
 firstOf d [] = d
@@ -164,11 +158,11 @@ arrival-fate false true (ru.Lacking s) j f h = (refl, refl)
 at-arrival : (w : World) (f : Frame) (bs : List ℕ) (v : ℕ) → heldIn (unitOf w) ≡ f ∷ [] → StaysHeld f w (chip.arrivalOf w bs v)
 unfolding chip.arrivalOf chip.arrival arrivals.arrival arrivals.fateOf
 at-arrival w f bs v h =
-    let k =
-    arrival-fate (ltb (length bs) header) (matches (settingsOf w) (w .device .own) (w .device .listed) bs) (unitOf w)
-    (arrivals.judged (settingsOf w) bs v) f h
-    in
-    record { unit = rw (k .0) h; holding = rw (k .0); fate = k .1 }
+    let few = ltb (length bs) header in
+    let matched = matches (settingsOf w) (w .device .own) (w .device .listed) bs in
+    let j = arrivals.judged (settingsOf w) bs v in
+    let k = arrival-fate few matched (unitOf w) j f h in
+    record { unit = rw (k .0) h; holding = rw (k .0); fates = ap (λ (b : Bool). chosen b (arrivals.fateBy few matched (unitOf w) j) []) (k .1) }
 
 -- ---- an attention
 
@@ -181,9 +175,9 @@ unfolding attended attentionOf attentions.attention attentions.attend
 to-attend w i = ap (λ (b : Bool). attended w (attentions.attentionBy b (w .device) (w .memory))) (sym i)
 
 -- it resets
-reset-fate : (w : World) → isHolding (unitOf w) ≡ true → attended w (attentions.resetBy (w .device)) .outcome .fate ≡ fate.Reset
+reset-fates : (w : World) → attended w (attentions.resetBy (w .device)) .outcome .fates ≡ forEach fate.Reset w
 unfolding attended attentions.resetBy
-reset-fate w h = ap (λ (b : Bool). lostBy fate.Reset b false) h
+reset-fates w = refl
 
 reset-fresh : (w : World) → attended w (attentions.resetBy (w .device)) .outcome .device ≡ fresh
 unfolding attended attentions.resetBy
@@ -193,10 +187,10 @@ reset-memory : (w : World) → attended w (attentions.resetBy (w .device)) .memo
 unfolding attended attentions.resetBy
 reset-memory w = refl
 
-at-reset : (w : World) → isHolding (unitOf w) ≡ true → resets (commandOf w) ≡ true → attended w (attentions.resetBy (w .device)) ≡ attentionOf w
+at-reset : (w : World) → resets (commandOf w) ≡ true → attended w (attentions.resetBy (w .device)) ≡ attentionOf w
     → Lost w attention
-at-reset w h r e =
-    by-resetting r (ap (λ (x : Ran). x .outcome .fate) (sym e) ∙ reset-fate w h) (ap (λ (x : Ran). x .outcome .device) (sym e) ∙ reset-fresh w)
+at-reset w r e =
+    by-resetting r (ap (λ (x : Ran). x .outcome .fates) (sym e) ∙ reset-fates w) (ap (λ (x : Ran). x .outcome .device) (sym e) ∙ reset-fresh w)
     (ap (λ (x : Ran). x .memory) (sym e) ∙ reset-memory w)
 
 -- it obeys, and the table leads the receive unit to n
@@ -212,16 +206,16 @@ unfolding obeyed attentions.obey obeyRuc
 obey-is w = refl
 
 record Aborted (w : World) (r : Ran) : Type 0 where
-  fate : r .outcome .fate ≡ fate.Aborted
+  fates : r .outcome .fates ≡ forEach fate.Aborted w
   unit : r .outcome .device .units .ru ≡ ru.Idle
   memory :
       r .memory
       ≡ apply (obeyCuc (w .device .units) (commandOf w) (w .memory) .writes ++ abortedRu (w .device .units .base) (unitOf w)
       ++ attentions.settledWrites (r .outcome .device .units)) (w .memory)
 
-aborted-idle : (w : World) → isHolding (unitOf w) ≡ true → Aborted w (obeyed rus.Idle w)
+aborted-idle : (w : World) → Aborted w (obeyed rus.Idle w)
 unfolding obeyed attended attentions.unitsAfter
-aborted-idle w h = record { fate = ap (λ (b : Bool). lostBy fate.Aborted b false) h; unit = refl; memory = refl }
+aborted-idle w = record { fates = refl; unit = refl; memory = refl }
 
 abbrev pub isIdle : RuState → Bool
 isIdle rus.Idle = true
@@ -256,10 +250,8 @@ goes-on rus.Suspended first u i = suspended-keeps u
 goes-on rus.NoResources first u i = refl
 goes-on rus.Ready first u i = ready-keeps first u
 
-pub not-lost : (a b : Bool) → b ≡ true → ofHeld (lostBy fate.Aborted a b) ≡ false
-not-lost true true h = refl
-not-lost true false h = absurd (false≢true h)
-not-lost false b h = refl
+pub not-lost : (a b : List Frame) (f : Frame) (fs : List Frame) → b ≡ f ∷ fs → heldFates (lostBy fate.Aborted a b) ≡ []
+not-lost a b f fs h = ap (λ (k : List Frame). heldFates (lostBy fate.Aborted a k)) h
 
 obeyed-keeps : (n : RuState) (w : World) (f : Frame) → heldIn (unitOf w) ≡ f ∷ [] → isIdle n ≡ false → StaysHeld f w (obeyed n w)
 unfolding obeyed attended attentions.unitsAfter
@@ -270,7 +262,7 @@ obeyed-keeps n w f h i =
     record {
       unit = k;
       holding = refl;
-      fate = not-lost (isHolding (unitOf w)) (isHolding (ruGoes n first (unitOf w))) (holds (ruGoes n first (unitOf w)) f k);
+      fates = not-lost (heldIn (unitOf w)) (heldIn (ruGoes n first (unitOf w))) f [] k;
     }
 
 -- the table, from Ready: ABORT alone leads to Idle
@@ -299,19 +291,19 @@ held-state (ru.Closing s free full) f h = refl
 held-state (ru.Lacking s) f h = refl
 
 at-abort : (w : World) → resets (commandOf w) ≡ false → ruc (commandOf w) ≡ 4 → Aborted w (attentionOf w) → Lost w attention
-at-abort w r a x = by-abort r a (x .fate) (x .unit) (x .memory)
+at-abort w r a x = by-abort r a (x .fates) (x .unit) (x .memory)
 
 at-attention : (reset aborts : Bool) (w : World) (f : Frame) → heldIn (unitOf w) ≡ f ∷ [] → w .device .units .initialised ≡ true
     → resets (commandOf w) ≡ reset → eqb (ruc (commandOf w)) 4 ≡ aborts → HeldFate f attention w
 at-attention true aborts w f h i r a =
     let to = ap (λ (b : Bool). attended w (attentions.attendBy b (w .device) (commandOf w) (w .memory))) (sym r) ∙ to-attend w i in
-    lost (ap (λ (x : Bool). x || eqb (ruc (commandOf w)) 4) r) (at-reset w (holds (unitOf w) f h) r to)
+    lost (ap (λ (x : Bool). x || eqb (ruc (commandOf w)) 4) r) (at-reset w r to)
 at-attention false true w f h i r a =
     let to = ap (λ (b : Bool). attended w (attentions.attendBy b (w .device) (commandOf w) (w .memory))) (sym r) ∙ to-attend w i in
     let n = ap₂ ruNext (eqb-true (ruc (commandOf w)) 4 a) (held-state (unitOf w) f h) ∙ next-idle 4 refl in
     lost (ap₂ (λ (x y : Bool). x || y) r a)
     (at-abort w r (eqb-true (ruc (commandOf w)) 4 a)
-    (subst (Aborted w) (ap (λ (x : RuState). obeyed x w) (sym n) ∙ obey-is w ∙ to) (aborted-idle w (holds (unitOf w) f h))))
+    (subst (Aborted w) (ap (λ (x : RuState). obeyed x w) (sym n) ∙ obey-is w ∙ to) (aborted-idle w)))
 at-attention false false w f h i r a =
     let to = ap (λ (b : Bool). attended w (attentions.attendBy b (w .device) (commandOf w) (w .memory))) (sym r) ∙ to-attend w i in
     let n = ap isIdle (ap (ruNext (ruc (commandOf w))) (held-state (unitOf w) f h)) ∙ next-kept (ruc (commandOf w)) a in
@@ -323,7 +315,7 @@ at-attention false false w f h i r a =
 -- the command unit is served
 command-keeps : (w : World) (f : Frame) (report : ℕ) → heldIn (unitOf w) ≡ f ∷ [] → StaysHeld f w (commandTurn w report)
 unfolding commandTurn concluded
-command-keeps w f report h = record { unit = h; holding = refl; fate = refl }
+command-keeps w f report h = record { unit = h; holding = refl; fates = refl }
 
 -- the receive unit is
 pub to-turned : (w : World) (u : Ru) → unitOf w ≡ u → turned w (services.serviceBy u (part w) (w .memory)) ≡ receiveTurn w
@@ -344,7 +336,7 @@ buffer-keeps false false false false s w = refl
 
 quiet-keeps : (w : World) (u : Ru) (ws : List Write) (f : Frame) → heldIn u ≡ f ∷ [] → StaysHeld f w (turned w (receive.quietly u ws))
 unfolding turned concluded
-quiet-keeps w u ws f h = record { unit = h; holding = refl; fate = refl }
+quiet-keeps w u ws f h = record { unit = h; holding = refl; fates = refl }
 
 begin-keeps : (w : World) (fd : Offset) (f : Frame) (p : Bool) → StaysHeld f w (turned w (begins.begin (part w) fd f p (w .memory)))
 unfolding begins.begin begins.begunBy
@@ -423,14 +415,14 @@ good-lacking : (saved : Bool) (c : Call) (w : World) (f : Frame) (s : Storing) �
     → turned w (lack (part w) s (w .memory)) ≡ ran c w → GoodFate f c w
 good-lacking true c w f s n e q g b r =
     let x = subst (Both w s) r (both w s (ap (λ (k : Frame). k .savebad) q ∙ b) (ap isGood q ∙ g)) in
-    held.both s n e q b (x .fate) (x .stored) (x .counted)
+    held.both s n e q b (x .fates) (x .stored) (x .counted)
 good-lacking false c w f s n e q g b r =
     let x = subst (OnlyCounted w s) r (only-counted w s (ap (λ (k : Frame). k .savebad) q ∙ b) (ap isGood q ∙ g)) in
-    held.counted s n e q b (x .fate) (x .counted)
+    held.counted s n e q b (x .fates) (x .counted)
 
 pub good-of : (c : Call) (w : World) (f : Frame) → isGood f ≡ true → HeldFate f c w → GoodFate f c w
 good-of c w f g (stays l n k) = held.stays l n k
-good-of c w f g (closing s free full n e q k) = held.stored s free full n e q (k .fate) (k .stored)
+good-of c w f g (closing s free full n e q k) = held.stored s free full n e q (k .fates) (k .stored)
 good-of c w f g (lacking s n e q r) = good-lacking (f .savebad) c w f s n e q g refl r
 good-of c w f g (lost l k) = held.lost l k
 
@@ -447,10 +439,10 @@ or-right false b h n = h
 
 pub bad-of : (c : Call) (w : World) (f : Frame) → isGood f ≡ false → f .savebad ≡ true → HeldFate f c w → BadFate f c w
 bad-of c w f g b (stays l n k) = held.stays l n k
-bad-of c w f g b (closing s free full n e q k) = held.stored s free full n e q (k .fate) (k .stored)
+bad-of c w f g b (closing s free full n e q k) = held.stored s free full n e q (k .fates) (k .stored)
 bad-of c w f g b (lacking s n e q r) =
     let x = subst (Kept w s) r (kept w s (ap (λ (k : Frame). k .savebad) q ∙ b) (ap isGood q ∙ g)) in
-    held.lacking s n e q (x .fate) (x .stored)
+    held.lacking s n e q (x .fates) (x .stored)
 bad-of c w f g b (lost l k) = held.lost l k
 
 -- every call, while a bad frame is held: it stays held; or is stored, with bit 9 if out of buffers, and no counter moves in that turn; or is lost in

@@ -2,9 +2,9 @@
 -- frame is held only to be saved. Assumes nothing.
 use mathlib.Core.Path.{_≡_, refl, sym, ap, ap₂, _∙_, subst}
 use mathlib.Core.Bool.{Bool, true, false, not, _&&_, _||_, false≢true}
-use mathlib.Core.List.{List, [], _∷_}
+use mathlib.Core.List.{List, [], _∷_, _++_, map, append-nil}
 use mathlib.Core.Logic.{_⊎_, inl, inr}
-use Prim.Native.Nat.{ℕ}
+use Prim.Native.Nat.{ℕ, suc}
 use lib.Dec.{eqb, ltb}
 use lib.ListN.{length}
 use Rattle.memory.specs.Memory.{apply}
@@ -15,9 +15,11 @@ use Rattle.scb.specs.declared.RuState.{RuState}
 use Rattle.scb.specs.declared.RuState.the-variants as rus
 use Rattle.device.specs.Answers.{isHeld}
 use Rattle.device.specs.Limits.{header}
-use Rattle.device.specs.State.{cuState, ruState, isActive, isHolding, isGood, fresh}
+use Rattle.device.specs.State.{cuState, ruState, isActive, isHolding, heldIn, isGood, fresh}
+use Rattle.device.proofs.Laws.{none-held}
 use Rattle.device.specs.declared.Counter.{Counter}
 use Rattle.device.specs.declared.Device.{Device}
+use Rattle.device.specs.declared.Fate.{Fate}
 use Rattle.device.specs.declared.Fate.the-variants as fate
 use Rattle.device.specs.declared.Frame.{Frame}
 use Rattle.device.specs.declared.Ru.{Ru}
@@ -36,9 +38,9 @@ use Rattle.chip.specs.Turn.{servedBy, turnBy, turnOf, commandTurn, receiveTurn,
 use Rattle.chip.specs.World.{World, Ran, resetOf}
 use Rattle.filter.specs.Match.{matches}
 use Rattle.frames.specs.Arrival.{unitOf, settingsOf}
-use Rattle.frames.specs.Held.{heldIn, ofHeld, commandOf, loses, Lost, by-resetting, by-abort, GoodFate, BadFate}
+use Rattle.frames.specs.Held.{ofHeld, chosen, heldFates, forEach, FatesOfHeld, commandOf, loses, Lost, by-resetting, by-abort, GoodFate, BadFate}
 use Rattle.frames.specs.Held as held
-use Rattle.frames.proofs.Held.{none≢one, same-frame, or-left, or-right, held-saved, held-fate, good-of, bad-of, goes-on, attended, obeyed, obey-is, to-attend, served-as}
+use Rattle.frames.proofs.Held.{none≢one, or-left, or-right, held-saved, held-fate, good-of, bad-of, goes-on, attended, obeyed, obey-is, to-attend, served-as}
 
 -- the unit is Idle
 abbrev pub idle : Ru → Bool
@@ -51,9 +53,22 @@ idle (ru.Filling s w) = false
 idle (ru.Closing s free full) = false
 idle (ru.Lacking s) = false
 
+-- each of these frames is good, or to be saved
+abbrev pub AllSaved : List Frame → Type 0
+AllSaved [] = Unit {0}
+AllSaved (f ∷ fs) = ((isGood f || f .savebad) ≡ true) × AllSaved fs
+
 pub record Sound (d : Device) : Type 0 where
   pub started : (d .units .initialised || idle (d .units .ru)) ≡ true
-  pub saved : (f : Frame) → heldIn (d .units .ru) ≡ f ∷ [] → (isGood f || f .savebad) ≡ true
+  pub saved : AllSaved (heldIn (d .units .ru))
+
+saved-append : (fs gs : List Frame) → AllSaved fs → AllSaved gs → AllSaved (fs ++ gs)
+saved-append [] gs h k = k
+saved-append (f ∷ fs) gs h k = (h .0, saved-append fs gs (h .1) k)
+
+saved-behind : (fs gs : List Frame) → AllSaved (fs ++ gs) → AllSaved gs
+saved-behind [] gs h = h
+saved-behind (f ∷ fs) gs h = saved-behind fs gs (h .1)
 
 -- ---- every state in range is such
 
@@ -82,6 +97,22 @@ or-by : (a b c : Bool) → (a || b) ≡ true → (b ≡ true → c ≡ true) →
 or-by true b c h k = refl
 or-by false b c h k = k h
 
+-- a frame is held or none is
+pub held-or-none : (u : Ru) → (heldIn u ≡ []) ⊎ ((f : Frame) × (heldIn u ≡ f ∷ []))
+held-or-none ru.Idle = inl refl
+held-or-none ru.NoResources = inl refl
+held-or-none (ru.Suspended fd) = inl refl
+held-or-none (ru.Ready fd) = inl refl
+held-or-none (ru.Held fd f p) = inr (f, refl)
+held-or-none (ru.Filling s w) = inr (s .frame, refl)
+held-or-none (ru.Closing s free full) = inr (s .frame, refl)
+held-or-none (ru.Lacking s) = inr (s .frame, refl)
+
+range-saved : (d : Device) → inRange d ≡ true → (heldIn (d .units .ru) ≡ []) ⊎ ((f : Frame) × (heldIn (d .units .ru) ≡ f ∷ []))
+    → AllSaved (heldIn (d .units .ru))
+range-saved d r (inl h) = subst AllSaved (sym h) tt
+range-saved d r (inr k) = subst AllSaved (sym (k .1)) (held-saved d (k .0) r (k .1), tt)
+
 pub in-range-sound : (d : Device) → inRange d ≡ true → Sound d
 unfolding inRange initialisedOrFresh
 in-range-sound d r =
@@ -90,7 +121,7 @@ in-range-sound d r =
           or-by (d .units .initialised) (unitsFresh (d .units) && addressesFresh d) (idle (d .units .ru))
           (parts (unitsFit (d .units)) (initialisedOrFresh d) r .1)
           (λ k. fresh-idle (d .units) (parts (unitsFresh (d .units)) (addressesFresh d) k .0));
-      saved = λ f h. held-saved d f r h;
+      saved = range-saved d r (held-or-none (d .units .ru));
     }
 
 held-busy : (u : Ru) (f : Frame) → heldIn u ≡ f ∷ [] → idle u ≡ true → ⊥
@@ -112,63 +143,60 @@ good-sound c w f s h g = good-of c w f g (held-fate c w f (sound-initialised (w 
 
 pub bad-sound : (c : Call) (w : World) (f : Frame) → Sound (w .device) → heldIn (unitOf w) ≡ f ∷ [] → isGood f ≡ false → BadFate f c w
 bad-sound c w f s h g =
-    bad-of c w f g (or-right (isGood f) (f .savebad) (s .saved f h) g) (held-fate c w f (sound-initialised (w .device) f s h) h)
+    bad-of c w f g (or-right (isGood f) (f .savebad) (subst AllSaved h (s .saved) .0) g) (held-fate c w f (sound-initialised (w .device) f s h) h)
 
--- ---- a frame is held or none is
+-- ---- what a call does with the held frames, in short
 
-pub held-or-none : (u : Ru) → (heldIn u ≡ []) ⊎ ((f : Frame) × (heldIn u ≡ f ∷ []))
-held-or-none ru.Idle = inl refl
-held-or-none ru.NoResources = inl refl
-held-or-none (ru.Suspended fd) = inl refl
-held-or-none (ru.Ready fd) = inl refl
-held-or-none (ru.Held fd f p) = inr (f, refl)
-held-or-none (ru.Filling s w) = inr (s .frame, refl)
-held-or-none (ru.Closing s free full) = inr (s .frame, refl)
-held-or-none (ru.Lacking s) = inr (s .frame, refl)
+-- it holds what it held, and no held frame's fate is given
+keeps : (w : World) (r : Ran) → heldIn (r .outcome .device .units .ru) ≡ heldIn (unitOf w) → heldFates (r .outcome .fates) ≡ [] → FatesOfHeld w r
+keeps w r e x =
+    record { gone = []; stay = heldIn (unitOf w); held = refl; left = e; each = ap (λ (fs : List Fate). length fs) x }
 
-none-holds : (u : Ru) → heldIn u ≡ [] → isHolding u ≡ false
-none-holds ru.Idle h = refl
-none-holds ru.NoResources h = refl
-none-holds (ru.Suspended fd) h = refl
-none-holds (ru.Ready fd) h = refl
-none-holds (ru.Held fd f p) h = absurd (none≢one (sym h))
-none-holds (ru.Filling s w) h = absurd (none≢one (sym h))
-none-holds (ru.Closing s free full) h = absurd (none≢one (sym h))
-none-holds (ru.Lacking s) h = absurd (none≢one (sym h))
+-- or it holds nothing any more, and as many are given as frames were held
+ends : (w : World) (r : Ran) → heldIn (r .outcome .device .units .ru) ≡ []
+    → length (heldFates (r .outcome .fates)) ≡ length (heldIn (unitOf w)) → FatesOfHeld w r
+ends w r e x = record { gone = heldIn (unitOf w); stay = []; held = sym (append-nil (heldIn (unitOf w))); left = e; each = x }
 
--- ---- what a call does with the frame, in short
+one-ends : (w : World) (r : Ran) (f : Frame) (x : Fate) → heldIn (unitOf w) ≡ f ∷ [] → heldIn (r .outcome .device .units .ru) ≡ []
+    → heldFates (r .outcome .fates) ≡ x ∷ [] → FatesOfHeld w r
+one-ends w r f x h e k = ends w r e (ap (λ (fs : List Fate). length fs) k ∙ sym (ap (λ (fs : List Frame). length fs) h))
 
--- the unit holds what it held, and no held frame's fate is given; or it holds nothing any more, and one is
-pub data Went (w : World) (r : Ran) : Type 0 where
-  keeps : heldIn (r .outcome .device .units .ru) ≡ heldIn (unitOf w) → ofHeld (r .outcome .fate) ≡ false → Went w r
-  ends : (f : Frame) → heldIn (unitOf w) ≡ f ∷ [] → heldIn (r .outcome .device .units .ru) ≡ [] → ofHeld (r .outcome .fate) ≡ true → Went w r
-
-good-went : (c : Call) (w : World) (f : Frame) → heldIn (unitOf w) ≡ f ∷ [] → (loses c w ≡ true → Lost w c → Went w (ran c w)) → GoodFate f c w
-    → Went w (ran c w)
-good-went c w f h g (held.stays l n k) = keeps (k .unit ∙ sym h) (k .fate)
-good-went c w f h g (held.stored s free full n e q x k) = ends f h (k .gone) (ap ofHeld x)
-good-went c w f h g (held.counted s n e q b x k) = ends f h (k .gone) (ap ofHeld x)
-good-went c w f h g (held.both s n e q b x k j) = ends f h (k .gone) (ap ofHeld x)
+good-went : (c : Call) (w : World) (f : Frame) → heldIn (unitOf w) ≡ f ∷ [] → (loses c w ≡ true → Lost w c → FatesOfHeld w (ran c w)) → GoodFate f c w
+    → FatesOfHeld w (ran c w)
+good-went c w f h g (held.stays l n k) = keeps w (ran c w) (k .unit ∙ sym h) (k .fates)
+good-went c w f h g (held.stored s free full n e q x k) = one-ends w (ran c w) f fate.Stored h (k .gone) (ap heldFates x)
+good-went c w f h g (held.counted s n e q b x k) = one-ends w (ran c w) f fate.Counted h (k .gone) (ap heldFates x)
+good-went c w f h g (held.both s n e q b x k j) = one-ends w (ran c w) f fate.StoredCounted h (k .gone) (ap heldFates x)
 good-went c w f h g (held.lost l k) = g l k
 
-bad-went : (c : Call) (w : World) (f : Frame) → heldIn (unitOf w) ≡ f ∷ [] → (loses c w ≡ true → Lost w c → Went w (ran c w)) → BadFate f c w
-    → Went w (ran c w)
-bad-went c w f h g (held.stays l n k) = keeps (k .unit ∙ sym h) (k .fate)
-bad-went c w f h g (held.stored s free full n e q x k) = ends f h (k .gone) (ap ofHeld x)
-bad-went c w f h g (held.lacking s n e q x k) = ends f h (k .gone) (ap ofHeld x)
+bad-went : (c : Call) (w : World) (f : Frame) → heldIn (unitOf w) ≡ f ∷ [] → (loses c w ≡ true → Lost w c → FatesOfHeld w (ran c w)) → BadFate f c w
+    → FatesOfHeld w (ran c w)
+bad-went c w f h g (held.stays l n k) = keeps w (ran c w) (k .unit ∙ sym h) (k .fates)
+bad-went c w f h g (held.stored s free full n e q x k) = one-ends w (ran c w) f fate.Stored h (k .gone) (ap heldFates x)
+bad-went c w f h g (held.lacking s n e q x k) = one-ends w (ran c w) f fate.Stored h (k .gone) (ap heldFates x)
 bad-went c w f h g (held.lost l k) = g l k
 
 held-went : (good : Bool) (c : Call) (w : World) (f : Frame) → Sound (w .device) → heldIn (unitOf w) ≡ f ∷ []
-    → (loses c w ≡ true → Lost w c → Went w (ran c w))
-    → isGood f ≡ good → Went w (ran c w)
+    → (loses c w ≡ true → Lost w c → FatesOfHeld w (ran c w))
+    → isGood f ≡ good → FatesOfHeld w (ran c w)
 held-went true c w f s h g e = good-went c w f h g (good-sound c w f s h e)
 held-went false c w f s h g e = bad-went c w f h g (bad-sound c w f s h e)
 
 -- ---- an attention
 
-lost-went : (w : World) (f : Frame) → heldIn (unitOf w) ≡ f ∷ [] → Lost w attention → Went w (attentionOf w)
-lost-went w f h (by-resetting r x d m) = ends f h (ap (λ (k : Device). heldIn (k .units .ru)) d) (ap ofHeld x)
-lost-went w f h (by-abort r a x u m) = ends f h (ap heldIn u) (ap ofHeld x)
+-- a held frame's fate for each frame
+for-each : (x : Fate) (fs : List Frame) → ofHeld x ≡ true → length (heldFates (map (λ (f : Frame). x) fs)) ≡ length fs
+for-each x [] o = refl
+for-each x (f ∷ fs) o =
+    ap (λ (b : Bool). length (chosen b x (heldFates (map (λ (f : Frame). x) fs)))) o ∙ ap suc (for-each x fs o)
+
+lost-went : (w : World) → Lost w attention → FatesOfHeld w (attentionOf w)
+lost-went w (by-resetting r x d m) =
+    ends w (attentionOf w) (ap (λ (k : Device). heldIn (k .units .ru)) d)
+    (ap (λ (fs : List Fate). length (heldFates fs)) x ∙ for-each fate.Reset (heldIn (unitOf w)) refl)
+lost-went w (by-abort r a x u m) =
+    ends w (attentionOf w) (ap heldIn u)
+    (ap (λ (fs : List Fate). length (heldFates fs)) x ∙ for-each fate.Aborted (heldIn (unitOf w)) refl)
 
 goes-none : (n : RuState) (first : Offset) (u : Ru) → heldIn u ≡ [] → heldIn (ruGoes n first u) ≡ []
 goes-none rus.Idle first u h = refl
@@ -188,33 +216,34 @@ to-obeyed : (w : World) → w .device .units .initialised ≡ true → resets (c
     → obeyed (ruNext (ruc (commandOf w)) (ruState (unitOf w))) w ≡ attentionOf w
 to-obeyed w i r = obey-is w ∙ ap (λ (b : Bool). attended w (attentions.attendBy b (w .device) (commandOf w) (w .memory))) (sym r) ∙ to-attend w i
 
-initialise-none : (w : World) → heldIn (unitOf w) ≡ [] → Went w (attended w (attentions.initialise (w .device) (w .memory)))
+initialise-none : (w : World) → heldIn (unitOf w) ≡ [] → FatesOfHeld w (attended w (attentions.initialise (w .device) (w .memory)))
 unfolding attended attentions.initialise
-initialise-none w h = keeps (sym h) refl
+initialise-none w h = keeps w (attended w (attentions.initialise (w .device) (w .memory))) (sym h) refl
 
-reset-none : (w : World) → heldIn (unitOf w) ≡ [] → Went w (attended w (attentions.resetBy (w .device)))
+reset-none : (w : World) → heldIn (unitOf w) ≡ [] → FatesOfHeld w (attended w (attentions.resetBy (w .device)))
 unfolding attended attentions.resetBy
-reset-none w h = keeps (sym h) (ap (λ (b : Bool). ofHeld (lostBy fate.Reset b false)) (none-holds (unitOf w) h))
+reset-none w h =
+    keeps w (attended w (attentions.resetBy (w .device))) (sym h) (ap (λ (fs : List Frame). heldFates (lostBy fate.Reset fs [])) h)
 
-obeyed-none : (n : RuState) (w : World) → heldIn (unitOf w) ≡ [] → Went w (obeyed n w)
+obeyed-none : (n : RuState) (w : World) → heldIn (unitOf w) ≡ [] → FatesOfHeld w (obeyed n w)
 unfolding obeyed attended attentions.unitsAfter
 obeyed-none n w h =
     let u = w .device .units in
     let first = ruFirst u (commandOf w) (apply (obeyCuc u (commandOf w) (w .memory) .writes) (w .memory)) in
-    keeps (goes-none n first (unitOf w) h ∙ sym h)
-    (ap (λ (b : Bool). ofHeld (lostBy fate.Aborted b (isHolding (ruGoes n first (unitOf w))))) (none-holds (unitOf w) h))
+    let k = goes-none n first (unitOf w) h in
+    keeps w (obeyed n w) (k ∙ sym h) (ap₂ (λ (a b : List Frame). heldFates (lostBy fate.Aborted a b)) h k)
 
 attention-none : (i r : Bool) (w : World) → heldIn (unitOf w) ≡ [] → w .device .units .initialised ≡ i → resets (commandOf w) ≡ r
-    → Went w (attentionOf w)
-attention-none false r w h i k = subst (Went w) (to-initialise w i) (initialise-none w h)
-attention-none true true w h i k = subst (Went w) (to-reset w i k) (reset-none w h)
-attention-none true false w h i k = subst (Went w) (to-obeyed w i k) (obeyed-none (ruNext (ruc (commandOf w)) (ruState (unitOf w))) w h)
+    → FatesOfHeld w (attentionOf w)
+attention-none false r w h i k = subst (FatesOfHeld w) (to-initialise w i) (initialise-none w h)
+attention-none true true w h i k = subst (FatesOfHeld w) (to-reset w i k) (reset-none w h)
+attention-none true false w h i k = subst (FatesOfHeld w) (to-obeyed w i k) (obeyed-none (ruNext (ruc (commandOf w)) (ruState (unitOf w))) w h)
 
-attention-by : (w : World) → Sound (w .device) → (heldIn (unitOf w) ≡ []) ⊎ ((f : Frame) × (heldIn (unitOf w) ≡ f ∷ [])) → Went w (attentionOf w)
+attention-by : (w : World) → Sound (w .device) → (heldIn (unitOf w) ≡ []) ⊎ ((f : Frame) × (heldIn (unitOf w) ≡ f ∷ [])) → FatesOfHeld w (attentionOf w)
 attention-by w s (inl h) = attention-none (w .device .units .initialised) (resets (commandOf w)) w h refl refl
-attention-by w s (inr k) = held-went (isGood (k .0)) attention w (k .0) s (k .1) (λ l x. lost-went w (k .0) (k .1) x) refl
+attention-by w s (inr k) = held-went (isGood (k .0)) attention w (k .0) s (k .1) (λ l x. lost-went w x) refl
 
-pub attention-went : (w : World) → Sound (w .device) → Went w (attentionOf w)
+pub attention-went : (w : World) → Sound (w .device) → FatesOfHeld w (attentionOf w)
 attention-went w s = attention-by w s (held-or-none (unitOf w))
 
 -- ---- a turn
@@ -222,27 +251,28 @@ attention-went w s = attention-by w s (held-or-none (unitOf w))
 record Unserved (w : World) (r : Ran) : Type 0 where
   initialised : r .outcome .device .units .initialised ≡ w .device .units .initialised
   unit : r .outcome .device .units .ru ≡ unitOf w
-  fate : ofHeld (r .outcome .fate) ≡ false
+  fates : heldFates (r .outcome .fates) ≡ []
 
 command-unserved : (w : World) (report : ℕ) → Unserved w (commandTurn w report)
 unfolding commandTurn concluded
-command-unserved w report = record { initialised = refl; unit = refl; fate = refl }
+command-unserved w report = record { initialised = refl; unit = refl; fates = refl }
 
 turn-unserved : (c : Bool) (w : World) (report : ℕ) → heldIn (unitOf w) ≡ [] → isActive (cuState (w .device .units .cu)) ≡ c
     → Unserved w (turnOf w report)
 turn-unserved false w report h a =
-    subst (Unserved w) (served-as false false (w .device .units .rulast) w report a (none-holds (unitOf w) h) refl)
-    (record { initialised = refl; unit = refl; fate = refl })
+    subst (Unserved w) (served-as false false (w .device .units .rulast) w report a (none-held (unitOf w) h) refl)
+    (record { initialised = refl; unit = refl; fates = refl })
 turn-unserved true w report h a =
-    subst (Unserved w) (served-as true false (w .device .units .rulast) w report a (none-holds (unitOf w) h) refl) (command-unserved w report)
+    subst (Unserved w) (served-as true false (w .device .units .rulast) w report a (none-held (unitOf w) h) refl) (command-unserved w report)
 
 turn-by : (w : World) (report : ℕ) → Sound (w .device) → (heldIn (unitOf w) ≡ []) ⊎ ((f : Frame) × (heldIn (unitOf w) ≡ f ∷ []))
-    → Went w (turnOf w report)
+    → FatesOfHeld w (turnOf w report)
 turn-by w report s (inl h) =
-    let k = turn-unserved (isActive (cuState (w .device .units .cu))) w report h refl in keeps (ap heldIn (k .unit)) (k .fate)
+    let k = turn-unserved (isActive (cuState (w .device .units .cu))) w report h refl in
+    keeps w (turnOf w report) (ap heldIn (k .unit)) (k .fates)
 turn-by w report s (inr k) = held-went (isGood (k .0)) (turn report) w (k .0) s (k .1) (λ l x. absurd (false≢true l)) refl
 
-pub turn-went : (w : World) (report : ℕ) → Sound (w .device) → Went w (turnOf w report)
+pub turn-went : (w : World) (report : ℕ) → Sound (w .device) → FatesOfHeld w (turnOf w report)
 turn-went w report s = turn-by w report s (held-or-none (unitOf w))
 
 -- ---- an arrival
@@ -262,19 +292,19 @@ arrived-idle true (ru.Filling s w) j = refl
 arrived-idle true (ru.Closing s free full) j = refl
 arrived-idle true (ru.Lacking s) j = refl
 
--- it is what was held, or one that is good or to be saved
+-- it is what was held, or that and one that is good or to be saved
 pub data Arrives (few matched : Bool) (u : Ru) (j : Frame) : Type 0 where
   kept : isHeld (arrivals.fateBy few matched u j) ≡ false → Arrives few matched u j
-  comes : isHeld (arrivals.fateBy few matched u j) ≡ true → heldIn u ≡ [] → heldIn (arrivals.unitBy true u j) ≡ j ∷ []
+  comes : isHeld (arrivals.fateBy few matched u j) ≡ true → heldIn (arrivals.unitBy true u j) ≡ heldIn u ++ (j ∷ [])
       → (isGood j || j .savebad) ≡ true
       → Arrives few matched u j
 
 ready-arrives : (good saved : Bool) (fd : Offset) (j : Frame) → isGood j ≡ good → j .savebad ≡ saved → Arrives false true (ru.Ready fd) j
 ready-arrives true saved fd j g b =
-    comes (ap₂ (λ (x y : Bool). isHeld (arrivals.inReady x y (arrivals.counterFor j))) g b) refl refl
+    comes (ap₂ (λ (x y : Bool). isHeld (arrivals.inReady x y (arrivals.counterFor j))) g b) refl
     (ap (λ (x : Bool). x || j .savebad) g)
 ready-arrives false true fd j g b =
-    comes (ap₂ (λ (x y : Bool). isHeld (arrivals.inReady x y (arrivals.counterFor j))) g b) refl refl (ap₂ (λ (x y : Bool). x || y) g b)
+    comes (ap₂ (λ (x y : Bool). isHeld (arrivals.inReady x y (arrivals.counterFor j))) g b) refl (ap₂ (λ (x y : Bool). x || y) g b)
 ready-arrives false false fd j g b = kept (ap₂ (λ (x y : Bool). isHeld (arrivals.inReady x y (arrivals.counterFor j))) g b)
 
 resources-arrives : (good : Bool) (c : Counter) → isHeld (arrivals.inNoResources good c) ≡ false
@@ -315,12 +345,13 @@ arrival-new false true (ru.Filling s w) j = refl
 arrival-new false true (ru.Closing s free full) j = refl
 arrival-new false true (ru.Lacking s) j = refl
 
-arrival-saved : (few matched : Bool) (u : Ru) (j f : Frame) → ((g : Frame) → heldIn u ≡ g ∷ [] → (isGood g || g .savebad) ≡ true)
-    → Arrives few matched u j → heldIn (arrived few matched u j) ≡ f ∷ [] → (isGood f || f .savebad) ≡ true
+arrival-saved : (few matched : Bool) (u : Ru) (j : Frame) → AllSaved (heldIn u) → Arrives few matched u j
+    → AllSaved (heldIn (arrived few matched u j))
 unfolding arrived
-arrival-saved few matched u j f s (kept k) h = s f (ap (λ (b : Bool). heldIn (arrivals.unitBy b u j)) (sym k) ∙ h)
-arrival-saved few matched u j f s (comes k n e g) h =
-    ap (λ (x : Frame). isGood x || x .savebad) (sym (same-frame f j (sym e ∙ ap (λ (b : Bool). heldIn (arrivals.unitBy b u j)) (sym k) ∙ h))) ∙ g
+arrival-saved few matched u j s (kept k) = subst (λ (b : Bool). AllSaved (heldIn (arrivals.unitBy b u j))) (sym k) s
+arrival-saved few matched u j s (comes k e g) =
+    subst (λ (b : Bool). AllSaved (heldIn (arrivals.unitBy b u j))) (sym k)
+    (subst AllSaved (sym e) (saved-append (heldIn u) (j ∷ []) s (g, tt)))
 
 arrival-sound : (w : World) (f : List ℕ) (v : ℕ) → Sound (w .device) → Sound (chip.arrivalOf w f v .outcome .device)
 unfolding chip.arrivalOf chip.arrival arrivals.arrival arrivals.fateOf arrived
@@ -332,18 +363,16 @@ arrival-sound w f v s =
       started =
           ap (λ (b : Bool). w .device .units .initialised || b) (arrived-idle (isHeld (arrivals.fateBy few m (unitOf w) j)) (unitOf w) j)
           ∙ s .started;
-      saved = λ g h. arrival-saved few m (unitOf w) j g (s .saved) (arrives few m (unitOf w) j) h;
+      saved = arrival-saved few m (unitOf w) j (s .saved) (arrives few m (unitOf w) j);
     }
 
 -- ---- it stays so
 
-went-saved : (w : World) (r : Ran) (f : Frame) → Sound (w .device) → Went w r → heldIn (r .outcome .device .units .ru) ≡ f ∷ []
-    → (isGood f || f .savebad) ≡ true
-went-saved w r f s (keeps e x) h = s .saved f (sym e ∙ h)
-went-saved w r f s (ends g k e x) h = absurd (none≢one (sym e ∙ h))
+went-saved : (w : World) (r : Ran) → Sound (w .device) → FatesOfHeld w r → AllSaved (heldIn (r .outcome .device .units .ru))
+went-saved w r s k = subst AllSaved (sym (k .left)) (saved-behind (k .gone) (k .stay) (subst AllSaved (k .held) (s .saved)))
 
 fresh-sound : Sound fresh
-fresh-sound = record { started = refl; saved = λ f h. absurd (none≢one h) }
+fresh-sound = record { started = refl; saved = tt }
 
 -- an attention leaves the chip initialised, or fresh
 Started : Ran → Type 0
@@ -374,7 +403,7 @@ unfolding Started
 attention-sound w s =
     record {
       started = attention-started (w .device .units .initialised) (resets (commandOf w)) w refl refl;
-      saved = λ f h. went-saved w (attentionOf w) f s (attention-went w s) h;
+      saved = went-saved w (attentionOf w) s (attention-went w s);
     }
 
 -- no turn takes the initialisation back
@@ -416,7 +445,7 @@ unfolding Started
 turn-sound w report s =
     record {
       started = turn-started w report s (held-or-none (unitOf w));
-      saved = λ f h. went-saved w (turnOf w report) f s (turn-went w report s) h;
+      saved = went-saved w (turnOf w report) s (turn-went w report s);
     }
 
 -- every call keeps it

@@ -13,7 +13,7 @@ use Rattle.memory.proofs.Power.{allowed}
 use Rattle.memory.specs.declared.Offset.{Offset}
 use Rattle.scb.specs.Words.{bit, scbStatusAt}
 use Rattle.device.specs.Limits.{header, areaSize}
-use Rattle.device.specs.State.{isGood}
+use Rattle.device.specs.State.{heldIn, isGood}
 use Rattle.device.specs.declared.Frame.{Frame}
 use Rattle.device.specs.declared.Ru.{Ru}
 use Rattle.device.specs.declared.Ru.the-variants as ru
@@ -26,7 +26,7 @@ use Rattle.receive.specs.End.{frameStatus, bareMark}
 use Rattle.chip.specs.Call.{Call, ran}
 use Rattle.chip.specs.World.{World, Ran}
 use Rattle.frames.specs.Arrival.{RightLengths, inScb, unitOf}
-use Rattle.frames.specs.Held.{heldIn, inFrame, headerTo, markTo, bareTo, described, onwardBy, onward, statusAfter, Stored, Counted, GoodFate, BadFate}
+use Rattle.frames.specs.Held.{inFrame, headerTo, markTo, bareTo, described, onwardBy, onward, statusAfter, Stored, Counted, GoodFate, BadFate}
 use Rattle.frames.specs.Held as held
 use Rattle.frames.specs.Stands.{Separate, StoredStands, CountedStands, CountersStand, Piece, piece, Away, NoOverlap, nextFirst, barePiece, onwardPiece, lackingPieces, pieces, GoodExit, badPieces, SavedStands, BadExit}
 use Rattle.frames.specs.Stands as exit

@@ -15,6 +15,7 @@ use Rattle.device.specs.State.{fresh}
 use Rattle.device.specs.declared.Cu.the-variants as cu
 use Rattle.device.specs.declared.Device.{Device}
 use Rattle.device.specs.declared.Fate.the-variants as fate
+use Rattle.device.specs.declared.Frame.{Frame}
 use Rattle.device.specs.declared.Ru.{Ru}
 use Rattle.device.specs.declared.Ru.the-variants as ru
 use Rattle.filter.specs.Match.{agree, isListed, matches}
@@ -33,7 +34,8 @@ use Rattle.chip.specs.Call.{Call, reset, attention, arrive, turn}
 use Rattle.chip.specs.Turn.{concluded, commandTurn, receiveTurn, turnOf}
 use Rattle.chip.specs.World.{World, worldOf, resetOf}
 use Rattle.traces.specs.Event.{call, host}
-use Rattle.frames.specs.Fates.{Deed, event, alter, opening, Noted, Way, by-call, by-altering, Ended, still, after, beginnings, endings}
+use Rattle.frames.specs.Fates.{Deed, event, alter, opening, Noted, noted, numbersOf, Way, by-call, by-altering, Ended, heldAs, still, endedAs, namesOf}
+use Rattle.frames.specs.Fates.{after, beginnings, endings}
 
 -- SCB at 64, a ring of one frame descriptor at 0; no minimum length
 abbrev deviceWith : Ru → Bool → Device
@@ -95,7 +97,7 @@ trace =
     ∷ alter (ready false) (in-range false) ∷ does (arrive bare 0)
     ∷ []
 
--- which were held, how each ended, and which is still held; altering takes a number too
+-- which were held, how each ended, and which is still held
 pub record Story : Type 0 where
   pub held : List ℕ
   pub ends : List (ℕ × Way)
@@ -108,23 +110,44 @@ pub story : Story
 unfolding start byteAt putByte bytesAt putBytes value digits fieldAt place beyond cuNext ruNext bitsAt joined acknowledged anyOf eventBits statusWord counts actionOf verdictOf agree isListed matches lengthOf judged fateOf arrival receive-begin.begunBy receive-begin.begin receive-buffer.descriptorAt receive-buffer.buffer frameStatus settles close lack receive-service.service statusTo resetOf attentions.iscpOf attentions.initialise attentions.resetBy cuFirst obeyCuc ruFirst obeyRuc attentions.unitsAfter attentions.obey attentions.attend attentions.attention attentionOf arrivals.arrival arrivals.arrivalOf concluded commandTurn receiveTurn turnOf
 story =
     record {
-      held = map (λ (n : Noted). n .number) (beginnings trace (opening start));
+      held = numbersOf (beginnings trace (opening start));
       ends = map (λ (e : Ended). (e .noted .number, e .way)) (endings trace (opening start));
-      still = map (λ (n : Noted). n .number) (still (after trace (opening start)));
+      still = numbersOf (still (after trace (opening start)));
     }
 
 pub its-story : story
     ≡ record {
-      held = 1 ∷ 2 ∷ 4 ∷ 6 ∷ 8 ∷ 10 ∷ 12 ∷ [];
+      held = 1 ∷ 2 ∷ 3 ∷ 4 ∷ 5 ∷ 6 ∷ 7 ∷ [];
       ends =
           (1, by-call fate.Stored)
           ∷ (2, by-call fate.Counted)
-          ∷ (4, by-call fate.StoredCounted)
-          ∷ (6, by-call fate.Aborted)
-          ∷ (8, by-altering)
-          ∷ (10, by-call fate.Reset)
+          ∷ (3, by-call fate.StoredCounted)
+          ∷ (4, by-call fate.Aborted)
+          ∷ (5, by-altering)
+          ∷ (6, by-call fate.Reset)
           ∷ [];
-      still = 12 ∷ [];
+      still = 7 ∷ [];
     }
 unfolding story
 its-story = refl
+
+-- ---- the notes of more than one held frame, and of a fate that no held frame is there for
+
+-- numbers go with frames in their order; a fate ends the oldest
+pub oldest-first : (f g : Frame)
+    → namesOf (endedAs (fate.Stored ∷ []) (heldAs (f ∷ g ∷ []) (3 ∷ 5 ∷ []))) ≡ noted 3 (f ∷ []) ∷ []
+oldest-first f g = refl
+
+-- two fates end both
+pub both-end : (f g : Frame)
+    → namesOf (endedAs (fate.Aborted ∷ fate.Aborted ∷ []) (heldAs (f ∷ g ∷ []) (3 ∷ 5 ∷ []))) ≡ noted 3 (f ∷ []) ∷ noted 5 (g ∷ []) ∷ []
+both-end f g = refl
+
+-- a fate too many is noted too, under a number that no frame has: `no-other` then fails
+pub one-too-many : (f : Frame)
+    → namesOf (endedAs (fate.Stored ∷ fate.Counted ∷ []) (heldAs (f ∷ []) (3 ∷ []))) ≡ noted 3 (f ∷ []) ∷ noted 0 [] ∷ []
+one-too-many f = refl
+
+-- and so is a frame that is held without a number
+pub none-left-out : (f g : Frame) → heldAs (f ∷ g ∷ []) (3 ∷ []) ≡ noted 3 (f ∷ []) ∷ noted 0 (g ∷ []) ∷ []
+none-left-out f g = refl

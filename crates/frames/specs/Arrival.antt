@@ -1,7 +1,7 @@
 -- What an arrival that is not refused can come to, and for which frames: 01, "Arrival and storing". Assumes nothing.
 use mathlib.Core.Path.{_≡_}
 use mathlib.Core.Bool.{Bool, true, false}
-use mathlib.Core.List.{List}
+use mathlib.Core.List.{List, [], _∷_}
 use Prim.Native.Nat.{ℕ, _+_, _%_, _≤_, _<_}
 use lib.ListN.{length, take, drop}
 use Rattle.memory.specs.Address.{place}
@@ -87,7 +87,7 @@ Counts counter.Overruns w after = OneMore (inScb w 14) (w .memory) after
 
 -- the frame is not held: the record and both areas are as they were, there is no edge, and memory changes by the counter said
 pub record NotHeld (w : World) (x : Fate) (c : Counter) (r : Ran) : Type 0 where
-  pub fate : r .outcome .fate ≡ x
+  pub fates : r .outcome .fates ≡ x ∷ []
   pub device : r .outcome .device ≡ w .device
   pub answer : r .outcome .answer ≡ answered 0 false
   pub holding : r .holding ≡ w .holding
@@ -97,7 +97,7 @@ pub record NotHeld (w : World) (x : Fate) (c : Counter) (r : Ran) : Type 0 where
 -- it is held, before the descriptor that was next: its bytes enter the holding area, bytes that it doesn't reach stay; of the record only
 -- the receive unit changes, which keeps how the frame was judged; there is no edge, and memory changes by the counter said
 pub record IsHeld (w : World) (f : List ℕ) (fd : Offset) (judged : Frame) (c : Counter) (r : Ran) : Type 0 where
-  pub fate : r .outcome .fate ≡ fate.Held c
+  pub fates : r .outcome .fates ≡ fate.Held c ∷ []
   pub device : r .outcome .device ≡ withUnits (w .device) (withRu (w .device .units) (ru.Held fd judged false))
   pub answer : r .outcome .answer ≡ answered 0 false
   pub entered : take (length f) (r .holding) ≡ f

@@ -2,10 +2,11 @@
 use mathlib.Core.Path.{_≡_}
 use mathlib.Core.Bool.{Bool, true, false, cond}
 use mathlib.Core.List.{List, [], _∷_, _++_, map}
-use Prim.Native.Nat.{ℕ, _+_}
+use Prim.Native.Nat.{ℕ, suc, _+_}
 use lib.Dec.{eqb}
+use lib.ListN.{length, drop}
 use Rattle.device.specs.Answers.{isHeld}
-use Rattle.device.specs.State.{isGood}
+use Rattle.device.specs.State.{heldIn, isGood}
 use Rattle.device.specs.declared.Device.{Device}
 use Rattle.device.specs.declared.Fate.{Fate}
 use Rattle.device.specs.declared.Fate.the-variants as fate
@@ -16,7 +17,7 @@ use Rattle.chip.specs.Call.{Call, reset, attention, arrive, turn, ran}
 use Rattle.chip.specs.World.{World, worldOf}
 use Rattle.traces.specs.Event.{Event, call, host, step}
 use Rattle.frames.specs.Arrival.{unitOf, settingsOf}
-use Rattle.frames.specs.Held.{heldIn, ofHeld, GoodFate, BadFate}
+use Rattle.frames.specs.Held.{ofHeld, heldFates, GoodFate, BadFate}
 
 -- ---- what happens
 
@@ -30,15 +31,11 @@ abbrev pub worldAfter : Deed → World → World
 worldAfter (event e) w = step e w
 worldAfter (alter d r) w = worldOf d (w .memory) (w .holding) (w .outgoing)
 
--- the world, the number that the next arrival gets, and the number of the last one that was held
+-- the world, the number that the next arrival gets, and the numbers of the frames that are held, the oldest first
 pub record Scene : Type 0 where
   pub world : World
   pub next : ℕ
-  pub last : ℕ
-
--- at first: arrivals are numbered from 1 on, and a frame that is held already has the number 0
-abbrev pub opening : World → Scene
-opening w = record { world = w; next = 1; last = 0 }
+  pub held : List ℕ
 
 -- ---- what is noted
 
@@ -50,6 +47,19 @@ pub record Noted : Type 0 where
 abbrev pub noted : ℕ → List Frame → Noted
 noted n f = record { number = n; frame = f }
 
+abbrev pub numbersOf : List Noted → List ℕ
+numbersOf ns = map (λ (n : Noted). n .number) ns
+
+-- frames under the numbers from n on
+abbrev pub numbered : ℕ → List Frame → List Noted
+numbered n [] = []
+numbered n (f ∷ fs) = noted n (f ∷ []) ∷ numbered (suc n) fs
+
+-- at first: frames are numbered from 1 on, those that are held already before all that arrive
+abbrev pub opening : World → Scene
+opening w =
+    let fs = heldIn (unitOf w) in record { world = w; next = suc (length fs); held = numbersOf (numbered 1 fs) }
+
 -- how a holding ends: by the fate that a call's outcome gives, or by the host, who alters the record
 pub data Way : Type 0 where
   by-call : Fate → Way
@@ -59,68 +69,73 @@ pub record Ended : Type 0 where
   pub noted : Noted
   pub way : Way
 
--- a frame that a unit holds under a number; none, if it holds none
-abbrev pub heldAs : ℕ → List Frame → List Noted
-heldAs n [] = []
-heldAs n (f ∷ fs) = noted n (f ∷ []) ∷ []
+-- the frames that a unit holds under their numbers, both in their order. Where numbers lack, 0: no frame is left out
+abbrev pub heldAs : List Frame → List ℕ → List Noted
+heldAs [] ns = []
+heldAs (f ∷ fs) [] = noted 0 (f ∷ []) ∷ heldAs fs []
+heldAs (f ∷ fs) (n ∷ ns) = noted n (f ∷ []) ∷ heldAs fs ns
 
 abbrev pub still : Scene → List Noted
-still s = heldAs (s .last) (heldIn (unitOf (s .world)))
+still s = heldAs (heldIn (unitOf (s .world))) (s .held)
 
--- which frame is held from now on: an arriving one whose fate says so; what the host puts into the record counts as one that arrives then
+-- which frames are held from now on: an arriving one whose fate says so; those that the host puts into the record count as ones that arrive then
 abbrev pub begunIf : (held : Bool) → ℕ → Frame → List Noted
 begunIf true n f = noted n (f ∷ []) ∷ []
 begunIf false n f = []
+
+abbrev pub begunBy : List Fate → ℕ → Frame → List Noted
+begunBy [] n f = []
+begunBy (x ∷ xs) n f = begunIf (isHeld x) n f ++ begunBy xs n f
 
 abbrev pub begun : Deed → Scene → List Noted
 begun (event (call reset)) s = []
 begun (event (call attention)) s = []
 begun (event (call (arrive f v))) s =
-    begunIf (isHeld (ran (arrive f v) (s .world) .outcome .fate)) (s .next) (judged (settingsOf (s .world)) f v)
+    begunBy (ran (arrive f v) (s .world) .outcome .fates) (s .next) (judged (settingsOf (s .world)) f v)
 begun (event (call (turn report))) s = []
 begun (event (host m h out)) s = []
-begun (alter d r) s = heldAs (s .next) (heldIn (d .units .ru))
+begun (alter d r) s = numbered (s .next) (heldIn (d .units .ru))
 
--- what a call notes as its frame's end: a fate of a held frame, whatever the unit holds. Reset ignores the record's content, so its outcome has no
--- fate: what it held is lost
-abbrev pub endedIf : (settled : Bool) → ℕ → List Frame → Fate → List Ended
-endedIf true n f x = record { noted = noted n f; way = by-call x } ∷ []
-endedIf false n f x = []
+-- what a call notes as ends: the fates of held frames that it gives go to those that are held, the oldest first. None goes unnoted: one that is given
+-- while no frame is left is noted under 0, of no frame
+abbrev pub endedAs : List Fate → List Noted → List Ended
+endedAs [] ns = []
+endedAs (x ∷ xs) [] = record { noted = noted 0 []; way = by-call x } ∷ endedAs xs []
+endedAs (x ∷ xs) (n ∷ ns) = record { noted = n; way = by-call x } ∷ endedAs xs ns
 
+abbrev pub fatesIn : Call → Scene → List Ended
+fatesIn c s = endedAs (heldFates (ran c (s .world) .outcome .fates)) (still s)
+
+-- all end in one way. Reset ignores the record's content, so its outcome has no fates: what it held is lost
 abbrev pub endedBy : Way → List Noted → List Ended
 endedBy way [] = []
-endedBy way (n ∷ ns) = record { noted = n; way = way } ∷ []
-
-abbrev pub fateIn : Call → Scene → List Ended
-fateIn c s =
-    let x = ran c (s .world) .outcome .fate in endedIf (ofHeld x) (s .last) (heldIn (unitOf (s .world))) x
+endedBy way (n ∷ ns) = record { noted = n; way = way } ∷ endedBy way ns
 
 abbrev pub ended : Deed → Scene → List Ended
 ended (event (call reset)) s = endedBy (by-call fate.Reset) (still s)
-ended (event (call attention)) s = fateIn attention s
-ended (event (call (arrive f v))) s = fateIn (arrive f v) s
-ended (event (call (turn report))) s = fateIn (turn report) s
+ended (event (call attention)) s = fatesIn attention s
+ended (event (call (arrive f v))) s = fatesIn (arrive f v) s
+ended (event (call (turn report))) s = fatesIn (turn report) s
 ended (event (host m h out)) s = []
 ended (alter d r) s = endedBy by-altering (still s)
 
 -- ---- over time
 
--- arrivals and alterings take a number each
+-- an arrival takes a number, and so does each frame that the host puts into the record
 abbrev pub takes : Deed → ℕ
 takes (event (call reset)) = 0
 takes (event (call attention)) = 0
 takes (event (call (arrive f v))) = 1
 takes (event (call (turn report))) = 0
 takes (event (host m h out)) = 0
-takes (alter d r) = 1
+takes (alter d r) = length (heldIn (d .units .ru))
 
-abbrev pub lastBy : List Noted → ℕ → ℕ
-lastBy [] last = last
-lastBy (n ∷ ns) last = n .number
+-- the numbers that are held after it: those that were, without as many of the oldest as ended, then those that begin
+abbrev pub heldAfter : Deed → Scene → List ℕ
+heldAfter d s = numbersOf (drop (length (ended d s)) (still s) ++ begun d s)
 
 abbrev pub advance : Deed → Scene → Scene
-advance d s =
-    record { world = worldAfter d (s .world); next = s .next + takes d; last = lastBy (begun d s) (s .last) }
+advance d s = record { world = worldAfter d (s .world); next = s .next + takes d; held = heldAfter d s }
 
 abbrev pub after : List Deed → Scene → Scene
 after [] s = s

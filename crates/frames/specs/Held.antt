@@ -1,17 +1,17 @@
 -- What a call can make of a held frame: 01, "Arrival and storing" and "The SCB". A fate is read from the outcome that also gives the call's writes:
--- each statement ties the outcome's fate to memory and record as the call leaves them. Assumes nothing.
+-- each statement ties the outcome's fates to memory and record as the call leaves them. Assumes nothing.
 use mathlib.Core.Path.{_≡_}
 use mathlib.Core.Bool.{Bool, true, false, not, _&&_, _||_}
-use mathlib.Core.List.{List, [], _∷_, _++_}
+use mathlib.Core.List.{List, [], _∷_, _++_, map}
 use Prim.Native.Nat.{ℕ}
 use lib.Dec.{eqb}
-use lib.ListN.{take}
+use lib.ListN.{length, take}
 use Rattle.memory.specs.Address.{place, offsetAt}
 use Rattle.memory.specs.Memory.{Write, bytesTo, wordTo, wordAt, countTo, apply}
 use Rattle.memory.specs.declared.Offset.{Offset}
 use Rattle.scb.specs.Words.{bit, scbStatusAt, scbCommandAt, statusWord, resets, ruc}
 use Rattle.device.specs.Limits.{header}
-use Rattle.device.specs.State.{cuState, ruState, isActive, isHolding, fresh}
+use Rattle.device.specs.State.{cuState, ruState, isActive, isHolding, heldIn, fresh}
 use Rattle.device.specs.declared.Fate.{Fate}
 use Rattle.device.specs.declared.Fate.the-variants as fate
 use Rattle.device.specs.declared.Frame.{Frame}
@@ -27,20 +27,8 @@ use Rattle.chip.specs.Call.{Call, reset, attention, arrive, turn, ran}
 use Rattle.chip.specs.World.{World, Ran}
 use Rattle.frames.specs.Arrival.{inScb, unitOf}
 
--- the frame that a unit holds, none or one
-abbrev pub heldIn : Ru → List Frame
-heldIn ru.Idle = []
-heldIn ru.NoResources = []
-heldIn (ru.Suspended fd) = []
-heldIn (ru.Ready fd) = []
-heldIn (ru.Held fd f p) = f ∷ []
-heldIn (ru.Filling s w) = s .frame ∷ []
-heldIn (ru.Closing s free full) = s .frame ∷ []
-heldIn (ru.Lacking s) = s .frame ∷ []
-
 -- a fate of a held frame, not of an arriving one
 abbrev pub ofHeld : Fate → Bool
-ofHeld fate.Nothing = false
 ofHeld fate.TooFew = false
 ofHeld fate.NoMatch = false
 ofHeld fate.UnitIdle = false
@@ -54,6 +42,15 @@ ofHeld fate.StoredCounted = true
 ofHeld fate.Counted = true
 ofHeld fate.Aborted = true
 ofHeld fate.Reset = true
+
+-- those among the fates that a call gives
+abbrev pub chosen : (held : Bool) → Fate → List Fate → List Fate
+chosen true x xs = x ∷ xs
+chosen false x xs = xs
+
+abbrev pub heldFates : List Fate → List Fate
+heldFates [] = []
+heldFates (x ∷ xs) = chosen (ofHeld x) x (heldFates xs)
 
 -- ---- which calls end the holding
 
@@ -97,14 +94,17 @@ ends (turn report) w = servedRu (isActive (cuState (w .device .units .cu))) (isH
 pub record StaysHeld (f : Frame) (w : World) (r : Ran) : Type 0 where
   pub unit : heldIn (r .outcome .device .units .ru) ≡ f ∷ []
   pub holding : r .holding ≡ w .holding
-  pub fate : ofHeld (r .outcome .fate) ≡ false
+  pub fates : heldFates (r .outcome .fates) ≡ []
 
--- ---- it is held no more: so much is there wherever a held frame's fate is given
+-- ---- they are held no more: so much is there wherever held frames' fates are given: of the frames that were held the oldest are gone, as many as
+-- have a fate, and the others stay
 
-pub record FateOfHeld (w : World) (r : Ran) : Type 0 where
-  pub frame : Frame
-  pub held : heldIn (unitOf w) ≡ frame ∷ []
-  pub gone : heldIn (r .outcome .device .units .ru) ≡ []
+pub record FatesOfHeld (w : World) (r : Ran) : Type 0 where
+  pub gone : List Frame
+  pub stay : List Frame
+  pub held : heldIn (unitOf w) ≡ gone ++ stay
+  pub left : heldIn (r .outcome .device .units .ru) ≡ stay
+  pub each : length (heldFates (r .outcome .fates)) ≡ length gone
 
 -- ---- the writes of an end turn
 
@@ -161,15 +161,19 @@ pub record Counted (others : List Write) (w : World) (r : Ran) : Type 0 where
 
 -- ---- lost: only by the reset call, a resetting attention, or an RU abort
 
+-- this fate for each held frame
+abbrev pub forEach : Fate → World → List Fate
+forEach x w = map (λ (f : Frame). x) (heldIn (unitOf w))
+
 pub data Lost (w : World) : Call → Type 0 where
-  -- the record alone, whose content is ignored: so the outcome has no fate, and memory stays
+  -- the record alone, whose content is ignored: so the outcome has no fates, and memory stays
   by-reset : ran reset w .outcome .device ≡ fresh → ran reset w .memory ≡ w .memory → Lost w reset
   -- write command 0 and become as after reset, nothing else
-  by-resetting : resets (commandOf w) ≡ true → ran attention w .outcome .fate ≡ fate.Reset → ran attention w .outcome .device ≡ fresh
+  by-resetting : resets (commandOf w) ≡ true → ran attention w .outcome .fates ≡ forEach fate.Reset w → ran attention w .outcome .device ≡ fresh
       → ran attention w .memory ≡ apply (wordTo (inScb w scbCommandAt) 0x0000 ∷ []) (w .memory)
       → Lost w attention
   -- dropped uncounted: what CUC writes, 0000h to its frame descriptor if begun, then status and command
-  by-abort : resets (commandOf w) ≡ false → ruc (commandOf w) ≡ 4 → ran attention w .outcome .fate ≡ fate.Aborted
+  by-abort : resets (commandOf w) ≡ false → ruc (commandOf w) ≡ 4 → ran attention w .outcome .fates ≡ forEach fate.Aborted w
       → ran attention w .outcome .device .units .ru ≡ ru.Idle
       → ran attention w .memory
       ≡ apply (obeyCuc (w .device .units) (commandOf w) (w .memory) .writes ++ abortedRu (w .device .units .base) (unitOf w)
@@ -181,15 +185,15 @@ pub data Lost (w : World) : Call → Type 0 where
 pub data GoodFate (f : Frame) (c : Call) (w : World) : Type 0 where
   stays : loses c w ≡ false → ends c w ≡ false → StaysHeld f w (ran c w) → GoodFate f c w
   stored : (s : Storing) (free : Offset) (full : Bool) → ends c w ≡ true → unitOf w ≡ ru.Closing s free full → s .frame ≡ f
-      → ran c w .outcome .fate ≡ fate.Stored
+      → ran c w .outcome .fates ≡ fate.Stored ∷ []
       → Stored false s (bareTo w s ++ (onward w s free full ++ statusAfter w (ran c w))) w (ran c w)
       → GoodFate f c w
   counted : (s : Storing) → ends c w ≡ true → unitOf w ≡ ru.Lacking s → s .frame ≡ f → f .savebad ≡ false
-      → ran c w .outcome .fate ≡ fate.Counted
+      → ran c w .outcome .fates ≡ fate.Counted ∷ []
       → Counted (markTo w s 0x0000 ∷ []) w (ran c w)
       → GoodFate f c w
   both : (s : Storing) → ends c w ≡ true → unitOf w ≡ ru.Lacking s → s .frame ≡ f → f .savebad ≡ true
-      → ran c w .outcome .fate ≡ fate.StoredCounted
+      → ran c w .outcome .fates ≡ fate.StoredCounted ∷ []
       → Stored true s (bareTo w s ++ (countTo (apply (described true w s) (w .memory)) (inScb w 12) ∷ statusAfter w (ran c w))) w (ran c w)
       → Counted (described true w s) w (ran c w)
       → GoodFate f c w
@@ -200,11 +204,11 @@ pub data GoodFate (f : Frame) (c : Call) (w : World) : Type 0 where
 pub data BadFate (f : Frame) (c : Call) (w : World) : Type 0 where
   stays : loses c w ≡ false → ends c w ≡ false → StaysHeld f w (ran c w) → BadFate f c w
   stored : (s : Storing) (free : Offset) (full : Bool) → ends c w ≡ true → unitOf w ≡ ru.Closing s free full → s .frame ≡ f
-      → ran c w .outcome .fate ≡ fate.Stored
+      → ran c w .outcome .fates ≡ fate.Stored ∷ []
       → Stored false s (bareTo w s ++ (onward w s free full ++ statusAfter w (ran c w))) w (ran c w)
       → BadFate f c w
   lacking : (s : Storing) → ends c w ≡ true → unitOf w ≡ ru.Lacking s → s .frame ≡ f
-      → ran c w .outcome .fate ≡ fate.Stored
+      → ran c w .outcome .fates ≡ fate.Stored ∷ []
       → Stored true s (bareTo w s ++ statusAfter w (ran c w)) w (ran c w)
       → BadFate f c w
   lost : loses c w ≡ true → Lost w c → BadFate f c w

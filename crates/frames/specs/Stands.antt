@@ -97,16 +97,16 @@ pieces (ru.Lacking s) w = lackingPieces (s .frame .savebad) w s
 pub data GoodExit (f : Frame) (c : Call) (w : World) : Type 0 where
   stays : loses c w ≡ false → ends c w ≡ false → StaysHeld f w (ran c w) → GoodExit f c w
   stored : (s : Storing) (free : Offset) (full : Bool) → ends c w ≡ true → unitOf w ≡ ru.Closing s free full → s .frame ≡ f
-      → ran c w .outcome .fate ≡ fate.Stored
+      → ran c w .outcome .fates ≡ fate.Stored ∷ []
       → StoredStands false s w (ran c w)
       → ran c w .outcome .device .units .events .fr ≡ true
       → GoodExit f c w
   counted : (s : Storing) → ends c w ≡ true → unitOf w ≡ ru.Lacking s → s .frame ≡ f → f .savebad ≡ false
-      → ran c w .outcome .fate ≡ fate.Counted
+      → ran c w .outcome .fates ≡ fate.Counted ∷ []
       → CountedStands w (ran c w)
       → GoodExit f c w
   both : (s : Storing) → ends c w ≡ true → unitOf w ≡ ru.Lacking s → s .frame ≡ f → f .savebad ≡ true
-      → ran c w .outcome .fate ≡ fate.StoredCounted
+      → ran c w .outcome .fates ≡ fate.StoredCounted ∷ []
       → StoredStands true s w (ran c w)
       → ran c w .outcome .device .units .events .fr ≡ true
       → CountedStands w (ran c w)
@@ -138,11 +138,11 @@ pub record SavedStands (lacking : Bool) (s : Storing) (w : World) (r : Ran) : Ty
 pub data BadExit (f : Frame) (c : Call) (w : World) : Type 0 where
   stays : loses c w ≡ false → ends c w ≡ false → StaysHeld f w (ran c w) → BadExit f c w
   stored : (s : Storing) (free : Offset) (full : Bool) → ends c w ≡ true → unitOf w ≡ ru.Closing s free full → s .frame ≡ f
-      → ran c w .outcome .fate ≡ fate.Stored
+      → ran c w .outcome .fates ≡ fate.Stored ∷ []
       → SavedStands false s w (ran c w)
       → BadExit f c w
   lacking : (s : Storing) → ends c w ≡ true → unitOf w ≡ ru.Lacking s → s .frame ≡ f
-      → ran c w .outcome .fate ≡ fate.Stored
+      → ran c w .outcome .fates ≡ fate.Stored ∷ []
       → SavedStands true s w (ran c w)
       → BadExit f c w
   lost : loses c w ≡ true → Lost w c → BadExit f c w

@@ -1,14 +1,14 @@
 -- The bound is met, and attained: a run from reset on in which a held frame is still held after 131 turns and settled by the 132nd, so that no
 -- smaller number would do. Assumes nothing.
-use mathlib.Core.Path.{_≡_, refl, subst}
-use mathlib.Core.Bool.{Bool, true, false, not, _&&_, false≢true}
+use mathlib.Core.Path.{_≡_, refl, ap, _∙_, subst}
+use mathlib.Core.Bool.{Bool, true, false, not, _&&_, _||_, false≢true}
 use mathlib.Core.List.{List, [], _∷_, _++_}
-use mathlib.Core.Option.{none, some}
 use Prim.Native.Nat.{ℕ, zero, suc, _*_, _^_, _%_, _≤_, _<_}
 use native.Mathlib.Omega.{arith}
 use lib.Dec.{T, lit≤}
 use lib.ListN.{replicate}
 use Rattle.memory.specs.Memory.{wordAt}
+use Rattle.device.specs.declared.Fate.{Fate}
 use Rattle.device.specs.declared.Fate.the-variants as fate
 use Rattle.device.specs.declared.Frame.{Frame}
 use Rattle.device.specs.declared.Verdict.the-variants as verdict
@@ -19,7 +19,7 @@ use Rattle.chip.specs.World.{World, afterwards}
 use Rattle.chip.proofs.Board.{board, descriptors, bufferAt, broadcast, good}
 use Rattle.progress.specs.Trace.{run, AllMay}
 use Rattle.traces.specs.Event.{Event, call, host, step, WhileHeld}
-use Rattle.held.specs.Held.{frameIn, isSettled, fateAt, Settled, Within}
+use Rattle.held.specs.Held.{framesIn, isSettled, fatesAt, Settled, Within}
 use Rattle.held.proofs.Held.{held-frame}
 
 -- ---- the run
@@ -47,7 +47,7 @@ begun =
 abbrev pub frame : Frame
 frame = record { length = 60; verdict = verdict.Good; short = false; savebad = false }
 
-pub its-frame : frameIn begun ≡ some frame
+pub its-frame : framesIn begun ≡ frame ∷ []
 unfolding begun passes
 its-frame = refl
 
@@ -60,26 +60,31 @@ calm-turns (suc n) w = (refl, calm-turns n (step (call (turn 0)) w))
 
 -- ---- the bound is attained
 
--- no turn of a trace settles a frame
+-- one of these fates settles a frame
+abbrev pub anySettles : List Fate → Bool
+anySettles [] = false
+anySettles (φ ∷ φs) = isSettled φ || anySettles φs
+
+-- no turn of a trace does
 abbrev quiet : List Event → World → Bool
 quiet [] w = true
-quiet (e ∷ es) w = not (isSettled (fateAt e w)) && quiet es (step e w)
+quiet (e ∷ es) w = not (anySettles (fatesAt e w)) && quiet es (step e w)
 
 quiet-131 : T (quiet (turnsOf 131) begun)
 unfolding begun passes
 quiet-131 = tt
 
 -- the frame is still held after 131 turns
-pub still-held : frameIn (run step (turnsOf 131) begun) ≡ some frame
+pub still-held : framesIn (run step (turnsOf 131) begun) ≡ frame ∷ []
 unfolding begun passes
 still-held = refl
 
 -- and the next one counts it, out of buffers
-pub then-counted : turnOf (run step (turnsOf 131) begun) 0 .outcome .fate ≡ fate.Counted
+pub then-counted : turnOf (run step (turnsOf 131) begun) 0 .outcome .fates ≡ fate.Counted ∷ []
 unfolding begun passes
 then-counted = refl
 
-pub then-free : frameIn (afterwards (turnOf (run step (turnsOf 131) begun) 0)) ≡ none
+pub then-free : framesIn (afterwards (turnOf (run step (turnsOf 131) begun) 0)) ≡ []
 unfolding begun passes
 then-free = refl
 
@@ -101,16 +106,21 @@ pub not-settled : (b : Bool) → T (not b) → b ≡ true → ⊥
 not-settled true t e = t
 not-settled false t e = false≢true e
 
+pub one-settles : (φs : List Fate) (φ : Fate) → φs ≡ φ ∷ [] → isSettled φ ≡ true → anySettles φs ≡ true
+one-settles φs φ g s = ap anySettles g ∙ ap (λ (b : Bool). b || false) s
+
 quiet-at : (before : List Event) (report : ℕ) (after : List Event) (w : World) → T (quiet (before ++ (call (turn report) ∷ after)) w)
-    → isSettled (turnOf (run step before w) report .outcome .fate) ≡ true → ⊥
+    → anySettles (turnOf (run step before w) report .outcome .fates) ≡ true → ⊥
 quiet-at [] report after w q =
-    not-settled (isSettled (turnOf w report .outcome .fate))
-    (and-left (not (isSettled (turnOf w report .outcome .fate))) (quiet after (step (call (turn report)) w)) q)
+    not-settled (anySettles (turnOf w report .outcome .fates))
+    (and-left (not (anySettles (turnOf w report .outcome .fates))) (quiet after (step (call (turn report)) w)) q)
 quiet-at (e ∷ es) report after w q =
-    quiet-at es report after (step e w) (and-right (not (isSettled (fateAt e w))) (quiet (es ++ (call (turn report) ∷ after)) (step e w)) q)
+    quiet-at es report after (step e w) (and-right (not (anySettles (fatesAt e w))) (quiet (es ++ (call (turn report) ∷ after)) (step e w)) q)
 
 unsettled : (n : ℕ) → Settled n frame (turnsOf 131) begun → ⊥
-unsettled n s = quiet-at (s .before) (s .report) (s .after) begun (subst (λ (es : List Event). T (quiet es begun)) (s .split) quiet-131) (s .settled)
+unsettled n s =
+    quiet-at (s .before) (s .report) (s .after) begun (subst (λ (es : List Event). T (quiet es begun)) (s .split) quiet-131)
+    (one-settles (turnOf (run step (s .before) begun) (s .report) .outcome .fates) (s .fate) (s .given) (s .settled))
 
 -- 132 is exact: the statement with any smaller number is false
 pub exact : (n : ℕ) → n < 132 → Within n → ⊥

@@ -1,17 +1,15 @@
 -- Demand 3, second half, over states: a held frame is stored or counted within 132 turns. Assumes nothing.
 use mathlib.Core.Path.{_≡_, refl, sym, ap, _∙_}
 use mathlib.Core.Bool.{Bool, true, false, true≢false, false≢true}
-use mathlib.Core.List.{List, [], _∷_, _++_, nil≢cons, cons≢nil}
-use mathlib.Core.Option.{Option, none, some, Option·none-ne-some}
+use mathlib.Core.List.{List, [], _∷_, _++_, map, nil≢cons, cons≢nil, head-eq-of-cons-eq, tail-eq-of-cons-eq}
 use Prim.Native.Nat.{ℕ, _≤_, _<_}
 use native.Mathlib.Omega.{arith}
 use lib.Dec.{lit≤}
-use Rattle.device.specs.State.{isHolding}
+use Rattle.device.specs.State.{isHolding, heldIn}
+use Rattle.device.proofs.Laws.{some-held}
 use Rattle.device.specs.declared.Fate.{Fate}
-use Rattle.device.specs.declared.Fate.the-variants as fate
 use Rattle.device.specs.declared.Frame.{Frame}
 use Rattle.device.specs.declared.Ru.{Ru}
-use Rattle.device.specs.declared.Ru.the-variants as ru
 use Rattle.chip.specs.World.{World, afterwards}
 use Rattle.chip.specs.Call.{reset, attention, arrive, turn}
 use Rattle.chip.specs.Turn.{turnOf}
@@ -19,24 +17,20 @@ use Rattle.progress.specs.Trace.{run, turns}
 use Rattle.progress.specs.Holder.{Holder, Went, ended, goes, Stays, Ends}
 use Rattle.progress.specs.Holder as ending
 use Rattle.traces.specs.Event.{Event, call, host, step, isTurn, WhileHeld}
-use Rattle.held.specs.Held.{frameOf, frameIn, isToHold, isSettled, fateAt, HeldAlong, Settled, Within}
+use Rattle.held.specs.Held.{framesIn, isToHold, isSettled, fatesAt, HeldAlong, Settled, Within}
 use Rattle.progress.proofs.Holder.{ends-within}
 use Rattle.held.proofs.Service as service
-use Rattle.held.proofs.Service.{leftOf, left-positive, left-most, isFate, Serving}
+use Rattle.held.proofs.Service.{leftOf, left-positive, left-most, Serving}
 use Rattle.held.proofs.Turn.{receives, receive-last, Passes, passes, isReceiving, turn-received, turn-commanded, arrival-unit, arrival-last}
 
--- ---- what is noted of a held frame: its fate, at its end
+-- ---- what is noted of held frames: each fate, with the frames that were held then
 
 pub record Note : Type 0 where
   pub fate : Fate
-  pub frame : Option Frame
+  pub frames : List Frame
 
-abbrev noteBy : Bool → Note → List Note
-noteBy true n = n ∷ []
-noteBy false n = []
-
-abbrev pub notes : Fate → Option Frame → List Note
-notes φ x = noteBy (isFate φ) (record { fate = φ; frame = x })
+abbrev pub notes : List Fate → List Frame → List Note
+notes φs xs = map (λ (φ : Fate). record { fate = φ; frames = xs }) φs
 
 abbrev pub holder : Holder
 holder =
@@ -50,27 +44,27 @@ holder =
       last = λ w. w .device .units .rulast;
       left = λ w. leftOf (w .device .units .ru);
       O = Note;
-      ends = λ e w. notes (fateAt e w) (frameIn w);
-      F = Option Frame;
-      frame = frameIn;
-      of = λ n. n .frame;
+      ends = λ e w. notes (fatesAt e w) (framesIn w);
+      F = List Frame;
+      frame = framesIn;
+      of = λ n. n .frames;
     }
 
 -- ---- its laws
 
 -- a turn that goes to the receive unit
 pub serving : (w : World) (report : ℕ) → isHolding (w .device .units .ru) ≡ true → isReceiving (w .device .units) ≡ true
-    → Serving (frameIn w) (leftOf (w .device .units .ru)) (turnOf w report .outcome .device .units .ru) (turnOf w report .outcome .fate)
+    → Serving (framesIn w) (leftOf (w .device .units .ru)) (turnOf w report .outcome .device .units .ru) (turnOf w report .outcome .fates)
 serving w report h v = rw (turn-received w report v) (receives w h)
 
 serve-last : (w : World) (report : ℕ) → isReceiving (w .device .units) ≡ true → turnOf w report .outcome .device .units .rulast ≡ true
 serve-last w report v = rw (turn-received w report v) (receive-last w)
 
 went : (w : World) (report : ℕ) → isReceiving (w .device .units) ≡ true
-    → Serving (frameIn w) (leftOf (w .device .units .ru)) (turnOf w report .outcome .device .units .ru) (turnOf w report .outcome .fate)
+    → Serving (framesIn w) (leftOf (w .device .units .ru)) (turnOf w report .outcome .device .units .ru) (turnOf w report .outcome .fates)
     → Went holder (call (turn report)) w
 went w report v (service.goes z h f l) = goes (rw z) h f l (serve-last w report v)
-went w report v (service.ended z s n) = ended (record { fate = turnOf w report .outcome .fate; frame = frameIn w }) (rw z) refl
+went w report v (service.ended φ z s n) = ended (record { fate = φ; frames = framesIn w }) (rw z) refl
 
 serve : (e : Event) (w : World) → WhileHeld e w → isHolding (w .device .units .ru) ≡ true → isTurn e ≡ true
     → isReceiving (w .device .units) ≡ true → Went holder e w
@@ -84,8 +78,8 @@ serve (host m g out) w y h t v = absurd (false≢true t)
 abbrev Kept : Event → World → Type 0
 Kept e w = step e w .device .units .ru ≡ w .device .units .ru
 
-stays : (e : Event) (w : World) → isHolding (w .device .units .ru) ≡ true → fateAt e w ≡ fate.Nothing → Kept e w → Stays holder e w
-stays e w h z k = record { none = rw z; holds = rw k h; same = ap frameOf k; count = ap leftOf k }
+stays : (e : Event) (w : World) → isHolding (w .device .units .ru) ≡ true → fatesAt e w ≡ [] → Kept e w → Stays holder e w
+stays e w h z k = record { none = rw z; holds = rw k h; same = ap heldIn k; count = ap leftOf k }
 
 -- a turn that goes to the command unit
 pub passing : (w : World) (report : ℕ) → isHolding (w .device .units .ru) ≡ true → isReceiving (w .device .units) ≡ false → Passes w (turnOf w report)
@@ -98,7 +92,7 @@ pass (call attention) w y h t v = absurd (false≢true t)
 pass (call (arrive f x)) w y h t v = absurd (false≢true t)
 pass (call (turn report)) w y h t v =
     let p = passing w report h v in
-    (stays (call (turn report)) w h (p .fate) (p .unit), turn-commanded w report h v .1, p .last)
+    (stays (call (turn report)) w h (p .fates) (p .unit), turn-commanded w report h v .1, p .last)
 pass (host m g out) w y h t v = absurd (false≢true t)
 
 between : (e : Event) (w : World) → WhileHeld e w → isHolding (w .device .units .ru) ≡ true → isTurn e ≡ false
@@ -114,86 +108,57 @@ laws = record { positive = λ w. left-positive (w .device .units .ru); serve = s
 
 -- ---- the statement
 
-pub holding : (u : Ru) (f : Frame) → frameOf u ≡ some f → isHolding u ≡ true
-holding ru.Idle f e = absurd (Option·none-ne-some f e)
-holding ru.NoResources f e = absurd (Option·none-ne-some f e)
-holding (ru.Suspended fd) f e = absurd (Option·none-ne-some f e)
-holding (ru.Ready fd) f e = absurd (Option·none-ne-some f e)
-holding (ru.Held fd g p) f e = refl
-holding (ru.Filling s w) f e = refl
-holding (ru.Closing s free full) f e = refl
-holding (ru.Lacking s) f e = refl
+pub holding : (u : Ru) (f : Frame) → heldIn u ≡ f ∷ [] → isHolding u ≡ true
+holding u f e = some-held u f [] e
 
 -- nothing is noted: nothing is made of the frame
-pub no-note : (φ : Fate) (x : Option Frame) → notes φ x ≡ [] → isFate φ ≡ false
-no-note φ x e = by (isFate φ) _ e
-  where
-    by : (b : Bool) (n : Note) → noteBy b n ≡ [] → b ≡ false
-    by true n e = absurd (cons≢nil e)
-    by false n e = refl
+pub no-note : (φs : List Fate) (xs : List Frame) → notes φs xs ≡ [] → φs ≡ []
+no-note [] xs e = refl
+no-note (φ ∷ φs) xs e = absurd (cons≢nil e)
 
-pub a-note : (φ : Fate) (x : Option Frame) (n : Note) → notes φ x ≡ n ∷ [] → isFate φ ≡ true
-a-note φ x n e = by (isFate φ) _ e
-  where
-    by : (b : Bool) (k : Note) → noteBy b k ≡ n ∷ [] → b ≡ true
-    by true k e = refl
-    by false k e = absurd (nil≢cons e)
+-- one note: one fate
+pub a-note : (φs : List Fate) (xs : List Frame) (n : Note) → notes φs xs ≡ n ∷ [] → φs ≡ n .fate ∷ []
+a-note [] xs n e = absurd (nil≢cons e)
+a-note (φ ∷ []) xs n e = ap (λ (k : Note). k .fate ∷ []) (head-eq-of-cons-eq e)
+a-note (φ ∷ ψ ∷ φs) xs n e = absurd (cons≢nil (tail-eq-of-cons-eq e))
 
-pub nothing : (φ : Fate) → isFate φ ≡ false → φ ≡ fate.Nothing
-nothing fate.Nothing e = refl
-nothing fate.TooFew e = absurd (true≢false e)
-nothing fate.NoMatch e = absurd (true≢false e)
-nothing fate.UnitIdle e = absurd (true≢false e)
-nothing fate.UnitSuspended e = absurd (true≢false e)
-nothing fate.Overrun e = absurd (true≢false e)
-nothing (fate.Bad c) e = absurd (true≢false e)
-nothing (fate.Held c) e = absurd (true≢false e)
-nothing fate.NoResources e = absurd (true≢false e)
-nothing fate.Stored e = absurd (true≢false e)
-nothing fate.StoredCounted e = absurd (true≢false e)
-nothing fate.Counted e = absurd (true≢false e)
-nothing fate.Aborted e = absurd (true≢false e)
-nothing fate.Reset e = absurd (true≢false e)
-
-all-along : (f : Frame) (es : List Event) (w : World) → ending.HeldAlong holder (some f) es w → HeldAlong f es w
+all-along : (f : Frame) (es : List Event) (w : World) → ending.HeldAlong holder (f ∷ []) es w → HeldAlong f es w
 all-along f [] w h = h .1
-all-along f (e ∷ es) w h =
-    (h .0 .1, nothing (fateAt e w) (no-note (fateAt e w) (frameIn w) (h .1)), all-along f es (step e w) (h .2))
+all-along f (e ∷ es) w h = (h .0 .1, no-note (fatesAt e w) (framesIn w) (h .1), all-along f es (step e w) (h .2))
 
 -- at its end
-pub held-last : (f : Frame) (es : List Event) (w : World) → HeldAlong f es w → frameIn (run step es w) ≡ some f
+pub held-last : (f : Frame) (es : List Event) (w : World) → HeldAlong f es w → framesIn (run step es w) ≡ f ∷ []
 held-last f [] w h = h
 held-last f (e ∷ es) w h = held-last f es (step e w) (h .2)
 
 -- a turn that makes something of a frame that is to be held stores or counts it, and holds it no longer
-abbrev pub Ended : World → ℕ → Type 0
-Ended w report = (isSettled (turnOf w report .outcome .fate) ≡ true) × (frameIn (afterwards (turnOf w report)) ≡ none)
+abbrev pub Ended : World → ℕ → Fate → Type 0
+Ended w report φ = (isSettled φ ≡ true) × (framesIn (afterwards (turnOf w report)) ≡ [])
 
-served-end : (w : World) (report : ℕ) (f : Frame) → frameIn w ≡ some f → isToHold f ≡ true → isFate (turnOf w report .outcome .fate) ≡ true
-    → Serving (frameIn w) (leftOf (w .device .units .ru)) (turnOf w report .outcome .device .units .ru) (turnOf w report .outcome .fate)
-    → Ended w report
-served-end w report f e t φ (service.goes z h g l) = absurd (false≢true (sym (ap isFate z) ∙ φ))
-served-end w report f e t φ (service.ended z s n) = (s f e t, n)
+served-end : (w : World) (report : ℕ) (f : Frame) (φ : Fate) → framesIn w ≡ f ∷ [] → isToHold f ≡ true → turnOf w report .outcome .fates ≡ φ ∷ []
+    → Serving (framesIn w) (leftOf (w .device .units .ru)) (turnOf w report .outcome .device .units .ru) (turnOf w report .outcome .fates)
+    → Ended w report φ
+served-end w report f φ e t g (service.goes z h x l) = absurd (nil≢cons (sym z ∙ g))
+served-end w report f φ e t g (service.ended ψ z s n) = (ap isSettled (head-eq-of-cons-eq (sym g ∙ z)) ∙ s f e t, n)
 
-end-by : (v : Bool) (w : World) (report : ℕ) (f : Frame) → isReceiving (w .device .units) ≡ v → frameIn w ≡ some f → isToHold f ≡ true
-    → isFate (turnOf w report .outcome .fate) ≡ true → Ended w report
-end-by true w report f v e t φ = served-end w report f e t φ (serving w report (holding (w .device .units .ru) f e) v)
-end-by false w report f v e t φ =
-    absurd (false≢true (sym (ap isFate (passing w report (holding (w .device .units .ru) f e) v .fate)) ∙ φ))
+end-by : (v : Bool) (w : World) (report : ℕ) (f : Frame) (φ : Fate) → isReceiving (w .device .units) ≡ v → framesIn w ≡ f ∷ [] → isToHold f ≡ true
+    → turnOf w report .outcome .fates ≡ φ ∷ [] → Ended w report φ
+end-by true w report f φ v e t g = served-end w report f φ e t g (serving w report (holding (w .device .units .ru) f e) v)
+end-by false w report f φ v e t g = absurd (nil≢cons (sym (passing w report (holding (w .device .units .ru) f e) v .fates) ∙ g))
 
-pub end-turn : (w : World) (report : ℕ) (f : Frame) → frameIn w ≡ some f → isToHold f ≡ true
-    → isFate (turnOf w report .outcome .fate) ≡ true → Ended w report
-end-turn w report f e t φ = end-by (isReceiving (w .device .units)) w report f refl e t φ
+pub end-turn : (w : World) (report : ℕ) (f : Frame) (φ : Fate) → framesIn w ≡ f ∷ [] → isToHold f ≡ true
+    → turnOf w report .outcome .fates ≡ φ ∷ [] → Ended w report φ
+end-turn w report f φ e t g = end-by (isReceiving (w .device .units)) w report f φ refl e t g
 
 -- the event at its end is a turn
 settle : (n : ℕ) (f : Frame) (es : List Event) (w : World) (before : List Event) (e : Event) (after : List Event)
     → isToHold f ≡ true → es ≡ before ++ (e ∷ after) → turns isTurn before < n → HeldAlong f before w → isTurn e ≡ true
-    → isFate (fateAt e (run step before w)) ≡ true → Settled n f es w
-settle n f es w before (call reset) after t s l h i φ = absurd (false≢true i)
-settle n f es w before (call attention) after t s l h i φ = absurd (false≢true i)
-settle n f es w before (call (arrive g v)) after t s l h i φ = absurd (false≢true i)
-settle n f es w before (call (turn report)) after t s l h i φ =
-    let r = end-turn (run step before w) report f (held-last f before w h) t φ in
+    → (φ : Fate) → fatesAt e (run step before w) ≡ φ ∷ [] → Settled n f es w
+settle n f es w before (call reset) after t s l h i φ g = absurd (false≢true i)
+settle n f es w before (call attention) after t s l h i φ g = absurd (false≢true i)
+settle n f es w before (call (arrive b v)) after t s l h i φ g = absurd (false≢true i)
+settle n f es w before (call (turn report)) after t s l h i φ g =
+    let r = end-turn (run step before w) report f φ (held-last f before w h) t g in
     record {
       before = before;
       report = report;
@@ -201,16 +166,18 @@ settle n f es w before (call (turn report)) after t s l h i φ =
       split = s;
       soon = l;
       holds = h;
+      fate = φ;
+      given = g;
       settled = r .0;
       free = r .1;
     }
-settle n f es w before (host m g out) after t s l h i φ = absurd (false≢true i)
+settle n f es w before (host m b out) after t s l h i φ g = absurd (false≢true i)
 
-settled : (n : ℕ) (f : Frame) (es : List Event) (w : World) → isToHold f ≡ true → Ends holder n (some f) es w → Settled n f es w
+settled : (n : ℕ) (f : Frame) (es : List Event) (w : World) → isToHold f ≡ true → Ends holder n (f ∷ []) es w → Settled n f es w
 settled n f es w t r =
     let at = run step (r .before) w in
     settle n f es w (r .before) (r .event) (r .after) t (r .split) (r .soon)
-    (all-along f (r .before) w (r .holds)) (r .turned) (a-note (fateAt (r .event) at) (frameIn at) (r .note) (r .noted))
+    (all-along f (r .before) w (r .holds)) (r .turned) (r .note .fate) (a-note (fatesAt (r .event) at) (framesIn at) (r .note) (r .noted))
 
 -- twice the services that a held frame can take are enough
 pub within : (n : ℕ) → 132 ≤ n → Within n

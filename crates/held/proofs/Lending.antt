@@ -3,7 +3,6 @@
 use mathlib.Core.Path.{_≡_, refl, sym, ap, _∙_, subst}
 use mathlib.Core.Bool.{Bool, true, false, not, _&&_, true≢false}
 use mathlib.Core.List.{List, [], _∷_, _++_}
-use mathlib.Core.Option.{some}
 use Prim.Native.Nat.{ℕ, zero, suc, _+_, _*_, _^_, _%_, _<_}
 use native.Mathlib.Omega.{arith}
 use lib.Count.{ones}
@@ -13,7 +12,7 @@ use Rattle.memory.specs.Memory.{digits, wordTo, apply}
 use Rattle.memory.specs.Size.{sizeAllowed}
 use Rattle.memory.proofs.Bytes.{Bytes, bytes-nil, put-bytes, digits-bytes}
 use Rattle.device.specs.Limits.{recordSize, areaSize}
-use Rattle.device.specs.State.{isActive, cuState, isHolding}
+use Rattle.device.specs.State.{isActive, cuState, isHolding, heldIn}
 use Rattle.device.specs.declared.Answer.{Answer}
 use Rattle.device.specs.declared.Device.{Device}
 use Rattle.device.specs.declared.Refusal.the-variants as refusal
@@ -35,9 +34,9 @@ use Rattle.traces.specs.Bytes.{number, isRefused}
 use Rattle.traces.specs.Event.{call, isTurn, WhileHeld}
 use Rattle.traces.specs.Areas.{unitsBy, worldSaid}
 use Rattle.traces.specs.Driven.{Lending, lending, refusedAt, leftBy, left, isTaken, Lends, AllFair}
-use Rattle.held.specs.Held.{frameOf, isSettled, fateAt}
-use Rattle.held.specs.OnRecords.{frameKept, Settled, Within}
-use Rattle.held.proofs.Exact.{words, given, begun, frame, its-frame, and-left, and-right, not-settled}
+use Rattle.held.specs.Held.{fatesAt}
+use Rattle.held.specs.OnRecords.{framesKept, Settled, Within}
+use Rattle.held.proofs.Exact.{words, given, begun, frame, its-frame, anySettles, and-left, and-right, not-settled, one-settles}
 use Rattle.held.proofs.OnRecords.{Closed, held-frame}
 
 -- ---- what is lent
@@ -181,11 +180,11 @@ module _ (m h : List ℕ) (r : Right m h) (d : Device) (g : Good d) where
 -- no turn of a trace settles a frame
 abbrev quietOn : List Lending → Bool
 quietOn [] = true
-quietOn (l ∷ ls) = not (isSettled (fateAt (call (l .made)) (worldSaid (l .lent)))) && quietOn ls
+quietOn (l ∷ ls) = not (anySettles (fatesAt (call (l .made)) (worldSaid (l .lent)))) && quietOn ls
 
 abbrev quiet : ℕ → Device → Bool
 quiet zero d = true
-quiet (suc n) d = not (isSettled (turnOf (on memory area d) 0 .outcome .fate)) && quiet n (next memory area d)
+quiet (suc n) d = not (anySettles (turnOf (on memory area d) 0 .outcome .fates)) && quiet n (next memory area d)
 
 module _ (k : Closed) where
   good-next : (m h : List ℕ) → Right m h → (d : Device) → Good d → Good (next m h d)
@@ -209,17 +208,17 @@ module _ (k : Closed) where
   as-quiet : (n : ℕ) (d : Device) → Good d → quietOn (turnsOn n d) ≡ quiet n d
   as-quiet zero d g = refl
   as-quiet (suc n) d g =
-      ap (λ (w : World). not (isSettled (turnOf w 0 .outcome .fate)) && quietOn (turnsOn n (next memory area d))) (back memory area memory-right d g)
-      ∙ ap (λ (b : Bool). not (isSettled (turnOf (on memory area d) 0 .outcome .fate)) && b) (as-quiet n (next memory area d) (good-on d g))
+      ap (λ (w : World). not (anySettles (turnOf w 0 .outcome .fates)) && quietOn (turnsOn n (next memory area d))) (back memory area memory-right d g)
+      ∙ ap (λ (b : Bool). not (anySettles (turnOf (on memory area d) 0 .outcome .fates)) && b) (as-quiet n (next memory area d) (good-on d g))
 
 quiet-at : (before : List Lending) (report : ℕ) (a : Areas) (after : List Lending) → T (quietOn (before ++ (lending (turn report) a ∷ after)))
-    → isSettled (turnOf (worldSaid a) report .outcome .fate) ≡ true → ⊥
+    → anySettles (turnOf (worldSaid a) report .outcome .fates) ≡ true → ⊥
 quiet-at [] report a after q =
-    not-settled (isSettled (turnOf (worldSaid a) report .outcome .fate))
-    (and-left (not (isSettled (turnOf (worldSaid a) report .outcome .fate))) (quietOn after) q)
+    not-settled (anySettles (turnOf (worldSaid a) report .outcome .fates))
+    (and-left (not (anySettles (turnOf (worldSaid a) report .outcome .fates))) (quietOn after) q)
 quiet-at (l ∷ ls) report a after q =
     quiet-at ls report a after
-    (and-right (not (isSettled (fateAt (call (l .made)) (worldSaid (l .lent))))) (quietOn (ls ++ (lending (turn report) a ∷ after))) q)
+    (and-right (not (anySettles (fatesAt (call (l .made)) (worldSaid (l .lent))))) (quietOn (ls ++ (lending (turn report) a ∷ after))) q)
 
 -- ---- the run
 
@@ -234,14 +233,15 @@ device-good = record { range = device-range; wide = device-wide }
 abbrev pub standing : Areas
 standing = lentOn memory area device
 
-pub its-record : frameKept (standing .kept) ≡ some frame
+pub its-record : framesKept (standing .kept) ≡ frame ∷ []
 unfolding device
-its-record = ap (λ (x : Found). frameOf (unitsBy x .ru)) (decode-image device device-wide device-range) ∙ its-frame
+its-record = ap (λ (x : Found). heldIn (unitsBy x .ru)) (decode-image device device-wide device-range) ∙ its-frame
 
 unsettled : Closed → (n : ℕ) → Settled n frame (turnsOn 131 device) standing → ⊥
 unsettled k n s =
     quiet-at (s .before) (s .report) (s .areas) (s .after)
-    (subst (λ (ls : List Lending). T (quietOn ls)) (s .split) (subst T (sym (as-quiet k 131 device device-good)) quiet-131)) (s .settled)
+    (subst (λ (ls : List Lending). T (quietOn ls)) (s .split) (subst T (sym (as-quiet k 131 device device-good)) quiet-131))
+    (one-settles (turnOf (worldSaid (s .areas)) (s .report) .outcome .fates) (s .fate) (s .given) (s .settled))
 
 -- 132 is exact on the calls: with any smaller number the statement is false
 pub exact : Closed → (n : ℕ) → n < 132 → Within n → ⊥

@@ -2,8 +2,7 @@
 -- state in range is a premise of each statement here, `Closed`. Assumes nothing.
 use mathlib.Core.Path.{_≡_, refl, sym, ap, _∙_}
 use mathlib.Core.Bool.{Bool, true, false, not, _&&_, _||_, true≢false, false≢true}
-use mathlib.Core.List.{List, [], _∷_, _++_}
-use mathlib.Core.Option.{Option, none, some, Option·none-ne-some, Option·some-injective}
+use mathlib.Core.List.{List, [], _∷_, _++_, nil≢cons, head-eq-of-cons-eq}
 use Prim.Native.Nat.{ℕ, _≤_, _<_}
 use native.Mathlib.Omega.{arith}
 use borrow.Author.Tests.{eqb-true}
@@ -11,7 +10,7 @@ use lib.Dec.{eqb, leb, ltb, lit≤}
 use lib.ListN.{length}
 use Rattle.memory.proofs.Bytes.{Bytes}
 use Rattle.device.specs.Limits.{header, recordSize}
-use Rattle.device.specs.State.{isHolding}
+use Rattle.device.specs.State.{isHolding, heldIn}
 use Rattle.device.specs.declared.Device.{Device}
 use Rattle.device.specs.declared.Fate.{Fate}
 use Rattle.device.specs.declared.Frame.{Frame}
@@ -38,14 +37,14 @@ use Rattle.traces.specs.Bytes.{called, isRefused}
 use Rattle.traces.specs.Event.{call, step, isTurn, WhileHeld}
 use Rattle.traces.specs.Areas.{FrameBytes, AreBytes, unitsBy, unitsIn, worldSaid}
 use Rattle.traces.specs.Driven.{Lending, lending, refusedAt, leftBy, left, isTaken, Lends, Fair, AllFair}
-use Rattle.held.specs.Held.{frameOf, frameIn, isToHold}
+use Rattle.held.specs.Held.{framesIn, isToHold}
 use Rattle.held.specs.Held as held
-use Rattle.held.specs.OnRecords.{frameKept, fateBy, fateAt, HeldAlong, Settled, Within}
+use Rattle.held.specs.OnRecords.{framesKept, fatesBy, fatesAt, HeldAlong, Settled, Within}
 use Rattle.progress.proofs.Holder.{ends-within}
-use Rattle.held.proofs.Service.{leftOf, left-positive, left-most, isFate}
+use Rattle.held.proofs.Service.{leftOf, left-positive, left-most}
 use Rattle.held.proofs.Turn.{isReceiving}
 use Rattle.held.proofs.Held as states
-use Rattle.held.proofs.Held.{Note, notes, a-note, no-note, nothing, holder, holding}
+use Rattle.held.proofs.Held.{Note, notes, a-note, no-note, holder, holding}
 
 -- ---- what an accepted call does
 
@@ -102,25 +101,25 @@ frame-to-hold : (f : Frame) → frameFits f ≡ true → isToHold f ≡ true
 unfolding frameFits
 frame-to-hold f e = both (sized (f .length)) (isToHold f) e .1
 
-unit-to-hold : (u : Ru) (f : Frame) → ruFits u ≡ true → frameOf u ≡ some f → isToHold f ≡ true
+unit-to-hold : (u : Ru) (f : Frame) → ruFits u ≡ true → heldIn u ≡ f ∷ [] → isToHold f ≡ true
 unfolding ruFits
-unit-to-hold ru.Idle f e h = absurd (Option·none-ne-some f h)
-unit-to-hold ru.NoResources f e h = absurd (Option·none-ne-some f h)
-unit-to-hold (ru.Suspended o) f e h = absurd (Option·none-ne-some f h)
-unit-to-hold (ru.Ready o) f e h = absurd (Option·none-ne-some f h)
-unit-to-hold (ru.Held o g p) f e h = rw (← Option·some-injective g f h) (frame-to-hold g e)
+unit-to-hold ru.Idle f e h = absurd (nil≢cons h)
+unit-to-hold ru.NoResources f e h = absurd (nil≢cons h)
+unit-to-hold (ru.Suspended o) f e h = absurd (nil≢cons h)
+unit-to-hold (ru.Ready o) f e h = absurd (nil≢cons h)
+unit-to-hold (ru.Held o g p) f e h = rw (← head-eq-of-cons-eq h) (frame-to-hold g e)
 unit-to-hold (ru.Filling s w) f e h =
     let g = frameFits (s .frame) in
     let x = both (g && hasNext w && leb header (w .filled)) (ltb (w .filled) (s .frame .length)) e .0 in
     let y = both g (hasNext w) (both (g && hasNext w) (leb header (w .filled)) x .0) .0 in
-    rw (← Option·some-injective (s .frame) f h) (frame-to-hold (s .frame) y)
+    rw (← head-eq-of-cons-eq h) (frame-to-hold (s .frame) y)
 unit-to-hold (ru.Closing s o full) f e h =
-    rw (← Option·some-injective (s .frame) f h)
+    rw (← head-eq-of-cons-eq h)
     (frame-to-hold (s .frame) (both (frameFits (s .frame)) (ltb header (s .frame .length) || not full) e .0))
 unit-to-hold (ru.Lacking s) f e h =
-    rw (← Option·some-injective (s .frame) f h) (frame-to-hold (s .frame) (both (frameFits (s .frame)) (ltb header (s .frame .length)) e .0))
+    rw (← head-eq-of-cons-eq h) (frame-to-hold (s .frame) (both (frameFits (s .frame)) (ltb header (s .frame .length)) e .0))
 
-to-hold : (d : Device) (f : Frame) → inRange d ≡ true → frameOf (d .units .ru) ≡ some f → isToHold f ≡ true
+to-hold : (d : Device) (f : Frame) → inRange d ≡ true → heldIn (d .units .ru) ≡ f ∷ [] → isToHold f ≡ true
 unfolding inRange unitsFit
 to-hold d f e h =
     let u = d .units in
@@ -165,30 +164,32 @@ keeper =
       last = λ a. unitsIn (a .kept) .rulast;
       left = λ a. leftOf (unitsIn (a .kept) .ru);
       O = Note;
-      ends = λ l a. notes (fateAt l) (frameKept (a .kept));
-      F = Option Frame;
-      frame = λ a. frameKept (a .kept);
-      of = λ n. n .frame;
+      ends = λ l a. notes (fatesAt l) (framesKept (a .kept));
+      F = List Frame;
+      frame = λ a. framesKept (a .kept);
+      of = λ n. n .frames;
     }
 
 -- a call on a record beside an event on a world
 record Beside (l : Lending) (a : Areas) (w : World) : Type 0 where
   now : unitsIn (a .kept) ≡ w .device .units
   then : unitsIn (left l a .kept) ≡ step (call (l .made)) w .device .units
-  fate : fateAt l ≡ held.fateAt (call (l .made)) w
+  fates : fatesAt l ≡ held.fatesAt (call (l .made)) w
 
 beside : Closed → (l : Lending) (a : Areas) → Fair WhileHeld l a → refusedAt l ≡ false → Beside l a (worldSaid (l .lent))
 beside k l a h e =
     record {
       now = ap unitsIn (sym (h e .kept)) ∙ sym (units-in (l .lent));
       then = units-after k l a h e;
-      fate = ap (λ (x : Bool). fateBy x (l .made) (worldSaid (l .lent))) e;
+      fates = ap (λ (x : Bool). fatesBy x (l .made) (worldSaid (l .lent))) e;
     }
 
 module _ {l : Lending} {a : Areas} {w : World} (b : Beside l a w) where
   -- what is noted, and any fact of the units, now and then
-  noted : notes (fateAt l) (frameKept (a .kept)) ≡ notes (held.fateAt (call (l .made)) w) (frameIn w)
-  noted = ap (λ (φ : Fate). notes φ (frameKept (a .kept))) (b .fate) ∙ ap (λ (u : Units). notes (held.fateAt (call (l .made)) w) (frameOf (u .ru))) (b .now)
+  noted : notes (fatesAt l) (framesKept (a .kept)) ≡ notes (held.fatesAt (call (l .made)) w) (framesIn w)
+  noted =
+      ap (λ (φs : List Fate). notes φs (framesKept (a .kept))) (b .fates)
+      ∙ ap (λ (u : Units). notes (held.fatesAt (call (l .made)) w) (heldIn (u .ru))) (b .now)
 
   at-now : {X : Type 0} (f : Units → X) → f (unitsIn (a .kept)) ≡ f (w .device .units)
   at-now f = ap f (b .now)
@@ -197,9 +198,9 @@ module _ {l : Lending} {a : Areas} {w : World} (b : Beside l a w) where
   at-then f = ap f (b .then)
 
   went : Went holder (call (l .made)) w → Went keeper l a
-  went (ended o e f) = ended o (noted ∙ e) (f ∙ sym (at-now (λ u. frameOf (u .ru))))
+  went (ended o e f) = ended o (noted ∙ e) (f ∙ sym (at-now (λ u. heldIn (u .ru))))
   went (goes z h f d t) =
-      goes (noted ∙ z) (at-then (λ u. isHolding (u .ru)) ∙ h) (at-then (λ u. frameOf (u .ru)) ∙ f ∙ sym (at-now (λ u. frameOf (u .ru))))
+      goes (noted ∙ z) (at-then (λ u. isHolding (u .ru)) ∙ h) (at-then (λ u. heldIn (u .ru)) ∙ f ∙ sym (at-now (λ u. heldIn (u .ru))))
       (omega (arith, d, at-then (λ u. leftOf (u .ru)), at-now (λ u. leftOf (u .ru)))) (at-then (λ u. u .rulast) ∙ t)
 
   stays : Stays holder (call (l .made)) w → Stays keeper l a
@@ -207,7 +208,7 @@ module _ {l : Lending} {a : Areas} {w : World} (b : Beside l a w) where
       record {
         none = noted ∙ s .none;
         holds = at-then (λ u. isHolding (u .ru)) ∙ s .holds;
-        same = at-then (λ u. frameOf (u .ru)) ∙ s .same ∙ sym (at-now (λ u. frameOf (u .ru)));
+        same = at-then (λ u. heldIn (u .ru)) ∙ s .same ∙ sym (at-now (λ u. heldIn (u .ru)));
         count = at-then (λ u. leftOf (u .ru)) ∙ s .count ∙ sym (at-now (λ u. leftOf (u .ru)));
       }
 
@@ -223,9 +224,9 @@ refused-stays : (l : Lending) (a : Areas) → refusedAt l ≡ true → isHolding
 refused-stays l a e h =
     let same : left l a .kept ≡ a .kept = ap (λ (x : Bool). leftBy x l a .kept) e in (
       record {
-        none = ap (λ (x : Bool). notes (fateBy x (l .made) (worldSaid (l .lent))) (frameKept (a .kept))) e;
+        none = ap (λ (x : Bool). notes (fatesBy x (l .made) (worldSaid (l .lent))) (framesKept (a .kept))) e;
         holds = ap (λ (q : List ℕ). isHolding (unitsIn q .ru)) same ∙ h;
-        same = ap frameKept same;
+        same = ap framesKept same;
         count = ap (λ (q : List ℕ). leftOf (unitsIn q .ru)) same;
       },
       ap (λ (q : List ℕ). unitsIn q .rulast) same,
@@ -277,30 +278,30 @@ fair-at : (before : List Lending) (l : Lending) (after : List Lending) (a : Area
 fair-at [] l after a y = y .0
 fair-at (b ∷ bs) l after a y = fair-at bs l after (left b a) (y .1)
 
-all-along : (f : Frame) (ls : List Lending) (a : Areas) → ending.HeldAlong keeper (some f) ls a → HeldAlong f ls a
+all-along : (f : Frame) (ls : List Lending) (a : Areas) → ending.HeldAlong keeper (f ∷ []) ls a → HeldAlong f ls a
 all-along f [] a h = h .1
 all-along f (l ∷ ls) a h =
-    (h .0 .1, nothing (fateAt l) (no-note (fateAt l) (frameKept (a .kept)) (h .1)), all-along f ls (left l a) (h .2))
+    (h .0 .1, no-note (fatesAt l) (framesKept (a .kept)) (h .1), all-along f ls (left l a) (h .2))
 
-pub kept-last : (f : Frame) (ls : List Lending) (a : Areas) → HeldAlong f ls a → frameKept (run left ls a .kept) ≡ some f
+pub kept-last : (f : Frame) (ls : List Lending) (a : Areas) → HeldAlong f ls a → framesKept (run left ls a .kept) ≡ f ∷ []
 kept-last f [] a h = h
 kept-last f (l ∷ ls) a h = kept-last f ls (left l a) (h .2)
 
 settle : Closed → (n : ℕ) (f : Frame) (ls : List Lending) (a : Areas) (before : List Lending) (c : Call) (x : Areas) (after : List Lending)
     → AllFair WhileHeld ls a → ls ≡ before ++ (lending c x ∷ after) → turns isTaken before < n → HeldAlong f before a
-    → refusedAt (lending c x) ≡ false → isTurn (call c) ≡ true → isFate (fateAt (lending c x)) ≡ true → Settled n f ls a
-settle k n f ls a before reset x after y s l h e i φ = absurd (false≢true i)
-settle k n f ls a before attention x after y s l h e i φ = absurd (false≢true i)
-settle k n f ls a before (arrive g v) x after y s l h e i φ = absurd (false≢true i)
-settle k n f ls a before (turn report) x after y s l h e i φ =
+    → refusedAt (lending c x) ≡ false → isTurn (call c) ≡ true → (φ : Fate) → fatesAt (lending c x) ≡ φ ∷ [] → Settled n f ls a
+settle k n f ls a before reset x after y s l h e i φ g = absurd (false≢true i)
+settle k n f ls a before attention x after y s l h e i φ g = absurd (false≢true i)
+settle k n f ls a before (arrive b v) x after y s l h e i φ g = absurd (false≢true i)
+settle k n f ls a before (turn report) x after y s l h e i φ g =
     let t = lending (turn report) x in
     let z : Lends WhileHeld t (run left before a) = fair-at before t after a (rw s at y) e in
     let u = taken (turn report) x e refl in
     let m = image x (z .bytes) (u .decoded) in
-    let now : frameIn (worldSaid x) ≡ some f =
-    ap (λ (u : Units). frameOf (u .ru)) (units-in x) ∙ ap frameKept (z .kept) ∙ kept-last f before a h in
-    let end = states.end-turn (worldSaid x) report f now (to-hold (worldSaid x .device) f (m .range) now)
-    (sym (ap (λ (q : Bool). isFate (fateBy q (turn report) (worldSaid x))) e) ∙ φ) in
+    let now : framesIn (worldSaid x) ≡ f ∷ [] =
+    ap (λ (u : Units). heldIn (u .ru)) (units-in x) ∙ ap framesKept (z .kept) ∙ kept-last f before a h in
+    let given : turnOf (worldSaid x) report .outcome .fates ≡ φ ∷ [] = sym (ap (λ (q : Bool). fatesBy q (turn report) (worldSaid x)) e) ∙ g in
+    let end = states.end-turn (worldSaid x) report f φ now (to-hold (worldSaid x .device) f (m .range) now) given in
     record {
       before = before;
       report = report;
@@ -312,16 +313,19 @@ settle k n f ls a before (turn report) x after y s l h e i φ =
       accepted = e;
       kept = z .kept;
       leaves = u .leaves;
+      fate = φ;
+      given = given;
       settled = end .0;
-      free = ap (λ (u : Units). frameOf (u .ru)) (units-left k t (run left before a) e z) ∙ end .1;
+      free = ap (λ (u : Units). heldIn (u .ru)) (units-left k t (run left before a) e z) ∙ end .1;
     }
 
-settled : Closed → (n : ℕ) (f : Frame) (ls : List Lending) (a : Areas) → AllFair WhileHeld ls a → Ends keeper n (some f) ls a → Settled n f ls a
+settled : Closed → (n : ℕ) (f : Frame) (ls : List Lending) (a : Areas) → AllFair WhileHeld ls a → Ends keeper n (f ∷ []) ls a → Settled n f ls a
 settled k n f ls a y s =
     let l = s .event in
     let b = both (not (refusedAt l)) (isTurn (call (l .made))) (s .turned) in
     settle k n f ls a (s .before) (l .made) (l .lent) (s .after) y (s .split) (s .soon) (all-along f (s .before) a (s .holds))
-    (not-refused (refusedAt l) (b .0)) (b .1) (a-note (fateAt l) (frameKept (run left (s .before) a .kept)) (s .note) (s .noted))
+    (not-refused (refusedAt l) (b .0)) (b .1) (s .note .fate)
+    (a-note (fatesAt l) (framesKept (run left (s .before) a .kept)) (s .note) (s .noted))
 
 -- twice the services that a held frame can take are enough
 pub within : Closed → (n : ℕ) → 132 ≤ n → Within n

@@ -1,8 +1,7 @@
 -- One service of the receive unit with a frame held: the frame is settled, or stays held with a service fewer to come. Assumes nothing.
 use mathlib.Core.Path.{_≡_, refl}
 use mathlib.Core.Bool.{Bool, true, false, _||_, false≢true}
-use mathlib.Core.List.{List}
-use mathlib.Core.Option.{Option, none, some, Option·some-injective}
+use mathlib.Core.List.{List, [], _∷_, head-eq-of-cons-eq}
 use Prim.Native.Nat.{ℕ, suc, _+_, _-_, _≤_, _<_}
 use native.Mathlib.Omega.{arith}
 use lib.Dec.{leb}
@@ -10,7 +9,7 @@ use borrow.Author.Tests.{leb-false}
 use Rattle.memory.specs.Memory.{Write, wordAt}
 use Rattle.memory.specs.Address.{place, offsetAt, isNone}
 use Rattle.memory.specs.declared.Offset.{Offset}
-use Rattle.device.specs.State.{isHolding, isGood}
+use Rattle.device.specs.State.{isHolding, heldIn, isGood}
 use Rattle.device.specs.declared.Fate.{Fate}
 use Rattle.device.specs.declared.Fate.the-variants as fate
 use Rattle.device.specs.declared.Frame.{Frame}
@@ -21,9 +20,9 @@ use Rattle.device.specs.declared.Walk.{Walk}
 use Rattle.receive.specs.Part.{Part, firstAt, controlAt}
 use Rattle.receive.specs.Begin.{begunBy, isBare, toFirst, begin}
 use Rattle.receive.specs.Buffer.{descriptorAt, past, isDone, afterBuffer, buffer}
-use Rattle.receive.specs.End.{fateBy, settles, before, proceeds, close, lack}
+use Rattle.receive.specs.End.{fateBy, fateOf, settles, before, proceeds, close, lack}
 use Rattle.receive.specs.Service.{serviceBy}
-use Rattle.held.specs.Held.{frameOf, isToHold, isSettled}
+use Rattle.held.specs.Held.{isToHold, isSettled}
 
 -- at most so many services until the frame is settled: begin, 64 buffers, end; a walk that used k has 64 - k buffers before it, and ends
 -- with one where a record says more
@@ -57,37 +56,20 @@ left-most (ru.Filling s w) = omega arith
 left-most (ru.Closing s free full) = omega arith
 left-most (ru.Lacking s) = omega arith
 
--- a fate that is one
-abbrev pub isFate : Fate → Bool
-isFate fate.Nothing = false
-isFate fate.TooFew = true
-isFate fate.NoMatch = true
-isFate fate.UnitIdle = true
-isFate fate.UnitSuspended = true
-isFate fate.Overrun = true
-isFate (fate.Bad c) = true
-isFate (fate.Held c) = true
-isFate fate.NoResources = true
-isFate fate.Stored = true
-isFate fate.StoredCounted = true
-isFate fate.Counted = true
-isFate fate.Aborted = true
-isFate fate.Reset = true
-
--- the frame x of a unit, after a service that left the unit u and said what became of the frame
-pub data Serving (x : Option Frame) (left : ℕ) (u : Ru) (φ : Fate) : Type 0 where
-  goes : φ ≡ fate.Nothing → isHolding u ≡ true → frameOf u ≡ x → leftOf u < left → Serving x left u φ
-  ended : isFate φ ≡ true → ((f : Frame) → x ≡ some f → isToHold f ≡ true → isSettled φ ≡ true) → frameOf u ≡ none → Serving x left u φ
+-- the frames xs of a unit, after a service that left the unit u and said what became of them
+pub data Serving (xs : List Frame) (left : ℕ) (u : Ru) (φs : List Fate) : Type 0 where
+  goes : φs ≡ [] → isHolding u ≡ true → heldIn u ≡ xs → leftOf u < left → Serving xs left u φs
+  ended : (φ : Fate) → φs ≡ φ ∷ [] → ((f : Frame) → xs ≡ f ∷ [] → isToHold f ≡ true → isSettled φ ≡ true) → heldIn u ≡ [] → Serving xs left u φs
 
 -- ---- begin
 
-first : (bare void : Bool) (s : Storing) (o : Offset) → Serving (some (s .frame)) 66 (toFirst bare void s o) fate.Nothing
+first : (bare void : Bool) (s : Storing) (o : Offset) → Serving (s .frame ∷ []) 66 (toFirst bare void s o) []
 first true void s o = goes refl refl refl (omega arith)
 first false true s o = goes refl refl refl (omega arith)
 first false false s o = goes refl refl refl (omega arith)
 
 begins : (p : Part) (fd : Offset) (f : Frame) (pausing : Bool) (m : List ℕ)
-    → Serving (some f) 66 (begin p fd f pausing m .unit) (begin p fd f pausing m .fate)
+    → Serving (f ∷ []) 66 (begin p fd f pausing m .unit) (begin p fd f pausing m .fates)
 unfolding begin begunBy
 begins p fd f pausing m =
     let o = offsetAt m (place (p .base) fd firstAt) in
@@ -96,7 +78,7 @@ begins p fd f pausing m =
 -- ---- a buffer
 
 next : (done el void last : Bool) (k : ℕ) (s : Storing) (w : Walk) → w .used ≡ k + 1 → leb 64 (k + 1) ≡ last
-    → Serving (some (s .frame)) (suc (suc (63 - k))) (afterBuffer done el void last s w) fate.Nothing
+    → Serving (s .frame ∷ []) (suc (suc (63 - k))) (afterBuffer done el void last s w) []
 next true el void last k s w u t = goes refl refl refl (omega arith)
 next false true void last k s w u t = goes refl refl refl (omega arith)
 next false false true last k s w u t = goes refl refl refl (omega arith)
@@ -104,7 +86,7 @@ next false false false true k s w u t = goes refl refl refl (omega arith)
 next false false false false k s w u t = goes refl refl refl (omega (arith, u, leb-false 64 (k + 1) t))
 
 fills : (p : Part) (s : Storing) (w : Walk) (m : List ℕ)
-    → Serving (some (s .frame)) (suc (suc (63 - w .used))) (buffer p s w m .unit) (buffer p s w m .fate)
+    → Serving (s .frame ∷ []) (suc (suc (63 - w .used))) (buffer p s w m .unit) (buffer p s w m .fates)
 unfolding buffer
 fills p s w m =
     let d = descriptorAt (p .base) (w .next) m in
@@ -112,43 +94,37 @@ fills p s w m =
 
 -- ---- the end
 
-before-free : (b : Bool) (o : Offset) → frameOf (before b o) ≡ none
+before-free : (b : Bool) (o : Offset) → heldIn (before b o) ≡ []
 before-free true o = refl
 before-free false o = refl
 
-closed : (exhausted : Bool) (x : Option Frame) (p : Part) (s : Storing) (free : Offset) (ws : List Write) (m : List ℕ)
-    → Serving x 1 (proceeds exhausted p s free fate.Stored ws m .unit) (proceeds exhausted p s free fate.Stored ws m .fate)
-closed true x p s free ws m = ended refl (λ f e t. refl) refl
-closed false x p s free ws m = ended refl (λ f e t. refl) (rw before-free)
+closed : (exhausted : Bool) (xs : List Frame) (p : Part) (s : Storing) (free : Offset) (ws : List Write) (m : List ℕ)
+    → Serving xs 1 (proceeds exhausted p s free fate.Stored ws m .unit) (proceeds exhausted p s free fate.Stored ws m .fates)
+closed true xs p s free ws m = ended fate.Stored refl (λ f e t. refl) refl
+closed false xs p s free ws m = ended fate.Stored refl (λ f e t. refl) (rw before-free)
 
 closes : (p : Part) (s : Storing) (free : Offset) (full : Bool) (m : List ℕ)
-    → Serving (some (s .frame)) 1 (close p s free full m .unit) (close p s free full m .fate)
+    → Serving (s .frame ∷ []) 1 (close p s free full m .unit) (close p s free full m .fates)
 unfolding close
-closes p s free full m = closed (s .el || full) (some (s .frame)) p s free (settles false p s m) m
+closes p s free full m = closed (s .el || full) (s .frame ∷ []) p s free (settles false p s m) m
 
 -- out of buffers: the one case that neither stores nor counts is of a frame that is not to be held
-lack-fate : (saved good : Bool) → isFate (fateBy true saved good) ≡ true
-lack-fate true true = refl
-lack-fate true false = refl
-lack-fate false true = refl
-lack-fate false false = refl
-
 lack-settled : (saved good : Bool) → (good || saved) ≡ true → isSettled (fateBy true saved good) ≡ true
 lack-settled true true h = refl
 lack-settled true false h = refl
 lack-settled false true h = refl
 lack-settled false false h = absurd (false≢true h)
 
-lacks : (p : Part) (s : Storing) (m : List ℕ) → Serving (some (s .frame)) 1 (lack p s m .unit) (lack p s m .fate)
+lacks : (p : Part) (s : Storing) (m : List ℕ) → Serving (s .frame ∷ []) 1 (lack p s m .unit) (lack p s m .fates)
 unfolding lack
 lacks p s m =
-    ended (lack-fate (s .frame .savebad) (isGood (s .frame)))
-    (λ f e t. lack-settled (s .frame .savebad) (isGood (s .frame)) (rw (Option·some-injective (s .frame) f e) t)) refl
+    ended (fateOf true (s .frame)) refl
+    (λ f e t. lack-settled (s .frame .savebad) (isGood (s .frame)) (rw (head-eq-of-cons-eq e) t)) refl
 
 -- ---- a service
 
 pub serves : (u : Ru) (p : Part) (m : List ℕ) → isHolding u ≡ true
-    → Serving (frameOf u) (leftOf u) (serviceBy u p m .unit) (serviceBy u p m .fate)
+    → Serving (heldIn u) (leftOf u) (serviceBy u p m .unit) (serviceBy u p m .fates)
 serves ru.Idle p m h = absurd (false≢true h)
 serves ru.NoResources p m h = absurd (false≢true h)
 serves (ru.Suspended fd) p m h = absurd (false≢true h)

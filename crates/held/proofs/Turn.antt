@@ -1,14 +1,13 @@
 -- One event with a frame held: what it makes of the frame. Assumes nothing.
 use mathlib.Core.Path.{_≡_, refl}
 use mathlib.Core.Bool.{Bool, true, false, true≢false, false≢true}
-use mathlib.Core.List.{List}
+use mathlib.Core.List.{List, []}
 use Prim.Native.Nat.{ℕ}
 use lib.Dec.{ltb}
 use lib.ListN.{length}
 use Rattle.device.specs.Limits.{header}
 use Rattle.device.specs.State.{isHolding, isActive, cuState}
 use Rattle.device.specs.Answers.{isHeld}
-use Rattle.device.specs.declared.Fate.the-variants as fate
 use Rattle.device.specs.declared.Frame.{Frame}
 use Rattle.device.specs.declared.Ru.{Ru}
 use Rattle.device.specs.declared.Ru.the-variants as ru
@@ -20,14 +19,14 @@ use Rattle.receive.specs.Arrival as arrivals
 use Rattle.chip.specs.World.{World, Ran}
 use Rattle.chip.specs.Arrival as chip-arrival
 use Rattle.chip.specs.Turn.{servedBy, concluded, commandTurn, receiveTurn, turnBy, turnOf}
-use Rattle.held.specs.Held.{frameIn}
+use Rattle.held.specs.Held.{framesIn}
 use Rattle.held.proofs.Service.{leftOf, Serving, serves}
 
 -- ---- the two turns
 
 -- a turn that goes to the receive unit
 pub receives : (w : World) → isHolding (w .device .units .ru) ≡ true
-    → Serving (frameIn w) (leftOf (w .device .units .ru)) (receiveTurn w .outcome .device .units .ru) (receiveTurn w .outcome .fate)
+    → Serving (framesIn w) (leftOf (w .device .units .ru)) (receiveTurn w .outcome .device .units .ru) (receiveTurn w .outcome .fates)
 unfolding receiveTurn concluded receive-service.service
 receives w h = serves (w .device .units .ru) (receive.partOf (w .device .units) (w .holding)) (w .memory) h
 
@@ -38,12 +37,12 @@ receive-last w = refl
 -- a turn that goes to the command unit leaves the receive unit as it was
 pub record Passes (w : World) (r : Ran) : Type 0 where
   pub unit : r .outcome .device .units .ru ≡ w .device .units .ru
-  pub fate : r .outcome .fate ≡ fate.Nothing
+  pub fates : r .outcome .fates ≡ []
   pub last : r .outcome .device .units .rulast ≡ false
 
 pub passes : (w : World) (report : ℕ) → Passes w (commandTurn w report)
 unfolding commandTurn concluded
-passes w report = record { unit = refl; fate = refl; last = refl }
+passes w report = record { unit = refl; fates = refl; last = refl }
 
 -- ---- a turn, by the unit that is served
 

@@ -1,7 +1,7 @@
 -- What the turn that settles a held frame leaves: 01, "Arrival and storing", End. Assumes nothing.
 use mathlib.Core.Path.{_≡_}
 use mathlib.Core.Bool.{Bool, true}
-use mathlib.Core.List.{List, _++_}
+use mathlib.Core.List.{List, [], _∷_, _++_}
 use Rattle.memory.specs.Memory.{Write, apply}
 use Rattle.device.specs.Answers.{isStored}
 use Rattle.device.specs.declared.Frame.{Frame}
@@ -16,7 +16,7 @@ pub record Written (f : Frame) (w : World) (r : Ran) : Type 0 where
   pub storing : Storing
   pub own : storing .frame ≡ f
   pub lacking : Bool
-  pub fate : r .outcome .fate ≡ fateOf lacking f
+  pub fates : r .outcome .fates ≡ fateOf lacking f ∷ []
   pub rest : List Write
   pub memory : r .memory ≡ apply (settles lacking (partOf (w .device .units) (w .holding)) storing (w .memory) ++ rest) (w .memory)
-  pub told : isStored (r .outcome .fate) ≡ true → r .outcome .device .units .events .fr ≡ true
+  pub told : isStored (fateOf lacking f) ≡ true → r .outcome .device .units .events .fr ≡ true

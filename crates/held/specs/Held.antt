@@ -2,15 +2,11 @@
 use mathlib.Core.Path.{_≡_}
 use mathlib.Core.Bool.{Bool, true, _||_}
 use mathlib.Core.List.{List, [], _∷_, _++_}
-use mathlib.Core.Option.{Option, none, some}
 use Prim.Native.Nat.{ℕ, _≤_, _<_}
 use Rattle.device.specs.Answers.{counterOf, isStored, isCounter}
-use Rattle.device.specs.State.{isGood}
+use Rattle.device.specs.State.{heldIn, isGood}
 use Rattle.device.specs.declared.Fate.{Fate}
-use Rattle.device.specs.declared.Fate.the-variants as fate
 use Rattle.device.specs.declared.Frame.{Frame}
-use Rattle.device.specs.declared.Ru.{Ru}
-use Rattle.device.specs.declared.Ru.the-variants as ru
 use Rattle.chip.specs.World.{World, afterwards}
 use Rattle.chip.specs.Call.{reset, attention, arrive, turn}
 use Rattle.chip.specs.Turn.{turnOf}
@@ -19,19 +15,9 @@ use Rattle.traces.specs.Event.{Event, call, host, step, isTurn, WhileHeld}
 
 -- ---- the held frame
 
--- the frame that is held, as it was judged at its arrival
-abbrev pub frameOf : Ru → Option Frame
-frameOf ru.Idle = none
-frameOf ru.NoResources = none
-frameOf (ru.Suspended fd) = none
-frameOf (ru.Ready fd) = none
-frameOf (ru.Held fd f p) = some f
-frameOf (ru.Filling s w) = some (s .frame)
-frameOf (ru.Closing s free full) = some (s .frame)
-frameOf (ru.Lacking s) = some (s .frame)
-
-abbrev pub frameIn : World → Option Frame
-frameIn w = frameOf (w .device .units .ru)
+-- the frames that are held, each as it was judged at its arrival
+abbrev pub framesIn : World → List Frame
+framesIn w = heldIn (w .device .units .ru)
 
 -- 01, "Arrival and storing": a bad frame is held only with save-bad set, a good one always; no record that is accepted holds another
 abbrev pub isToHold : Frame → Bool
@@ -43,18 +29,18 @@ isSettled f = isStored f || isCounter (counterOf f)
 
 -- ---- a trace
 
--- what an event makes of a held frame: where no attention or reset comes, turns alone bring it to its end
-abbrev pub fateAt : Event → World → Fate
-fateAt (call reset) w = fate.Nothing
-fateAt (call attention) w = fate.Nothing
-fateAt (call (arrive f v)) w = fate.Nothing
-fateAt (call (turn report)) w = turnOf w report .outcome .fate
-fateAt (host m h out) w = fate.Nothing
+-- what an event makes of held frames: where no attention or reset comes, turns alone bring them to their end
+abbrev pub fatesAt : Event → World → List Fate
+fatesAt (call reset) w = []
+fatesAt (call attention) w = []
+fatesAt (call (arrive f v)) w = []
+fatesAt (call (turn report)) w = turnOf w report .outcome .fates
+fatesAt (host m h out) w = []
 
 -- the frame f is held all along, and nothing is made of it
 abbrev pub HeldAlong : Frame → List Event → World → Type 0
-HeldAlong f [] w = frameIn w ≡ some f
-HeldAlong f (e ∷ es) w = (frameIn w ≡ some f) × (fateAt e w ≡ fate.Nothing) × HeldAlong f es (step e w)
+HeldAlong f [] w = framesIn w ≡ f ∷ []
+HeldAlong f (e ∷ es) w = (framesIn w ≡ f ∷ []) × (fatesAt e w ≡ []) × HeldAlong f es (step e w)
 
 -- ---- the statement
 
@@ -66,12 +52,14 @@ pub record Settled (n : ℕ) (f : Frame) (es : List Event) (w : World) : Type 0 
   pub split : es ≡ before ++ (call (turn report) ∷ after)
   pub soon : turns isTurn before < n
   pub holds : HeldAlong f before w
-  pub settled : isSettled (turnOf (run step before w) report .outcome .fate) ≡ true
-  pub free : frameIn (afterwards (turnOf (run step before w) report)) ≡ none
+  pub fate : Fate
+  pub given : turnOf (run step before w) report .outcome .fates ≡ fate ∷ []
+  pub settled : isSettled fate ≡ true
+  pub free : framesIn (afterwards (turnOf (run step before w) report)) ≡ []
 
 -- a held frame is stored or counted within n turns, if the record is kept and no attention or reset comes: whatever arrives, and whatever
 -- the host makes of memory, of its size and of both areas before each call
 abbrev pub Within : ℕ → Type 0
 Within n =
-    (w : World) (f : Frame) (es : List Event) → frameIn w ≡ some f → isToHold f ≡ true → AllMay WhileHeld step es w → n ≤ turns isTurn es
+    (w : World) (f : Frame) (es : List Event) → framesIn w ≡ f ∷ [] → isToHold f ≡ true → AllMay WhileHeld step es w → n ≤ turns isTurn es
     → Settled n f es w

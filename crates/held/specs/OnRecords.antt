@@ -2,10 +2,9 @@
 use mathlib.Core.Path.{_≡_}
 use mathlib.Core.Bool.{Bool, true, false}
 use mathlib.Core.List.{List, [], _∷_, _++_}
-use mathlib.Core.Option.{Option, none, some}
 use Prim.Native.Nat.{ℕ, _≤_, _<_}
+use Rattle.device.specs.State.{heldIn}
 use Rattle.device.specs.declared.Fate.{Fate}
-use Rattle.device.specs.declared.Fate.the-variants as fate
 use Rattle.device.specs.declared.Frame.{Frame}
 use Rattle.chip.specs.World.{World}
 use Rattle.chip.specs.Call.{Call, turn}
@@ -15,26 +14,26 @@ use Rattle.progress.specs.Trace.{run, turns}
 use Rattle.traces.specs.Event.{call, WhileHeld}
 use Rattle.traces.specs.Areas.{unitsIn, worldSaid}
 use Rattle.traces.specs.Driven.{Lending, lending, refusedAt, left, isTaken, Drive, turnsDriven, unrolled, AllFair, AllFairDrive}
-use Rattle.held.specs.Held.{frameOf, isSettled}
+use Rattle.held.specs.Held.{isSettled}
 use Rattle.held.specs.Held as held
 
--- ---- what becomes of the frame that a record holds
+-- ---- what becomes of the frames that a record holds
 
-abbrev pub frameKept : List ℕ → Option Frame
-frameKept r = frameOf (unitsIn r .ru)
+abbrev pub framesKept : List ℕ → List Frame
+framesKept r = heldIn (unitsIn r .ru)
 
--- what a call makes of it
-abbrev pub fateBy : (refused : Bool) → Call → World → Fate
-fateBy true c w = fate.Nothing
-fateBy false c w = held.fateAt (call c) w
+-- what a call makes of them
+abbrev pub fatesBy : (refused : Bool) → Call → World → List Fate
+fatesBy true c w = []
+fatesBy false c w = held.fatesAt (call c) w
 
-abbrev pub fateAt : Lending → Fate
-fateAt l = fateBy (refusedAt l) (l .made) (worldSaid (l .lent))
+abbrev pub fatesAt : Lending → List Fate
+fatesAt l = fatesBy (refusedAt l) (l .made) (worldSaid (l .lent))
 
 -- the frame f is held in the record all along, and nothing is made of it; a stands
 abbrev pub HeldAlong : Frame → List Lending → Areas → Type 0
-HeldAlong f [] a = frameKept (a .kept) ≡ some f
-HeldAlong f (l ∷ ls) a = (frameKept (a .kept) ≡ some f) × (fateAt l ≡ fate.Nothing) × HeldAlong f ls (left l a)
+HeldAlong f [] a = framesKept (a .kept) ≡ f ∷ []
+HeldAlong f (l ∷ ls) a = (framesKept (a .kept) ≡ f ∷ []) × (fatesAt l ≡ []) × HeldAlong f ls (left l a)
 
 -- ---- the statement
 
@@ -51,17 +50,19 @@ pub record Settled (n : ℕ) (f : Frame) (ls : List Lending) (a : Areas) : Type 
   pub accepted : refusedAt (lending (turn report) areas) ≡ false
   pub kept : areas .kept ≡ run left before a .kept
   pub leaves : turnCall areas report ≡ onBytes (turnOf (worldSaid areas) report)
-  pub settled : isSettled (turnOf (worldSaid areas) report .outcome .fate) ≡ true
-  pub free : frameKept (turnCall areas report .areas .kept) ≡ none
+  pub fate : Fate
+  pub given : turnOf (worldSaid areas) report .outcome .fates ≡ fate ∷ []
+  pub settled : isSettled fate ≡ true
+  pub free : framesKept (turnCall areas report .areas .kept) ≡ []
 
 -- the frame that a record holds is stored or counted within n turns that are not refused, if the record is kept and no attention or reset comes.
 -- Of what stands at the start, a, the record alone counts
 abbrev pub Within : ℕ → Type 0
 Within n =
-    (a : Areas) (f : Frame) (ls : List Lending) → frameKept (a .kept) ≡ some f → AllFair WhileHeld ls a → n ≤ turns isTaken ls → Settled n f ls a
+    (a : Areas) (f : Frame) (ls : List Lending) → framesKept (a .kept) ≡ f ∷ [] → AllFair WhileHeld ls a → n ≤ turns isTaken ls → Settled n f ls a
 
 -- the same where runs of turns are among the calls
 abbrev pub WithinByRuns : ℕ → Type 0
 WithinByRuns n =
-    (a : Areas) (f : Frame) (ds : List Drive) → frameKept (a .kept) ≡ some f → AllFairDrive WhileHeld ds a → n ≤ turnsDriven ds
+    (a : Areas) (f : Frame) (ds : List Drive) → framesKept (a .kept) ≡ f ∷ [] → AllFairDrive WhileHeld ds a → n ≤ turnsDriven ds
     → Settled n f (unrolled ds) a

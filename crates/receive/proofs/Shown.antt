@@ -40,6 +40,12 @@ arrives savebad unit bytes v = fateOf (settings savebad) true unit (replicate by
 abbrev counted : Fate → ℕ
 counted f = counterPlace (counterOf f)
 
+-- the same of a service that settles one frame; no place has the number 1
+abbrev countedOnce : List Fate → ℕ
+countedOnce [] = 1
+countedOnce (f ∷ []) = counted f
+countedOnce (f ∷ g ∷ gs) = 1
+
 abbrev ready : Ru
 ready = ru.Ready (record { 0 = 0x50 })
 
@@ -212,9 +218,9 @@ unfolding byteAt putByte bytesAt putBytes value digits fieldAt place bitsAt coun
 keptOrNot = tt
 
 -- either way RSCERRS follows if otherwise good, and No Resources
-pub lackingAddsOne : T (eqb (counted (served (lacking true verdict.Good) [] .fate)) 12
-    && eqb (counted (served (lacking false verdict.Good) [] .fate)) 12
-    && eqb (counted (served (lacking true verdict.Crc) [] .fate)) 0 && eqb (phase (served (lacking false verdict.Good) [] .unit)) 2
+pub lackingAddsOne : T (eqb (countedOnce (served (lacking true verdict.Good) [] .fates)) 12
+    && eqb (countedOnce (served (lacking false verdict.Good) [] .fates)) 12
+    && eqb (countedOnce (served (lacking true verdict.Crc) [] .fates)) 0 && eqb (phase (served (lacking false verdict.Good) [] .unit)) 2
     && eqb (phase (served (lacking true verdict.Good) [] .unit)) 2 && served (lacking true verdict.Good) [] .raised .rnr)
 unfolding byteAt putByte bytesAt putBytes value digits fieldAt place bitsAt counts frameStatus settles lack service
 lackingAddsOne = tt

@@ -77,7 +77,7 @@ abbrev pub raisedBy : Fate → Ru → Events
 raisedBy f next = record { cx = false; fr = isStored f; cna = false; rnr = not (isReady (ruState next)) }
 
 abbrev pub endAt : Fate → Ru → List Write → Service
-endAt f next writes = record { unit = next; writes = writes; raised = raisedBy f next; fate = f }
+endAt f next writes = record { unit = next; writes = writes; raised = raisedBy f next; fates = f ∷ [] }
 
 -- S or a waiting SUSPEND suspends
 abbrev pub before : (suspends : Bool) → Offset → Ru

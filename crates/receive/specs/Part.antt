@@ -1,7 +1,7 @@
 -- What the receive unit works with besides memory, what a service of it comes to, and its descriptors: 01, "Arrival and storing".
 -- Assumes nothing.
 use mathlib.Core.Bool.{Bool}
-use mathlib.Core.List.{List}
+use mathlib.Core.List.{List, []}
 use Prim.Native.Nat.{ℕ}
 use Rattle.memory.specs.Memory.{Write}
 use Rattle.memory.specs.declared.Offset.{Offset}
@@ -9,7 +9,6 @@ use Rattle.memory.specs.declared.RealAddress.{RealAddress}
 use Rattle.scb.specs.Words.{noEvents}
 use Rattle.scb.specs.declared.Events.{Events}
 use Rattle.device.specs.declared.Fate.{Fate}
-use Rattle.device.specs.declared.Fate.the-variants as fate
 use Rattle.device.specs.declared.Ru.{Ru}
 use Rattle.device.specs.declared.Units.{Units}
 
@@ -42,14 +41,14 @@ pub record Part : Type 0 where
 abbrev pub partOf : Units → List ℕ → Part
 partOf u holding = record { base = u .base; scb = u .scb; unit = u .ru; holding = holding }
 
--- ---- what a service comes to: the unit afterwards, the writes in their order, the events raised, the held frame's fate
+-- ---- what a service comes to: the unit afterwards, the writes in their order, the events raised, the fates of held frames
 
 pub record Service : Type 0 where
   pub unit : Ru
   pub writes : List Write
   pub raised : Events
-  pub fate : Fate
+  pub fates : List Fate
 
 -- a service that raises nothing and settles nothing
 abbrev pub quietly : Ru → List Write → Service
-quietly unit writes = record { unit = unit; writes = writes; raised = noEvents; fate = fate.Nothing }
+quietly unit writes = record { unit = unit; writes = writes; raised = noEvents; fates = [] }
