@@ -22,7 +22,7 @@ use Rattle.chip.specs.Call.{Call, reset, attention, arrive, turn, ran}
 use Rattle.calls.specs.Calls.{Areas, areasRight, refusalOf, onBytes, calledBy, attentionCall, arrivalCall, turnCall, resetCall}
 use Rattle.calls.proofs.Laws.{accepted}
 use Rattle.traces.specs.Bytes.{called}
-use Rattle.kinds.specs.Demands.{Sound, lentOf}
+use Rattle.kinds.specs.Demands.{Acceptable, lentOf}
 
 pub lengths-right : (a : Areas) → length (a .holding) ≡ areaSize → length (a .outgoing) ≡ areaSize → length (a .kept) ≡ recordSize
     → areasRight a ≡ true
@@ -38,7 +38,7 @@ module _ (d : Device) (m h out : List ℕ) where
       (le-leb (length f) longest l) (decode-image d w e)
       ∙ ap (λ (x : Device). onBytes (run (worldOf x m h out))) (device-back d w)
 
-  pub accepted-call : (c : Call) → Sound c d m h out → called c (lentOf d m h out) ≡ onBytes (ran c (worldOf d m h out))
+  pub accepted-call : (c : Call) → Acceptable c d m h out → called c (lentOf d m h out) ≡ onBytes (ran c (worldOf d m h out))
   unfolding attentionCall arrivalCall turnCall resetCall
   accepted-call reset s = rw (eq-eqb (length (imageOf d)) recordSize (length-image d (s .wide .own) (s .wide .listed)))
   accepted-call attention s = any-run [] attentionOf (s .size) (s .holding) (s .outgoing) (omega arith) (s .wide) (s .range)

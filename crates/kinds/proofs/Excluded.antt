@@ -22,7 +22,7 @@ use Rattle.kinds.specs.Chips.{Chip, Meets}
 use Rattle.kinds.specs.Demands.{Demand1, lentOf, AsDefined, Demand2}
 use Rattle.kinds.specs.Kinds.{RefusesAll, OneAnswer, MemoryAsLent, settingsIn, SetsNothing, MeasuresNothing, SendsNothing, MarksOnly, Invented, anotherCounter, anotherEdge, Invents}
 use Rattle.kinds.proofs.Ours.{has-demand1, has-demand2}
-use Rattle.kinds.proofs.Witness.{zeros, area, attending, turning, sound-on, handed-on, firstly, idly, first-answer, idle-answer, first-status, zero-status, block, withUnit, turned, settingUp, setting-wide, setting-range, setting-done, was-set, is-set, measuring, measuring-wide, measuring-range, measuring-done, measured, begun, sending, sending-wide, sending-range, sending-done, sent-length, not-done, not-measured}
+use Rattle.kinds.proofs.Witness.{zeros, area, attending, turning, acceptable-on, handed-on, firstly, idly, first-answer, idle-answer, first-status, zero-status, block, withUnit, turned, settingUp, setting-wide, setting-range, setting-done, was-set, is-set, measuring, measuring-wide, measuring-range, measuring-done, measured, begun, sending, sending-wide, sending-range, sending-done, sent-length, not-done, not-measured}
 
 module _ (chip : Chip) where
   -- ---- refuses everything: table of refusals, demand 1. A fresh record is to be given 0 at a turn
@@ -31,7 +31,7 @@ module _ (chip : Chip) where
   refuses-lacks-1 k d =
       let a = lentOf fresh zeros area area in
       let l = handed-on (turn 0) fresh turning fresh-wide in
-      let s = sound-on (turn 0) fresh (omega arith) fresh-wide fresh-range in
+      let s = acceptable-on (turn 0) fresh (omega arith) fresh-wide fresh-range in
       let more : 0 < number (chip .calls (chip .first) (turn 0) a .answer) = k .each (chip .first) (turn 0) fresh zeros area area s l in
       let none : number (chip .calls (chip .first) (turn 0) a .answer) ≡ 0 =
       d .each (chip .first) (turn 0) a l .given refusal.Accepted (
@@ -51,22 +51,22 @@ module _ (chip : Chip) where
   module _ (d : Demand2 chip) where
     at-first : AsDefined firstly (chip .calls (chip .first) attention (lentOf fresh zeros area area))
     at-first =
-        d .each (chip .first) attention fresh zeros area area (sound-on attention fresh (omega arith) fresh-wide fresh-range)
+        d .each (chip .first) attention fresh zeros area area (acceptable-on attention fresh (omega arith) fresh-wide fresh-range)
         (handed-on attention fresh attending fresh-wide)
 
     at-turn : AsDefined idly (chip .calls (chip .first) (turn 0) (lentOf fresh zeros area area))
     at-turn =
-        d .each (chip .first) (turn 0) fresh zeros area area (sound-on (turn 0) fresh (omega arith) fresh-wide fresh-range)
+        d .each (chip .first) (turn 0) fresh zeros area area (acceptable-on (turn 0) fresh (omega arith) fresh-wide fresh-range)
         (handed-on (turn 0) fresh turning fresh-wide)
 
   pub one-answer-lacks-2 : OneAnswer chip → Demand2 chip → ⊥
   one-answer-lacks-2 k d =
       let x =
-      k .each (chip .first) attention fresh zeros area area (sound-on attention fresh (omega arith) fresh-wide fresh-range)
+      k .each (chip .first) attention fresh zeros area area (acceptable-on attention fresh (omega arith) fresh-wide fresh-range)
       (handed-on attention fresh attending fresh-wide)
       in
       let y =
-      k .each (chip .first) (turn 0) fresh zeros area area (sound-on (turn 0) fresh (omega arith) fresh-wide fresh-range)
+      k .each (chip .first) (turn 0) fresh zeros area area (acceptable-on (turn 0) fresh (omega arith) fresh-wide fresh-range)
       (handed-on (turn 0) fresh turning fresh-wide)
       in
       let p : k .answer ≡ 4294967296 = sym x ∙ at-first d .answer ∙ first-answer in
@@ -81,7 +81,7 @@ module _ (chip : Chip) where
   pub as-lent-lacks-2 : MemoryAsLent chip → Demand2 chip → ⊥
   as-lent-lacks-2 k d =
       let x =
-      k .each (chip .first) attention fresh zeros area area (sound-on attention fresh (omega arith) fresh-wide fresh-range)
+      k .each (chip .first) attention fresh zeros area area (acceptable-on attention fresh (omega arith) fresh-wide fresh-range)
       (handed-on attention fresh attending fresh-wide)
       in
       let same : firstly .memory ≡ zeros = sym (at-first d .memory) ∙ x in
@@ -95,7 +95,7 @@ module _ (chip : Chip) where
 
   pub sets-nothing-lacks-2 : SetsNothing chip → Demand2 chip → ⊥
   sets-nothing-lacks-2 k d =
-      let s = sound-on (turn 0) (withUnit settingUp) (omega arith) setting-wide setting-range in
+      let s = acceptable-on (turn 0) (withUnit settingUp) (omega arith) setting-wide setting-range in
       let l = handed-on (turn 0) (withUnit settingUp) turning setting-wide in
       let r = d .each (chip .first) (turn 0) (withUnit settingUp) zeros area area s l in
       let x =
@@ -110,7 +110,7 @@ module _ (chip : Chip) where
 
   pub measures-nothing-lacks-2 : MeasuresNothing chip → Demand2 chip → ⊥
   measures-nothing-lacks-2 k d =
-      let s = sound-on (turn 0) (withUnit measuring) (omega arith) measuring-wide measuring-range in
+      let s = acceptable-on (turn 0) (withUnit measuring) (omega arith) measuring-wide measuring-range in
       let l = handed-on (turn 0) (withUnit measuring) turning measuring-wide in
       let r = d .each (chip .first) (turn 0) (withUnit measuring) zeros area area s l in
       let x =
@@ -122,7 +122,7 @@ module _ (chip : Chip) where
 
   pub sends-nothing-lacks-2 : SendsNothing chip → Demand2 chip → ⊥
   sends-nothing-lacks-2 k d =
-      let s = sound-on (turn 0) (withUnit sending) (omega arith) sending-wide sending-range in
+      let s = acceptable-on (turn 0) (withUnit sending) (omega arith) sending-wide sending-range in
       let l = handed-on (turn 0) (withUnit sending) turning sending-wide in
       let r = d .each (chip .first) (turn 0) (withUnit sending) zeros area area s l in
       let x =
@@ -156,7 +156,7 @@ module _ (chip : Chip) where
 
   pub invents-lacks-2 : Invents chip → Demand2 chip → ⊥
   invents-lacks-2 k d =
-      let r = d .each (k .inner) (k .call) (k .device) (k .memory) (k .holding) (k .outgoing) (k .sound) (k .lent) in
+      let r = d .each (k .inner) (k .call) (k .device) (k .memory) (k .holding) (k .outgoing) (k .acceptable) (k .lent) in
       nothing-invented (k .device) _ _ r (k .invented)
 
   pub no-invents : Invents chip → Meets chip → ⊥

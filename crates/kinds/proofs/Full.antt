@@ -16,7 +16,7 @@ use Rattle.lists.proofs.Whole.{attention-list-done}
 use Rattle.kinds.specs.Chips.{Chip}
 use Rattle.kinds.specs.Demands.{Demand2}
 use Rattle.kinds.specs.Closed.{Right}
-use Rattle.kinds.specs.Lists.{Fair, DoneAsIn2}
+use Rattle.kinds.specs.Lists.{AllAcceptable, DoneAsIn2}
 use Rattle.kinds.proofs.Third.{along}
 use Rattle.kinds.proofs.Witness.{attending}
 use Rattle.kinds.proofs.Closing.{closing}
@@ -26,7 +26,7 @@ pub record ListDone (chip : Chip) (s : chip .Inner) (bs : List ℕ) (es : List E
   pub done : Done bs es (step (call attention) w)
   pub shown : DoneAsIn2 chip s (call attention ∷ es) w
 
-pub every-list-done : (chip : Chip) → Demand2 chip → (s : chip .Inner) (bs : List ℕ) (es : List Event) (w : World) → Right w → Fair es → Starts w
+pub every-list-done : (chip : Chip) → Demand2 chip → (s : chip .Inner) (bs : List ℕ) (es : List Event) (w : World) → Right w → AllAcceptable es → Starts w
     → firstOf bs ≡ wordAt (w .memory) (ofScb (w .device .units) cblAt)
     → Listed (step (call attention) w .device .units .base) (step (call attention) w .memory) bs
     → Premises DuringList bs es (step (call attention) w)

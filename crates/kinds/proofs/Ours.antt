@@ -22,7 +22,7 @@ use Rattle.kinds.specs.Chips.{Chip, ours, Handed, Meets}
 use Rattle.traces.specs.Areas.{Holds}
 use Rattle.closure.specs.Refusals.{AreasRight, FrameRight, When, Untouched}
 use Rattle.closure.proofs.Refusals.{table, some-line, untouched}
-use Rattle.kinds.specs.Demands.{Tabled, Demand1, Sound, lentOf, AsDefined, Demand2}
+use Rattle.kinds.specs.Demands.{Tabled, Demand1, Acceptable, lentOf, AsDefined, Demand2}
 use Rattle.kinds.proofs.Equal.{permits, ours-meets, as-called}
 use Rattle.kinds.proofs.Accepted.{accepted-call}
 
@@ -88,7 +88,7 @@ module _ (chip : Chip) (one : Demand1 chip) (two : Demand2 chip) (s : chip .Inne
       → chip .calls s c a ≡ called c a
   on-state c a l n g f (d, i) =
       let m = a .memory in
-      let k : Sound c (d) m (a .holding) (a .outgoing) =
+      let k : Acceptable c (d) m (a .holding) (a .outgoing) =
       record { size = n; holding = g .holding; outgoing = g .outgoing; frame = f; wide = i .wide; range = i .range }
       in
       let at = lentOf (d) m (a .holding) (a .outgoing) in

@@ -14,7 +14,7 @@ use Rattle.traces.specs.Bytes.{edge}
 use Rattle.kinds.specs.Chips.{Chip, chipRun}
 use Rattle.kinds.specs.Lists.{All, turnsOf}
 use Rattle.kinds.specs.Kinds.{RefusesAll, OneAnswer, MemoryAsLent, FirstOnly, anotherEdge, Invents}
-use Rattle.kinds.proofs.Witness.{zeros, area, turning, sound-on, handed-on, idly, idle-answer}
+use Rattle.kinds.proofs.Witness.{zeros, area, turning, acceptable-on, handed-on, idly, idle-answer}
 
 -- it leaves all as lent and answers n
 abbrev pub stub : ℕ → Chip
@@ -55,7 +55,7 @@ stub-invents =
       memory = zeros;
       holding = area;
       outgoing = area;
-      sound = sound-on (turn 0) fresh (omega arith) fresh-wide fresh-range;
+      acceptable = acceptable-on (turn 0) fresh (omega arith) fresh-wide fresh-range;
       lent = handed-on (turn 0) fresh turning fresh-wide;
       invented =
           anotherEdge (λ e. let z : edge (answerNumber (idly .outcome .answer)) ≡ 0 = ap edge idle-answer in omega (arith, e, z));

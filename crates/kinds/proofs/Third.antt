@@ -26,9 +26,9 @@ use Rattle.traces.specs.Areas.{Hosted, shown}
 use Rattle.traces.specs.Event.{Event, call, host, step}
 use Rattle.closure.specs.Refusals.{FrameRight}
 use Rattle.kinds.specs.Chips.{Chip, ours, Given, Handed, Meets, chipRun, chipAnswers}
-use Rattle.kinds.specs.Demands.{Sound, Demand2}
+use Rattle.kinds.specs.Demands.{Acceptable, Demand2}
 use Rattle.kinds.specs.Closed.{Right, Closed}
-use Rattle.kinds.specs.Lists.{turnsOf, AllReports, Fair, DoneAsIn2, Demand3}
+use Rattle.kinds.specs.Lists.{turnsOf, AllReports, AllAcceptable, DoneAsIn2, Demand3}
 use Rattle.kinds.specs.Kinds.{InventedAlong, anotherCount, anotherEdges, InventsAlong}
 use Rattle.kinds.proofs.Equal.{all-areas}
 use Rattle.kinds.proofs.Ours.{has-demand2, ours-demand2}
@@ -36,8 +36,8 @@ use Rattle.kinds.proofs.Witness.{attending}
 use Rattle.kinds.proofs.Runs.{runs}
 use Rattle.kinds.proofs.Start.{list-ends}
 
-right-sound : (c : Call) (w : World) → FrameRight c → Right w → Sound c (w .device) (w .memory) (w .holding) (w .outgoing)
-right-sound c w f r =
+right-acceptable : (c : Call) (w : World) → FrameRight c → Right w → Acceptable c (w .device) (w .memory) (w .holding) (w .outgoing)
+right-acceptable c w f r =
     let a = r .areas in
     record { size = a .size; holding = a .holding; outgoing = a .outgoing; frame = f; wide = r .wide; range = r .range }
 
@@ -55,8 +55,8 @@ right-handed c w g r =
           };
     }
 
-sound-right : (c : Call) (w : World) → Sound c (w .device) (w .memory) (w .holding) (w .outgoing) → Handed c (shown w) → Right w
-sound-right c w s l =
+acceptable-right : (c : Call) (w : World) → Acceptable c (w .device) (w .memory) (w .holding) (w .outgoing) → Handed c (shown w) → Right w
+acceptable-right c w s l =
     record {
       areas =
           record {
@@ -81,9 +81,9 @@ hosted : (w : World) (m h out : List ℕ) → Hosted m h out → Right w → Rig
 hosted w m h out k r = record { areas = k; wide = r .wide; range = r .range }
 
 -- turns
-fair-turns : (rs : List ℕ) → AllReports rs → Fair (turnsOf rs)
-fair-turns [] p = tt
-fair-turns (r ∷ rs) p = (record { frame = bytes-nil; numbers = p .0 }, lit≤ tt, fair-turns rs (p .1))
+acceptable-turns : (rs : List ℕ) → AllReports rs → AllAcceptable (turnsOf rs)
+acceptable-turns [] p = tt
+acceptable-turns (r ∷ rs) p = (record { frame = bytes-nil; numbers = p .0 }, lit≤ tt, acceptable-turns rs (p .1))
 
 through-runs : (rs : List ℕ) (w : World) → run step (turnsOf rs) w ≡ runs rs w
 through-runs [] w = refl
@@ -94,17 +94,17 @@ module _ (closed : Closed) (chip : Chip) (q : Demand2 chip) where
   goes-along : (s : chip .Inner) (c : Call) (w : World) → Given c → FrameRight c → Right w
       → chip .calls s c (shown w) .areas ≡ shown (afterwards (ran c w))
   goes-along s c w g f r =
-      let a = q .each s c (w .device) (w .memory) (w .holding) (w .outgoing) (right-sound c w f r) (right-handed c w g r) in
+      let a = q .each s c (w .device) (w .memory) (w .holding) (w .outgoing) (right-acceptable c w f r) (right-handed c w g r) in
       all-areas (chip .calls s c (shown w) .areas) (ran c w .memory) (ran c w .holding) (ran c w .outgoing) (imageOf (ran c w .outcome .device))
       (a .memory) (a .holding) (a .outgoing) (a .kept)
 
   answers-alike : (s : chip .Inner) (c : Call) (w : World) → Given c → FrameRight c → Right w
       → chip .calls s c (shown w) .answer ≡ answerNumber (ran c w .outcome .answer)
   answers-alike s c w g f r =
-      q .each s c (w .device) (w .memory) (w .holding) (w .outgoing) (right-sound c w f r) (right-handed c w g r) .answer
+      q .each s c (w .device) (w .memory) (w .holding) (w .outgoing) (right-acceptable c w f r) (right-handed c w g r) .answer
 
   -- so it is along every run, whatever happens: all that is shown of the definitions' runs holds of such a chip's
-  pub along : (es : List Event) (s : chip .Inner) (w : World) → Fair es → Right w → DoneAsIn2 chip s es w
+  pub along : (es : List Event) (s : chip .Inner) (w : World) → AllAcceptable es → Right w → DoneAsIn2 chip s es w
   along [] s w f r = record { areas = refl; answers = refl }
   along (call c ∷ es) s w f r =
       let s′ = chip .next s c (shown w) in
@@ -126,7 +126,7 @@ module _ (closed : Closed) (chip : Chip) (q : Demand2 chip) where
             let w = worldOf d m h out in
             let v = afterwards (attentionOf w) in
             let over = list-ends w b bs start rs (omega (arith, k .size .least)) (omega (arith, n)) in
-            let run-is = along (call attention ∷ turnsOf rs) s w (attending, lit≤ tt, fair-turns rs p) (sound-right attention w k l) .areas in
+            let run-is = along (call attention ∷ turnsOf rs) s w (attending, lit≤ tt, acceptable-turns rs p) (acceptable-right attention w k l) .areas in
             let same = ap (λ (a : Areas). a .memory) run-is ∙ ap (λ (x : World). x .memory) (through-runs rs v) in
             record {
               done = rw same (over .done);
@@ -134,7 +134,7 @@ module _ (closed : Closed) (chip : Chip) (q : Demand2 chip) where
             };
         as-in-2 =
             λ s d m h out b bs es k l start f c.
-            let w = worldOf d m h out in along (call attention ∷ es) s w (attending, lit≤ tt, f) (sound-right attention w k l);
+            let w = worldOf d m h out in along (call attention ∷ es) s w (attending, lit≤ tt, f) (acceptable-right attention w k l);
       }
 
 pub meets-demand3 : Closed → (chip : Chip) → Meets chip → Demand3 chip
@@ -154,7 +154,7 @@ module _ (chip : Chip) where
   pub invents-along-lacks-3 : InventsAlong chip → Demand3 chip → ⊥
   invents-along-lacks-3 k d =
       let same =
-      d .as-in-2 (k .inner) (k .device) (k .memory) (k .holding) (k .outgoing) (k .first) (k .rest) (k .events) (k .sound) (k .lent) (k .start)
-      (k .fair) (k .calm)
+      d .as-in-2 (k .inner) (k .device) (k .memory) (k .holding) (k .outgoing) (k .first) (k .rest) (k .events) (k .acceptable) (k .lent) (k .start)
+      (k .all-acceptable) (k .calm)
       in
       none-along (k .device) _ _ _ _ (same .areas) (same .answers) (k .invented)

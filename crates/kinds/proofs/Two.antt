@@ -38,7 +38,7 @@ use Rattle.calls.specs.Calls.{Areas}
 use Rattle.traces.specs.Event.{Event, call}
 use Rattle.closure.specs.Refusals.{FrameRight}
 use Rattle.kinds.specs.Chips.{Chip, Given, Handed, Meets, chipRun}
-use Rattle.kinds.specs.Demands.{Sound, lentOf, Demand2}
+use Rattle.kinds.specs.Demands.{Acceptable, lentOf, Demand2}
 use Rattle.kinds.specs.Lists.{Starting, turnsOf, AllReports, started, Demand3}
 use Rattle.kinds.specs.Kinds.{FirstOnly}
 use Rattle.kinds.proofs.Equal.{all-areas}
@@ -71,8 +71,8 @@ two-bytes =
 
 -- ---- what is lent, whatever writes have been made
 
-pub sound-two : (c : Call) (d : Device) (m : List ℕ) → FrameRight c → length m ≡ 8192 → Wide d → inRange d ≡ true → Sound c d m area area
-sound-two c d m f n w e =
+pub acceptable-two : (c : Call) (d : Device) (m : List ℕ) → FrameRight c → length m ≡ 8192 → Wide d → inRange d ≡ true → Acceptable c d m area area
+acceptable-two c d m f n w e =
     record {
       size = rw n smallest;
       holding = length-replicate {A = ℕ} areaSize 0;
@@ -148,7 +148,7 @@ module _ (chip : Chip) where
   -- before, and has no C ever after
   pub first-only-lacks-3 : FirstOnly chip → Demand3 chip → ⊥
   first-only-lacks-3 k d =
-      let s = sound-two attention idle two (omega arith) two-size idle-wide idle-range in
+      let s = acceptable-two attention idle two (omega arith) two-size idle-wide idle-range in
       let l = handed-two attention idle two attending two-bytes idle-wide in
       let n = length-replicate {A = ℕ} 264 0 in
       let same = k .each (chip .first) idle two area area one (other ∷ []) (replicate 264 0) s l starting (zero-reports 264) .0 in
@@ -238,7 +238,7 @@ size3 = length-apply (wordTo 0x40 0xA000 ∷ []) m2 ∙ size2
 module _ (chip : Chip) (q : Demand2 chip) where
   -- a chip that has demand 2 goes the same way
   leads : (s : chip .Inner) (c : Call) (cs : List Event) (d : Device) (m : List ℕ) (d′ : Device) (m′ : List ℕ) → Goes c d m d′ m′
-      → Sound c d m area area → Handed c (lentOf d m area area)
+      → Acceptable c d m area area → Handed c (lentOf d m area area)
       → chipRun chip s (call c ∷ cs) (lentOf d m area area) ≡ chipRun chip (chip .next s c (lentOf d m area area)) cs (lentOf d′ m′ area area)
   leads s c cs d m d′ m′ g k l =
       let r = q .each s c d m area area k l in
@@ -251,26 +251,26 @@ module _ (chip : Chip) (q : Demand2 chip) where
   first-three s =
       let e1 =
       leads s attention (turnsOf (0 ∷ 0 ∷ 0 ∷ [])) idle two (withUnit (cu.Waiting one)) m1 starts
-      (sound-two attention idle two (omega arith) two-size idle-wide idle-range) (handed-two attention idle two attending two-bytes idle-wide)
+      (acceptable-two attention idle two (omega arith) two-size idle-wide idle-range) (handed-two attention idle two attending two-bytes idle-wide)
       in
       let s1 = chip .next s attention (lentOf idle two area area) in
       let w1 = waiting-wide one (omega arith) in
       let e2 =
       leads s1 (turn 0) (turnsOf (0 ∷ 0 ∷ [])) (withUnit (cu.Waiting one)) m1 (withUnit nop) m2 begins
-      (sound-two (turn 0) (withUnit (cu.Waiting one)) m1 (omega arith) size1 w1 (waiting-range one))
+      (acceptable-two (turn 0) (withUnit (cu.Waiting one)) m1 (omega arith) size1 w1 (waiting-range one))
       (handed-two (turn 0) (withUnit (cu.Waiting one)) m1 turning bytes1 w1)
       in
       let s2 = chip .next s1 (turn 0) (lentOf (withUnit (cu.Waiting one)) m1 area area) in
       let e3 =
       leads s2 (turn 0) (turnsOf (0 ∷ [])) (withUnit nop) m2 (withUnit (cu.Waiting other)) m3 ends
-      (sound-two (turn 0) (withUnit nop) m2 (omega arith) size2 nop-wide nop-range)
+      (acceptable-two (turn 0) (withUnit nop) m2 (omega arith) size2 nop-wide nop-range)
       (handed-two (turn 0) (withUnit nop) m2 turning bytes2 nop-wide)
       in
       let s3 = chip .next s2 (turn 0) (lentOf (withUnit nop) m2 area area) in
       let w3 = waiting-wide other (omega arith) in
       let last =
       q .each s3 (turn 0) (withUnit (cu.Waiting other)) m3 area area
-      (sound-two (turn 0) (withUnit (cu.Waiting other)) m3 (omega arith) size3 w3 (waiting-range other))
+      (acceptable-two (turn 0) (withUnit (cu.Waiting other)) m3 (omega arith) size3 w3 (waiting-range other))
       (handed-two (turn 0) (withUnit (cu.Waiting other)) m3 turning bytes3 w3)
       in
       let e : started chip s (turnsOf (0 ∷ 0 ∷ 0 ∷ [])) (lentOf idle two area area) .memory ≡ m4 =
@@ -283,7 +283,7 @@ module _ (chip : Chip) where
   first-only-lacks-2 k d =
       let same =
       k .each (chip .first) idle two area area one (other ∷ []) (0 ∷ 0 ∷ 0 ∷ [])
-      (sound-two attention idle two (omega arith) two-size idle-wide idle-range)
+      (acceptable-two attention idle two (omega arith) two-size idle-wide idle-range)
       (handed-two attention idle two attending two-bytes idle-wide) starting (zero-reports 3) .0
       in
       omega (arith, same, other-clear, first-three chip d (chip .first))

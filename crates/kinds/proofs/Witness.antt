@@ -40,7 +40,7 @@ use Rattle.calls.specs.Calls.{answerNumber}
 use Rattle.traces.specs.Bytes.{sentLength}
 use Rattle.closure.specs.Refusals.{FrameRight}
 use Rattle.kinds.specs.Chips.{Given, Handed}
-use Rattle.kinds.specs.Demands.{Sound, lentOf}
+use Rattle.kinds.specs.Demands.{Acceptable, lentOf}
 use Rattle.kinds.specs.Kinds.{settingsIn}
 
 -- ---- the areas
@@ -67,8 +67,8 @@ zeros-allowed = rw (length-replicate {A = ℕ} 8192 0) smallest
 
 -- ---- a state in range on them is a call that is not refused
 
-pub sound-on : (c : Call) (d : Device) → FrameRight c → Wide d → inRange d ≡ true → Sound c d zeros area area
-sound-on c d f w e =
+pub acceptable-on : (c : Call) (d : Device) → FrameRight c → Wide d → inRange d ≡ true → Acceptable c d zeros area area
+acceptable-on c d f w e =
     record {
       size = zeros-allowed;
       holding = length-replicate {A = ℕ} areaSize 0;

@@ -36,7 +36,7 @@ pub record Demand1 (chip : Chip) : Type 0 where
 -- ---- demand 2: after each call that is not refused, memory, areas, record and answer are what the definitions say of the state
 
 -- a state in range, in areas of the right lengths: such a call is not refused
-pub record Sound (c : Call) (d : Device) (m h out : List ℕ) : Type 0 where
+pub record Acceptable (c : Call) (d : Device) (m h out : List ℕ) : Type 0 where
   pub size : Allowed (length m)
   pub holding : length h ≡ areaSize
   pub outgoing : length out ≡ areaSize
@@ -57,7 +57,7 @@ pub record AsDefined (said : Ran) (r : Called) : Type 0 where
   pub interrupt : not (eqb (getD (r .areas .kept) 5 0) 0) ≡ anyOf (said .outcome .device .units .events)
 
 pub record Demand2 (chip : Chip) : Type 0 where
-  pub each : (s : chip .Inner) (c : Call) (d : Device) (m h out : List ℕ) → Sound c d m h out → Handed c (lentOf d m h out)
+  pub each : (s : chip .Inner) (c : Call) (d : Device) (m h out : List ℕ) → Acceptable c d m h out → Handed c (lentOf d m h out)
       → AsDefined (ran c (worldOf d m h out)) (chip .calls s c (lentOf d m h out))
   -- reset ignores the record's content
   pub renewed : (s : chip .Inner) (a : Areas) → Handed reset a → length (a .kept) ≡ recordSize

@@ -28,14 +28,14 @@ use Rattle.traces.specs.Bytes.{number, sentLength, edge}
 use Rattle.progress.specs.Trace.{run, AllMay}
 use Rattle.traces.specs.Event.{Event, call, step, answersOf, Calm}
 use Rattle.kinds.specs.Chips.{Chip, Handed, chipAnswers}
-use Rattle.kinds.specs.Demands.{Demand1, Sound, lentOf, Demand2}
-use Rattle.kinds.specs.Lists.{All, Starting, turnsOf, AllReports, started, Fair, Demand3}
+use Rattle.kinds.specs.Demands.{Demand1, Acceptable, lentOf, Demand2}
+use Rattle.kinds.specs.Lists.{All, Starting, turnsOf, AllReports, started, AllAcceptable, Demand3}
 
 -- at every call that is not to be refused, something is so of what is lent and what is left; a chip of which it is so at every call is of the
 -- kind too
 abbrev pub AtAccepted : (chip : Chip) → (Areas → Called → Type 0) → Type 0
 AtAccepted chip p =
-    (s : chip .Inner) (c : Call) (d : Device) (m h out : List ℕ) → Sound c d m h out → Handed c (lentOf d m h out)
+    (s : chip .Inner) (c : Call) (d : Device) (m h out : List ℕ) → Acceptable c d m h out → Handed c (lentOf d m h out)
     → p (lentOf d m h out) (chip .calls s c (lentOf d m h out))
 
 -- ---- a chip that refuses everything: it answers a number above 0
@@ -72,7 +72,7 @@ pub record Completes (d : Device) (m : List ℕ) (r : Called) (o : Offset) : Typ
 -- at every such turn, something is so
 abbrev pub AtCompletion : (chip : Chip) → (Device → List ℕ → Offset → Called → Type 0) → Type 0
 AtCompletion chip p =
-    (s : chip .Inner) (report : ℕ) (d : Device) (m h out : List ℕ) (o : Offset) → Sound (turn report) d m h out
+    (s : chip .Inner) (report : ℕ) (d : Device) (m h out : List ℕ) (o : Offset) → Acceptable (turn report) d m h out
     → Handed (turn report) (lentOf d m h out)
     → Completes d m (chip .calls s (turn report) (lentOf d m h out)) o → p d m o (chip .calls s (turn report) (lentOf d m h out))
 
@@ -101,7 +101,7 @@ pub record MarksOnly (chip : Chip) : Type 0 where
 -- ---- one that serves the first command only: whatever the turns after the start, the status of every block after the first stays as it was
 pub record FirstOnly (chip : Chip) : Type 0 where
   pub each : (s : chip .Inner) (d : Device) (m h out : List ℕ) (b : Offset) (bs : List Offset) (reports : List ℕ)
-      → Sound attention d m h out → Handed attention (lentOf d m h out) → Starting d m b bs → AllReports reports
+      → Acceptable attention d m h out → Handed attention (lentOf d m h out) → Starting d m b bs → AllReports reports
       → All (λ o. wordAt (started chip s (turnsOf reports) (lentOf d m h out) .memory) (place (d .units .base) o blockStatusAt)
       ≡ wordAt m (place (d .units .base) o blockStatusAt)) bs
 
@@ -124,7 +124,7 @@ pub record Invents (chip : Chip) : Type 0 where
   pub memory : List ℕ
   pub holding : List ℕ
   pub outgoing : List ℕ
-  pub sound : Sound call device memory holding outgoing
+  pub acceptable : Acceptable call device memory holding outgoing
   pub lent : Handed call (lentOf device memory holding outgoing)
   pub invented : Invented device (ran call (worldOf device memory holding outgoing)) (chip .calls inner call (lentOf device memory holding outgoing))
 
@@ -145,10 +145,10 @@ pub record InventsAlong (chip : Chip) : Type 0 where
   pub first : Offset
   pub rest : List Offset
   pub events : List Event
-  pub sound : Sound attention device memory holding outgoing
+  pub acceptable : Acceptable attention device memory holding outgoing
   pub lent : Handed attention (lentOf device memory holding outgoing)
   pub start : Starting device memory first rest
-  pub fair : Fair events
+  pub all-acceptable : AllAcceptable events
   pub calm : AllMay Calm step events (step (call attention) (worldOf device memory holding outgoing))
   pub invented : InventedAlong device (started chip inner events (lentOf device memory holding outgoing))
       (chipAnswers chip inner (call attention ∷ events) (lentOf device memory holding outgoing))

@@ -27,7 +27,7 @@ use Rattle.traces.specs.Areas.{Hosted, shown}
 use Rattle.traces.specs.Event.{Event, call, host, step, answersOf, Calm}
 use Rattle.closure.specs.Refusals.{FrameRight}
 use Rattle.kinds.specs.Chips.{Chip, Given, Handed, chipRun, chipAnswers}
-use Rattle.kinds.specs.Demands.{Sound, lentOf}
+use Rattle.kinds.specs.Demands.{Acceptable, lentOf}
 
 -- ---- a list: 01, "Turns". The first block that has EL or S is the last, each other's link leads to the next
 
@@ -87,10 +87,10 @@ abbrev pub started : (chip : Chip) → chip .Inner → List Event → Areas → 
 started chip s es a = chipRun chip s (call attention ∷ es) a
 
 -- any events: calls that are not to be refused for what they bring; areas of bytes of the right lengths, as the host leaves them
-abbrev pub Fair : List Event → Type 0
-Fair [] = Unit {0}
-Fair (call c ∷ es) = Given c × FrameRight c × Fair es
-Fair (host m h out ∷ es) = Hosted m h out × Fair es
+abbrev pub AllAcceptable : List Event → Type 0
+AllAcceptable [] = Unit {0}
+AllAcceptable (call c ∷ es) = Given c × FrameRight c × AllAcceptable es
+AllAcceptable (host m h out ∷ es) = Hosted m h out × AllAcceptable es
 
 -- a block has C
 abbrev pub isDone : RealAddress → List ℕ → Offset → Type 0
@@ -112,10 +112,10 @@ pub record Demand3 (chip : Chip) : Type 0 where
   -- within 132 times n turns. It is asked of runs of turns while no frame is held: nothing but the commands' results and the SCB's status is
   -- written then. Arguments, descriptors and data may lie anywhere, since each block gets its C all the same
   pub within : (s : chip .Inner) (d : Device) (m h out : List ℕ) (b : Offset) (bs : List Offset) (reports : List ℕ)
-      → Sound attention d m h out → Handed attention (lentOf d m h out) → Starting d m b bs → AllReports reports
+      → Acceptable attention d m h out → Handed attention (lentOf d m h out) → Starting d m b bs → AllReports reports
       → 132 * length (b ∷ bs) ≤ length reports → Completed d (b ∷ bs) (started chip s (turnsOf reports) (lentOf d m h out) .memory)
   -- and at every moment after the start: turns, frames that arrive, whatever the host writes
   pub as-in-2 : (s : chip .Inner) (d : Device) (m h out : List ℕ) (b : Offset) (bs : List Offset) (es : List Event)
-      → Sound attention d m h out → Handed attention (lentOf d m h out) → Starting d m b bs → Fair es
+      → Acceptable attention d m h out → Handed attention (lentOf d m h out) → Starting d m b bs → AllAcceptable es
       → AllMay Calm step es (step (call attention) (worldOf d m h out))
       → DoneAsIn2 chip s (call attention ∷ es) (worldOf d m h out)

@@ -56,14 +56,14 @@ start-shows a d l h r =
 -- The starting attention is not refused; a is what it is lent, d the state of the record. Then come calls, refused or not, each with what it
 -- is lent. Once 132 n turns have come that are not refused, the list is done; and what stands in the areas, the record among them, is what
 -- the definitions leave
-pub lent-list-done : (May : Event → World → Type 0) → Laws machine May → (bs : List ℕ) (ls : List Lending) (a : Areas) (d : Device)
+pub bytes-list-done : (May : Event → World → Type 0) → Laws machine May → (bs : List ℕ) (ls : List Lending) (a : Areas) (d : Device)
     → AreBytes a → Holds (a .kept) d
     → isRefused (called attention a) ≡ false → Starts (worldIn d a) → firstOf bs ≡ wordAt (a .memory) (ofScb (d .units) cblAt)
     → Listed (step (call attention) (worldIn d a) .device .units .base) (step (call attention) (worldIn d a) .memory) bs
     → PremisesOnBytes May bs ls (called attention a .areas) (step (call attention) (worldIn d a))
     → Done bs (eventsOf ls) (step (call attention) (worldIn d a))
     × Shows (run left ls (called attention a .areas)) (run step (eventsOf ls) (step (call attention) (worldIn d a)))
-lent-list-done May K bs ls a d l h r s first listed p =
+bytes-list-done May K bs ls a d l h r s first listed p =
     let w = worldIn d a in
     let v = step (call attention) w in
     let least : 8192 ≤ length (v .memory) = subst (λ (n : ℕ). 8192 ≤ n) (sym (begins w s .size)) (size-least a r) in
@@ -91,7 +91,7 @@ pub areas-list-done : (bs : List ℕ) (ls : List Lending) (a : Areas) (d : Devic
 areas-list-done bs ls a d l h r s first listed fair apart intact count =
     let w = worldIn d a in
     let b : step (call attention) w .device .units .base ≡ d .units .base = ap (λ (p : Part). p .base) (begins w s .part) in
-    lent-list-done DuringList list-laws bs ls a d l h r s first (rw b listed)
+    bytes-list-done DuringList list-laws bs ls a d l h r s first (rw b listed)
     (record { fair = fair; apart = apart; intact = intact; turns = count })
 
 -- ---- runs of turns among the calls

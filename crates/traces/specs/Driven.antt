@@ -22,6 +22,7 @@ pub record Lending : Type 0 where
 abbrev pub lending : Call → Areas → Lending
 lending c a = record { made = c; lent = a }
 
+-- the call is refused
 abbrev pub refusedAt : Lending → Bool
 refusedAt l = isRefused (called (l .made) (l .lent))
 

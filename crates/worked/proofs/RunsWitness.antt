@@ -1,5 +1,5 @@
 -- What is asked where the host drives by runs of turns can be met: every trace of calls can be driven so, each turn that is not refused by a run
--- of budget 1; and so the worked list of `LentWitness`. Assumes nothing.
+-- of budget 1; and so the worked list of `BytesWitness`. Assumes nothing.
 use mathlib.Core.Path.{_≡_, refl, sym, ap, _∙_, subst}
 use mathlib.Core.Bool.{Bool, true, false}
 use mathlib.Core.List.{List, [], _∷_}
@@ -16,7 +16,7 @@ use Rattle.closure.specs.Turns.{turnsOn}
 use Rattle.closure.proofs.Turns.{run-accepted, run-is-turns, run-of-one}
 use Rattle.closure.proofs.Driven.{spread}
 use Rattle.lists.proofs.Bytes.{list-turns}
-use Rattle.worked.proofs.LentWitness.{first, worked, lent-premises}
+use Rattle.worked.proofs.BytesWitness.{first, worked, bytes-premises}
 
 -- ---- each turn that is not refused by a run
 
@@ -74,4 +74,4 @@ by-runs (l ∷ ls) a m =
 
 pub runs-met : AllFairDrive DuringList (byRuns worked) (called attention first .areas)
     × (unrolled (byRuns worked) ≡ worked) × (turnsDriven (byRuns worked) ≡ turns isTaken worked)
-runs-met = by-runs worked (called attention first .areas) (lent-premises .fair)
+runs-met = by-runs worked (called attention first .areas) (bytes-premises .fair)

@@ -27,7 +27,7 @@ use Rattle.lists.specs.OnBytes.{PremisesOnBytes}
 use Rattle.lists.proofs.Laws.{list-laws}
 use Rattle.worked.proofs.Tests.{keptb, and-l, and-r}
 use Rattle.worked.proofs.Witness.{cold, before, starts, begun, three, is-started, frame, early, writes, late, middle, busy, trace, premises}
-use Rattle.lists.proofs.Bytes.{start-shows, lent-list-done}
+use Rattle.lists.proofs.Bytes.{start-shows, bytes-list-done}
 use Rattle.lists.proofs.Lift.{lendings, lifted, refused-anywhere}
 use Rattle.lists.proofs.Accepted.{Right, accepts, right-again, Rights, all-accepted}
 
@@ -131,16 +131,16 @@ shows-begun =
     start-shows first (before .device) (right-first .bytes) (right-first .holds)
     (accepts attention first (before .device) right-first (lit≤ tt))
 
-pub lent-premises : PremisesOnBytes DuringList three worked (called attention first .areas) begun
-lent-premises =
+pub bytes-premises : PremisesOnBytes DuringList three worked (called attention first .areas) begun
+bytes-premises =
     refused-anywhere DuringList three [] (lendings trace (called attention first .areas)) stray (called attention first .areas) begun
     stray-refused
     (lifted three trace (called attention first .areas) begun shows-begun
     (all-accepted trace (called attention first .areas) (begun .device) started-right rights) premises)
 
-pub lent-done : Done three (eventsOf worked) begun
+pub bytes-done : Done three (eventsOf worked) begun
     × Shows (run left worked (called attention first .areas)) (run step (eventsOf worked) begun)
 unfolding keptb
-lent-done =
-    lent-list-done DuringList list-laws three worked first (before .device) (right-first .bytes) (right-first .holds)
-    (accepts attention first (before .device) right-first (lit≤ tt)) starts refl (is-started .listed) lent-premises
+bytes-done =
+    bytes-list-done DuringList list-laws three worked first (before .device) (right-first .bytes) (right-first .holds)
+    (accepts attention first (before .device) right-first (lit≤ tt)) starts refl (is-started .listed) bytes-premises
