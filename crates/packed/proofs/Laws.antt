@@ -14,7 +14,8 @@ use Rattle.device.specs.declared.Cu.the-variants as cu
 use Rattle.device.specs.declared.Ru.{Ru}
 use Rattle.device.specs.declared.Ru.the-variants as ru
 use Rattle.device.specs.declared.Units.{Units}
-use Rattle.phases.specs.Phases.{odd, numberOf, wordOf, cuTag, cuWord, cuOf, ruTag, ruWord, ruRest, ruOf}
+use Rattle.phases.specs.Fields.{odd}
+use Rattle.phases.specs.Phases.{numberOf, wordOf, cuTag, cuWord, cuOf, ruTag, ruWord, ruRest, ruOf}
 use Rattle.phases.proofs.Units.{one-below, cu-back, ru-back, word-back}
 use Rattle.packed.specs.Packed.{flagsBy, flagsOf, statusBy, statusOf, packedOf, scbIn, flagsIn, cuTagIn, ruTagIn, baseIn, CuIs, RuIs, UnitsWide, PackedIs}
 use Rattle.packed.specs.declared.Packed.{Packed}

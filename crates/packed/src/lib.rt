@@ -1,16 +1,24 @@
-// The units' state as four numbers: how the record keeps it, and how a call carries it from end to end without taking it apart.
-// It reads a field where one is needed and puts a unit back; specs/Packed.antt says which numbers are a state's.
+// The record's layout, for all of the code: the units' state as four numbers, which a call carries from end to end without taking it apart, and what
+// the commands set up. It reads a field where one is needed and puts a unit back; specs/Packed.antt says which numbers are a state's, specs/SetUp.antt
+// which bytes a setup's. The units' tags and words are in `cu` and `ru`, a setup's places in `setup`, the record's in `record`.
+pub mod cu;
+pub mod record;
+pub mod ru;
+pub mod setup;
+
 use memory::Offset;
 use memory::RealAddress;
 ghost use mathlib.Core.Path.{_≡_};
-ghost use Prim.Native.Nat.{_/_, _%_, _<_};
+ghost use Prim.Native.Nat.{_/_, _%_, _<_, _^_};
 ghost use Rattle.scb.specs.Words as words;
 ghost use Rattle.scb.specs.declared.Events.{Events};
 ghost use Rattle.device.specs.Change as change;
 ghost use Rattle.device.specs.declared.Cu.{Cu};
 ghost use Rattle.device.specs.declared.Ru.{Ru};
 ghost use Rattle.device.specs.declared.Units.{Units};
-ghost use Rattle.phases.specs.Phases.{odd};
+ghost use Rattle.phases.specs.Fields as fields;
+ghost use Rattle.phases.specs.Fields.{odd};
+ghost use Rattle.phases.specs.Phases as phases;
 ghost use Rattle.packed.specs.Packed as kept;
 
 // The status: events, flags, the units' tags, the SCB's offset, the base. Then the command unit's word, and the receive unit's two.
@@ -21,47 +29,95 @@ pub struct Packed {
     pub rest: u64,
 }
 
-// ---- what is read of the status
+// ---- the status
+
+// From the lowest bit on: four that are zero, the events, the command unit's tag and a zero, the marks and two zeros, the receive unit's tag, the
+// SCB's offset, the base. The marks are initialised and RU served last.
+pub const EVENTS: u64 = 1 << 4;
+
+const CU: u64 = 1 << 8;
+
+const MARKS: u64 = 1 << 12;
+
+const RU: u64 = 1 << 16;
+
+pub const SCB: u64 = 1 << 24;
+
+pub const BASE: u64 = 1 << 40;
+
+// How many numbers a field holds.
+const EVENT_SETS: u64 = 1 << 4;
+
+const CU_TAGS: u64 = 1 << 3;
+
+const MARK_SETS: u64 = 1 << 2;
+
+const RU_TAGS: u64 = 1 << 8;
+
+const OFFSETS: u64 = 1 << 16;
+
+const BASES: u64 = 1 << 24;
 
 pub fn base(k: Packed) -> RealAddress
     ensures { λ r. ⌜ r .0 ≡ kept.baseIn k ⌝ }
 {
-    memory::recalled((k.status / 1099511627776) as u32)
+    memory::recalled((k.status / BASE) as u32)
 }
 
 pub fn scb(k: Packed) -> Offset
     ensures { λ r. ⌜ r .0 ≡ kept.scbIn k ⌝ }
 {
-    Offset((k.status / 16777216 % 65536) as u16)
+    Offset((k.status / SCB % OFFSETS) as u16)
 }
 
 // Bit 0 initialised, bit 1 RU served last, bits 7 to 4 the events.
 pub fn flags(k: Packed) -> u64
     ensures { λ r. ⌜ r ≡ kept.flagsIn k ⌝ }
 {
-    k.status / 4096 % 4 + 16 * (k.status / 16 % 16)
+    k.status / MARKS % MARK_SETS + EVENTS * (k.status / EVENTS % EVENT_SETS)
 }
 
 // The events as a number below 16.
 pub fn events(k: Packed) -> u64
-    ensures { λ r. ⌜ r ≡ kept.flagsIn k / 16 ⌝ }
+    ensures { λ r. ⌜ r ≡ kept.flagsIn k / 2 ^ 4 ⌝ }
 {
-    k.status / 16 % 16
+    k.status / EVENTS % EVENT_SETS
 }
 
 pub fn cu_tag(k: Packed) -> u64
     ensures { λ r. ⌜ r ≡ kept.cuTagIn k ⌝ }
 {
-    k.status / 256 % 8
+    k.status / CU % CU_TAGS
 }
 
 pub fn ru_tag(k: Packed) -> u64
     ensures { λ r. ⌜ r ≡ kept.ruTagIn k ⌝ }
 {
-    k.status / 65536 % 256
+    k.status / RU % RU_TAGS
 }
 
-// ---- what is read of a unit's word
+// ---- a unit's word
+
+// From the lowest byte on: two of an offset, one of flags, one of kind, two of size, two of the next offset. A begun command is below its kind; the
+// units' flags are the modules' to say.
+const FLAGS: u64 = 1 << 16;
+
+const KIND: u64 = 1 << 24;
+
+const SIZE: u64 = 1 << 32;
+
+const NEXT: u64 = 1 << 48;
+
+const FLAG_SETS: u64 = 1 << 8;
+
+const KINDS: u64 = 1 << 8;
+
+const SIZES: u64 = 1 << 16;
+
+// The largest word with an offset alone, and with all but the next offset.
+pub const OFFSET_MOST: u64 = FLAGS - 1;
+
+pub const SIZED_MOST: u64 = NEXT - 1;
 
 // Whether the bit is set whose value is `at`.
 pub fn flag(n: u64, at: u64) -> bool
@@ -71,28 +127,48 @@ pub fn flag(n: u64, at: u64) -> bool
     n / at % 2 == 1
 }
 
-pub fn at_of(n: u64) -> Offset
-    ensures { λ r. ⌜ r .0 ≡ n % 65536 ⌝ }
+// A flag as a number.
+pub fn bit(b: bool) -> u64
+    ensures { λ r. ⌜ (r ≡ words.one b) × (r < 2) ⌝ }
 {
-    Offset((n % 65536) as u16)
+    if b { 1 } else { 0 }
+}
+
+pub fn at_of(n: u64) -> Offset
+    ensures { λ r. ⌜ r .0 ≡ fields.offsetIn n ⌝ }
+{
+    Offset((n % OFFSETS) as u16)
+}
+
+pub fn flags_of(n: u64) -> u64
+    ensures { λ r. ⌜ r ≡ fields.flagsIn n ⌝ }
+{
+    n / FLAGS % FLAG_SETS
 }
 
 pub fn kind_of(n: u64) -> u64
-    ensures { λ r. ⌜ r ≡ n / 16777216 % 256 ⌝ }
+    ensures { λ r. ⌜ r ≡ fields.kindIn n ⌝ }
 {
-    n / 16777216 % 256
+    n / KIND % KINDS
 }
 
 pub fn size_of(n: u64) -> u64
-    ensures { λ r. ⌜ r ≡ n / 4294967296 % 65536 ⌝ }
+    ensures { λ r. ⌜ r ≡ fields.sizeIn n ⌝ }
 {
-    n / 4294967296 % 65536
+    n / SIZE % SIZES
 }
 
 pub fn next_of(n: u64) -> Offset
-    ensures { λ r. ⌜ r .0 ≡ n / 281474976710656 ⌝ }
+    ensures { λ r. ⌜ r .0 ≡ fields.nextIn n ⌝ }
 {
-    Offset((n / 281474976710656) as u16)
+    Offset((n / NEXT) as u16)
+}
+
+// The word of an offset alone.
+pub fn plain(o: Offset) -> u64
+    ensures { λ r. ⌜ kept.WordIs (phases.plain (o .0)) r ⌝ }
+{
+    o.0 as u64
 }
 
 // ---- a state put together
@@ -107,28 +183,28 @@ pub fn raise(events: u64, raised: u64) -> u64
 
 // The status of its parts. What would not fit into its field is cut, though no caller has such a number.
 pub fn status_of(scb: u64, flags: u64, cu: u64, ru: u64, base: u64) -> u64
-    ensures { λ r. ⌜ r ≡ kept.statusBy (scb % 65536) (flags % 256) (cu % 8) (ru % 256) (base % 16777216) ⌝ }
+    ensures { λ r. ⌜ r ≡ kept.statusBy (scb % 2 ^ 16) (flags % 2 ^ 8) (cu % 2 ^ 3) (ru % 2 ^ 8) (base % 2 ^ 24) ⌝ }
 {
-    16 * (flags % 256 / 16)
-        + 256 * (cu % 8)
-        + 4096 * (flags % 256 % 4)
-        + 65536 * (ru % 256)
-        + 16777216 * (scb % 65536)
-        + 1099511627776 * (base % 16777216)
+    EVENTS * (flags % 256 / EVENTS)
+        + CU * (cu % CU_TAGS)
+        + MARKS * (flags % 256 % MARK_SETS)
+        + RU * (ru % RU_TAGS)
+        + SCB * (scb % OFFSETS)
+        + BASE * (base % BASES)
 }
 
 // The command unit was served: it is what its tag and word say, and events came up.
 pub fn after_cu(k: Packed, tag: u64, word: u64, raised: u64) -> Packed
     ensures { λ r. ⌜ ((u : Units) (c : Cu) (by : Events) → kept.PackedIs u k → kept.CuIs c tag word → raised ≡ words.eventBits by → kept.PackedIs (kept.cuServed u c by) r) ⌝ }
 {
-    let flags = flags(k) % 2 + 16 * raise(events(k), raised % 16);
+    let flags = flags(k) % 2 + EVENTS * raise(events(k), raised % EVENT_SETS);
     Packed {
         status: status_of(
-            k.status / 16777216,
+            k.status / SCB,
             flags,
             tag,
             ru_tag(k),
-            k.status / 1099511627776,
+            k.status / BASE,
         ),
         cu: word,
         ru: k.ru,
@@ -140,14 +216,14 @@ pub fn after_cu(k: Packed, tag: u64, word: u64, raised: u64) -> Packed
 pub fn after_ru(k: Packed, tag: u64, word: u64, rest: u64, raised: u64) -> Packed
     ensures { λ r. ⌜ ((u : Units) (v : Ru) (by : Events) → kept.PackedIs u k → kept.RuIs v tag word rest → raised ≡ words.eventBits by → kept.PackedIs (kept.ruServed u v by) r) ⌝ }
 {
-    let flags = flags(k) % 2 + 2 + 16 * raise(events(k), raised % 16);
+    let flags = flags(k) % 2 + 2 + EVENTS * raise(events(k), raised % EVENT_SETS);
     Packed {
         status: status_of(
-            k.status / 16777216,
+            k.status / SCB,
             flags,
             cu_tag(k),
             tag,
-            k.status / 1099511627776,
+            k.status / BASE,
         ),
         cu: k.cu,
         ru: word,
@@ -161,11 +237,11 @@ pub fn with_ru(k: Packed, tag: u64, word: u64, rest: u64) -> Packed
 {
     Packed {
         status: status_of(
-            k.status / 16777216,
+            k.status / SCB,
             flags(k),
             cu_tag(k),
             tag,
-            k.status / 1099511627776,
+            k.status / BASE,
         ),
         cu: k.cu,
         ru: word,
