@@ -12,7 +12,8 @@ use Rattle.scb.specs.Words.{joined, eventBits}
 use Rattle.device.specs.State.{freshUnits}
 use Rattle.device.specs.declared.Units.{Units}
 use Rattle.numerals.specs.Places.{bytesFrom, field}
-use Rattle.phases.specs.Phases.{odd, wordOf, cuOf, cuShaped, ruOf, ruShaped}
+use Rattle.phases.specs.Fields.{odd}
+use Rattle.phases.specs.Phases.{wordOf, cuOf, cuShaped, ruOf, ruShaped}
 use Rattle.phases.proofs.Units.{both}
 use Rattle.packed.specs.Packed.{statusOf, cuTagIn, ruTagIn}
 use Rattle.packed.specs.SetUp.{settingsByte}

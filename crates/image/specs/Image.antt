@@ -15,8 +15,9 @@ use Rattle.device.specs.declared.Settings.{Settings}
 use Rattle.device.specs.declared.Units.{Units}
 use Rattle.actions.specs.Setup.{setupOf}
 use Rattle.numerals.specs.Places.{bytesFrom, field}
-use Rattle.phases.specs.Phases.{odd, wordOf, cuOf, cuShaped, ruOf, ruShaped}
-use Rattle.packed.specs.Packed.{packedOf, baseIn, scbIn, flagsIn, cuTagIn, ruTagIn}
+use Rattle.phases.specs.Fields.{odd}
+use Rattle.phases.specs.Phases.{wordOf, cuOf, cuShaped, ruOf, ruShaped}
+use Rattle.packed.specs.Packed.{packedOf, baseIn, scbIn, marksIn, cuTagIn, ruTagIn}
 use Rattle.packed.specs.SetUp.{setupBytes}
 use Rattle.packed.specs.declared.Packed.{Packed}
 use Rattle.image.specs.Ranges.{inRange}
@@ -62,11 +63,11 @@ ruBy k = ruOf (ruTagIn k) (wordOf (k .ru)) (k .rest)
 unfoldable pub unitsBy : Packed → Settings → Units
 unitsBy k s =
     record {
-      initialised = odd (flagsIn k);
+      initialised = odd (marksIn k);
       base = record { 0 = baseIn k };
       scb = record { 0 = scbIn k };
-      events = eventsOf (flagsIn k / 16);
-      rulast = odd (flagsIn k / 2);
+      events = eventsOf (marksIn k / 16);
+      rulast = odd (marksIn k / 2);
       settings = s;
       cu = cuBy k;
       ru = ruBy k;

@@ -220,14 +220,14 @@ module _ (n : ℕ) (s : Storing) where
   lacking w = record { tag-is = refl; word-is = w .number-is; rest-is = refl; wide = w .wide; filling = tt }
 
 -- and what the numbers of a phase say of its word
-pub held-back : (n rest : ℕ) (o : Offset) (f : Frame) (p : Bool) → RuIs (ru.Held o f p) 4 n rest → WordIs (frameWord o f p) n
+pub held-back : (tag n rest : ℕ) (o : Offset) (f : Frame) (p : Bool) → RuIs (ru.Held o f p) tag n rest → WordIs (frameWord o f p) n
 unfolding ruWord
-held-back n rest o f p h = record { number-is = h .word-is; wide = h .wide }
+held-back tag n rest o f p h = record { number-is = h .word-is; wide = h .wide }
 
-pub filling-back : (n rest : ℕ) (s : Storing) (k : Walk) → RuIs (ru.Filling s k) 5 n rest → WordIs (storingWord s (k .next .0) false) n
+pub filling-back : (tag n rest : ℕ) (s : Storing) (k : Walk) → RuIs (ru.Filling s k) tag n rest → WordIs (storingWord s (k .next .0) false) n
 unfolding ruWord
-filling-back n rest s k h = record { number-is = h .word-is; wide = h .wide }
+filling-back tag n rest s k h = record { number-is = h .word-is; wide = h .wide }
 
-pub ready-back : (n rest : ℕ) (o : Offset) → RuIs (ru.Ready o) 3 n rest → WordIs (plain (o .0)) n
+pub ready-back : (tag n rest : ℕ) (o : Offset) → RuIs (ru.Ready o) tag n rest → WordIs (plain (o .0)) n
 unfolding ruWord
-ready-back n rest o h = record { number-is = h .word-is; wide = h .wide }
+ready-back tag n rest o h = record { number-is = h .word-is; wide = h .wide }

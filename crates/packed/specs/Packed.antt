@@ -16,20 +16,20 @@ use Rattle.packed.specs.declared.Packed.{Packed}
 -- ---- a state's numbers
 
 -- bit 0 initialised, bit 1 RU served last, bits 7-4 CX, FR, CNA, RNR
-abbrev pub flagsBy : Bool → Bool → Events → ℕ
-flagsBy initialised rulast events = one initialised + 2 * one rulast + 2 ^ 4 * eventBits events
+abbrev pub marksBy : Bool → Bool → Events → ℕ
+marksBy initialised rulast events = one initialised + 2 * one rulast + 2 ^ 4 * eventBits events
 
-abbrev pub flagsOf : Units → ℕ
-flagsOf u = flagsBy (u .initialised) (u .rulast) (u .events)
+abbrev pub marksOf : Units → ℕ
+marksOf u = marksBy (u .initialised) (u .rulast) (u .events)
 
 -- eight bytes, in the order of the record from byte 5 on: bits 7-4 the events; bits 2-0 the CU's tag, bit 4 initialised, bit 5 RU served last; the
 -- RU's tag; two bytes of the SCB's offset; three of the base
-abbrev pub statusBy : (scb flags cu ru base : ℕ) → ℕ
-statusBy scb flags cu ru base =
-    2 ^ 4 * (flags / 2 ^ 4) + 2 ^ 8 * cu + 2 ^ 12 * (flags % 2 ^ 2) + 2 ^ 16 * ru + 2 ^ 24 * scb + 2 ^ 40 * base
+abbrev pub statusBy : (scb marks cu ru base : ℕ) → ℕ
+statusBy scb marks cu ru base =
+    2 ^ 4 * (marks / 2 ^ 4) + 2 ^ 8 * cu + 2 ^ 12 * (marks % 2 ^ 2) + 2 ^ 16 * ru + 2 ^ 24 * scb + 2 ^ 40 * base
 
 abbrev pub statusOf : Units → ℕ
-statusOf u = statusBy (u .scb .0) (flagsOf u) (cuTag (u .cu)) (ruTag (u .ru)) (u .base .0)
+statusOf u = statusBy (u .scb .0) (marksOf u) (cuTag (u .cu)) (ruTag (u .ru)) (u .base .0)
 
 -- all of the state but the settings and the addresses, which stand beside it
 unfoldable pub packedOf : Units → Packed
@@ -54,8 +54,8 @@ ruServed u v by = withEvents (servedRu (withRu u v) true) (raise (u .events) by)
 abbrev pub scbIn : Packed → ℕ
 scbIn k = k .status / 2 ^ 24 % 2 ^ 16
 
-abbrev pub flagsIn : Packed → ℕ
-flagsIn k = k .status / 2 ^ 12 % 2 ^ 2 + 2 ^ 4 * (k .status / 2 ^ 4 % 2 ^ 4)
+abbrev pub marksIn : Packed → ℕ
+marksIn k = k .status / 2 ^ 12 % 2 ^ 2 + 2 ^ 4 * (k .status / 2 ^ 4 % 2 ^ 4)
 
 abbrev pub cuTagIn : Packed → ℕ
 cuTagIn k = k .status / 2 ^ 8 % 2 ^ 3
@@ -73,7 +73,7 @@ pub record WordIs (w : Word) (n : ℕ) : Type 0 where
   pub number-is : n ≡ numberOf w
   pub wide : WordWide w
 
--- a number is a begun command's, with nothing above its flags
+-- a number is a begun command's, with nothing above its marks
 abbrev pub BegunIs : Begun → ℕ → Type 0
 BegunIs b n = WordIs (begunWord b 0 0 0) n
 

@@ -9,14 +9,14 @@ use Rattle.device.specs.declared.Settings.{Settings}
 use Rattle.actions.specs.Setup.{Setup}
 
 -- the byte of settings: bit 0 save bad, bit 1 promiscuous, bit 2 broadcast disabled; the two last are its modes
-abbrev pub settingsBy : (savebad modes : ℕ) → ℕ
-settingsBy savebad modes = savebad + 2 * modes
+abbrev pub joinedSettings : (savebad modes : ℕ) → ℕ
+joinedSettings savebad modes = savebad + 2 * modes
 
 abbrev pub modesOf : Settings → ℕ
 modesOf s = one (s .promiscuous) + 2 * one (s .nobroadcast)
 
 abbrev pub settingsByte : Settings → ℕ
-settingsByte s = settingsBy (one (s .savebad)) (modesOf s)
+settingsByte s = joinedSettings (one (s .savebad)) (modesOf s)
 
 abbrev pub modesIn : ℕ → ℕ
 modesIn b = b / 2

@@ -29,7 +29,7 @@ const SUSPEND: u64 = crate::FLAGS << 1;
 
 const EL: u64 = crate::FLAGS << 2;
 
-const PAUSING: u64 = crate::FLAGS << 3;
+pub const PAUSING: u64 = crate::FLAGS << 3;
 
 const BEGUN: u64 = crate::FLAGS << 4;
 

@@ -21,7 +21,7 @@ ghost use Rattle.phases.specs.Fields.{odd};
 ghost use Rattle.phases.specs.Phases as phases;
 ghost use Rattle.packed.specs.Packed as kept;
 
-// The status: events, flags, the units' tags, the SCB's offset, the base. Then the command unit's word, and the receive unit's two.
+// The status: events, marks, the units' tags, the SCB's offset, the base. Then the command unit's word, and the receive unit's two.
 pub struct Packed {
     pub status: u64,
     pub cu: u64,
@@ -32,7 +32,7 @@ pub struct Packed {
 // ---- the status
 
 // From the lowest bit on: four that are zero, the events, the command unit's tag and a zero, the marks and two zeros, the receive unit's tag, the
-// SCB's offset, the base. The marks are initialised and RU served last.
+// SCB's offset, the base.
 pub const EVENTS: u64 = 1 << 4;
 
 const CU: u64 = 1 << 8;
@@ -45,12 +45,19 @@ pub const SCB: u64 = 1 << 24;
 
 pub const BASE: u64 = 1 << 40;
 
+// Among the marks.
+pub const INITIALISED: u64 = 1 << 0;
+
+pub const RU_LAST: u64 = 1 << 1;
+
 // How many numbers a field holds.
 const EVENT_SETS: u64 = 1 << 4;
 
 const CU_TAGS: u64 = 1 << 3;
 
 const MARK_SETS: u64 = 1 << 2;
+
+const MARK_BITS: u64 = 1 << 8;
 
 const RU_TAGS: u64 = 1 << 8;
 
@@ -70,18 +77,32 @@ pub fn scb(k: Packed) -> Offset
     Offset((k.status / SCB % OFFSETS) as u16)
 }
 
-// Bit 0 initialised, bit 1 RU served last, bits 7 to 4 the events.
-pub fn flags(k: Packed) -> u64
-    ensures { λ r. ⌜ r ≡ kept.flagsIn k ⌝ }
+// The marks: bit 0 initialised, bit 1 RU served last; and above them, in bits 7 to 4, the events.
+pub fn marks(k: Packed) -> u64
+    ensures { λ r. ⌜ r ≡ kept.marksIn k ⌝ }
 {
     k.status / MARKS % MARK_SETS + EVENTS * (k.status / EVENTS % EVENT_SETS)
 }
 
 // The events as a number below 16.
 pub fn events(k: Packed) -> u64
-    ensures { λ r. ⌜ r ≡ kept.flagsIn k / 2 ^ 4 ⌝ }
+    ensures { λ r. ⌜ r ≡ kept.marksIn k / 2 ^ 4 ⌝ }
 {
     k.status / EVENTS % EVENT_SETS
+}
+
+// Whether the first attention was.
+pub fn initialised(k: Packed) -> bool
+    ensures { λ r. ⌜ r ≡ odd (kept.marksIn k) ⌝ }
+{
+    marks(k) / INITIALISED % 2 == 1
+}
+
+// Whether RU was served at the last working turn.
+pub fn ru_last(k: Packed) -> bool
+    ensures { λ r. ⌜ r ≡ odd (kept.marksIn k / 2) ⌝ }
+{
+    marks(k) / RU_LAST % 2 == 1
 }
 
 pub fn cu_tag(k: Packed) -> u64
@@ -118,14 +139,6 @@ const SIZES: u64 = 1 << 16;
 pub const OFFSET_MOST: u64 = FLAGS - 1;
 
 pub const SIZED_MOST: u64 = NEXT - 1;
-
-// Whether the bit is set whose value is `at`.
-pub fn flag(n: u64, at: u64) -> bool
-    requires { ⌜ 0 < at ⌝ }
-    ensures { λ r. ⌜ r ≡ odd (n / at) ⌝ }
-{
-    n / at % 2 == 1
-}
 
 // A flag as a number.
 pub fn bit(b: bool) -> u64
@@ -182,12 +195,12 @@ pub fn raise(events: u64, raised: u64) -> u64
 }
 
 // The status of its parts. What would not fit into its field is cut, though no caller has such a number.
-pub fn status_of(scb: u64, flags: u64, cu: u64, ru: u64, base: u64) -> u64
-    ensures { λ r. ⌜ r ≡ kept.statusBy (scb % 2 ^ 16) (flags % 2 ^ 8) (cu % 2 ^ 3) (ru % 2 ^ 8) (base % 2 ^ 24) ⌝ }
+pub fn status_of(scb: u64, marks: u64, cu: u64, ru: u64, base: u64) -> u64
+    ensures { λ r. ⌜ r ≡ kept.statusBy (scb % 2 ^ 16) (marks % 2 ^ 8) (cu % 2 ^ 3) (ru % 2 ^ 8) (base % 2 ^ 24) ⌝ }
 {
-    EVENTS * (flags % 256 / EVENTS)
+    EVENTS * (marks % MARK_BITS / EVENTS)
         + CU * (cu % CU_TAGS)
-        + MARKS * (flags % 256 % MARK_SETS)
+        + MARKS * (marks % MARK_BITS % MARK_SETS)
         + RU * (ru % RU_TAGS)
         + SCB * (scb % OFFSETS)
         + BASE * (base % BASES)
@@ -197,11 +210,11 @@ pub fn status_of(scb: u64, flags: u64, cu: u64, ru: u64, base: u64) -> u64
 pub fn after_cu(k: Packed, tag: u64, word: u64, raised: u64) -> Packed
     ensures { λ r. ⌜ ((u : Units) (c : Cu) (by : Events) → kept.PackedIs u k → kept.CuIs c tag word → raised ≡ words.eventBits by → kept.PackedIs (kept.cuServed u c by) r) ⌝ }
 {
-    let flags = flags(k) % 2 + EVENTS * raise(events(k), raised % EVENT_SETS);
+    let marks = marks(k) % RU_LAST + EVENTS * raise(events(k), raised % EVENT_SETS);
     Packed {
         status: status_of(
             k.status / SCB,
-            flags,
+            marks,
             tag,
             ru_tag(k),
             k.status / BASE,
@@ -216,11 +229,11 @@ pub fn after_cu(k: Packed, tag: u64, word: u64, raised: u64) -> Packed
 pub fn after_ru(k: Packed, tag: u64, word: u64, rest: u64, raised: u64) -> Packed
     ensures { λ r. ⌜ ((u : Units) (v : Ru) (by : Events) → kept.PackedIs u k → kept.RuIs v tag word rest → raised ≡ words.eventBits by → kept.PackedIs (kept.ruServed u v by) r) ⌝ }
 {
-    let flags = flags(k) % 2 + 2 + EVENTS * raise(events(k), raised % EVENT_SETS);
+    let marks = marks(k) % RU_LAST + RU_LAST + EVENTS * raise(events(k), raised % EVENT_SETS);
     Packed {
         status: status_of(
             k.status / SCB,
-            flags,
+            marks,
             cu_tag(k),
             tag,
             k.status / BASE,
@@ -238,7 +251,7 @@ pub fn with_ru(k: Packed, tag: u64, word: u64, rest: u64) -> Packed
     Packed {
         status: status_of(
             k.status / SCB,
-            flags(k),
+            marks(k),
             cu_tag(k),
             tag,
             k.status / BASE,

@@ -30,7 +30,7 @@ pub const LACKING: u64 = 7;
 
 // The flags of a held frame: a waiting SUSPEND, short, save bad at arrival; of a begun one S and EL besides, as the descriptor's word had them in
 // bits 14 and 15; and whether the last buffer used had EL.
-const PAUSING: u64 = crate::FLAGS;
+pub const PAUSING: u64 = crate::FLAGS;
 
 const SHORT: u64 = crate::FLAGS << 1;
 

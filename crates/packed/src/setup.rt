@@ -4,7 +4,7 @@ ghost use mathlib.Core.Path.{_≡_};
 ghost use Prim.Native.Nat.{_<_, _^_};
 ghost use lib.ListN.{length};
 ghost use Rattle.actions.specs.Setup.{Setup};
-ghost use Rattle.packed.specs.SetUp.{setupSize, settingsBy, modesIn, SetIs};
+ghost use Rattle.packed.specs.SetUp.{setupSize, joinedSettings, modesIn, SetIs};
 
 // Where each stands.
 pub const SETTINGS: usize = 0;
@@ -65,7 +65,7 @@ pub fn minimum(setup: &[u8]) -> u64
 // The byte of settings: save bad, and the modes.
 pub fn settings(save_bad: u8, modes: u8) -> u8
     requires { ⌜ («save_bad» < 2) × (modes < 2 ^ 7) ⌝ }
-    ensures { λ r. ⌜ r ≡ settingsBy «save_bad» modes ⌝ }
+    ensures { λ r. ⌜ r ≡ joinedSettings «save_bad» modes ⌝ }
 {
     save_bad + MODES * modes
 }
