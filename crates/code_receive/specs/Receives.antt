@@ -61,9 +61,9 @@ abbrev pub FillingIn : ℕ → Type 0
 FillingIn n = WordIs (storingWord (storingIn n) (nextIn n) false) n
 
 -- a unit comes of a word that is as is said, and nothing is raised
-pub record Quietly (Given : Type 0) (unit : Ru) (r : Received) : Type 0 where
+pub record Quietly (Given : Type 0) (next : Ru) (r : Received) : Type 0 where
   pub raised : r .raised ≡ 0
-  pub unit : Given → RuIs unit (r .tag) (r .word) (r .rest)
+  pub unit : Given → RuIs next (r .tag) (r .word) (r .rest)
 
 -- a frame that is begun, by the descriptor's word +2
 abbrev pub begunIn : ℕ → (control : ℕ) → Storing

@@ -4,16 +4,11 @@ use memory::Offset;
 use memory::RealAddress;
 use packed::ru;
 ghost use mathlib.Core.Path.{_≡_};
-ghost use mathlib.Core.Bool.{cond, _||_};
-ghost use mathlib.Core.List.{[]};
-ghost use Prim.Native.Nat.{ℕ, _+_, _*_, _-_, _/_, _%_, _<_, _≤_, min};
-ghost use lib.Dec.{leb};
-ghost use lib.ListN.{length};
+ghost use mathlib.Core.Bool.{cond};
+ghost use Prim.Native.Nat.{_-_, _%_, _<_, _≤_, _^_, min};
 ghost use Rattle.memory.specs.Address.{isNone, place};
 ghost use Rattle.memory.specs.Memory.{apply};
-ghost use Rattle.memory.specs.declared.Offset.{Offset};
 ghost use Rattle.device.specs.Answers.{counterOf, isStored};
-ghost use Rattle.device.specs.Limits.{mostBuffers};
 ghost use Rattle.device.specs.Numbers.{counterPlace, verdictOf};
 ghost use Rattle.device.specs.declared.Fate.{Fate};
 ghost use Rattle.device.specs.declared.Ru.{Ru};
@@ -22,10 +17,10 @@ ghost use Rattle.receive.specs.Begin as begins;
 ghost use Rattle.receive.specs.Buffer as buffers;
 ghost use Rattle.receive.specs.End as ends;
 ghost use Rattle.receive.specs.Service.{service};
-ghost use Rattle.phases.specs.Phases.{ruOf, wordOf, fillingOf};
 ghost use Rattle.packed.specs.Packed.{RuIs};
 ghost use Rattle.code_arrival.specs.Arrives.{frameIn};
-ghost use Rattle.code_receive.specs.Receives.{storingIn, partBy, partAt, Serves};
+ghost use Rattle.code_receive.specs.Receives as receives;
+ghost use Rattle.code_receive.specs.Receives.{partBy, Quietly, Serves};
 
 // What a service comes to, besides the lent bytes: the unit as its tag and words, and the events that came up.
 pub struct Received {
@@ -116,7 +111,7 @@ fn is_bare(n: u64) -> bool
 
 // No data: the end is next, and the first offset stays the next free one. Data left at FFFFh: out of buffers.
 fn to_first(n: u64, control: u16, first: Offset) -> Received
-    ensures { λ r. ⌜ Quietly (HeldIn n) (begins.toFirst (begins.isBare (frameIn n)) (isNone first) (begunIn n control) first) r ⌝ }
+    ensures { λ r. ⌜ Quietly (receives.HeldIn n) (begins.toFirst (begins.isBare (frameIn n)) (isNone first) (receives.begunIn n control) first) r ⌝ }
 {
     let s = ru::begun(n, control / CONTROL_BITS);
     if is_bare(n) {
@@ -145,7 +140,7 @@ fn to_first(n: u64, control: u16, first: Offset) -> Received
 
 // Begin: read +2 and +6, write 4000h. It asks nothing of the holding area.
 fn begin(memory: &mut [u8], base: RealAddress, n: u64) -> Received
-    ensures { λ r. ⌜ (HeldIn n → Serves (beginIn base n (now (memory .entry))) (now (memory .entry)) r (now (memory .exit))) ⌝ }
+    ensures { λ r. ⌜ (receives.HeldIn n → Serves (receives.beginIn base n (now (memory .entry))) (now (memory .entry)) r (now (memory .exit))) ⌝ }
 {
     let fd = packed::at_of(n);
     let control = memory::word_at(memory, memory::place(base, fd, CONTROL));
@@ -182,7 +177,7 @@ fn filled_word(done: bool, n: u64) -> u16
 // The data ends: all is stored. Data left after EL, at FFFFh or after 64: out of buffers.
 fn after_buffer(n: u64, next: Offset, el: bool, used: u64, filled: u64) -> Received
     requires { ⌜ (used < 2 ^ 8) × (filled < 2 ^ 16) ⌝ }
-    ensures { λ r. ⌜ Quietly (FillingIn n) (afterIn n next el used filled) r ⌝ }
+    ensures { λ r. ⌜ Quietly (receives.FillingIn n) (receives.afterIn n next el used filled) r ⌝ }
 {
     if packed::size_of(n) <= filled {
         return Received {
@@ -210,7 +205,7 @@ fn after_buffer(n: u64, next: Offset, el: bool, used: u64, filled: u64) -> Recei
 
 // A buffer: one descriptor is read whole, its buffer filled at its real address, then F, count and EOF are written.
 fn buffer(memory: &mut [u8], holding: &[u8], base: RealAddress, n: u64, rest: u64) -> Received
-    ensures { λ r. ⌜ (FillingIn n → Serves (bufferIn base n rest (now (holding .entry)) (now (memory .entry))) (now (memory .entry)) r (now (memory .exit))) ⌝ }
+    ensures { λ r. ⌜ (receives.FillingIn n → Serves (receives.bufferIn base n rest (now (holding .entry)) (now (memory .entry))) (now (memory .entry)) r (now (memory .exit))) ⌝ }
 {
     let o = packed::next_of(n);
     let filled = ru::filled(rest);
@@ -293,7 +288,7 @@ fn describe(
     lacking: bool,
     n: u64,
 )
-    ensures { λ _. ⌜ Describes base n stored lacking (now (holding .entry)) (now (memory .entry)) (now (memory .exit)) ⌝ }
+    ensures { λ _. ⌜ receives.Describes base n stored lacking (now (holding .entry)) (now (memory .entry)) (now (memory .exit)) ⌝ }
 {
     let fd = packed::at_of(n);
     if stored {
@@ -335,7 +330,7 @@ fn settle(
     lacking: bool,
     n: u64,
 ) -> bool
-    ensures { λ r. ⌜ (r ≡ isStored (ends.fateOf lacking (frameIn n))) × Settles base scb n lacking (now (holding .entry)) (now (memory .entry)) (now (memory .exit)) ⌝ }
+    ensures { λ r. ⌜ (r ≡ isStored (ends.fateOf lacking (frameIn n))) × receives.Settles base scb n lacking (now (holding .entry)) (now (memory .entry)) (now (memory .exit)) ⌝ }
 {
     let stored = !lacking | ru::save_bad(n);
     describe(memory, holding, base, stored, lacking, n);
@@ -346,7 +341,7 @@ fn settle(
 // Exhausted: No Resources, which wins over Suspended. Otherwise +6 of the next frame descriptor (link read now) gets the next free offset;
 // S or a waiting SUSPEND suspends. FR came up if the frame is stored, and leaving Ready raises RNR.
 fn goes_on(memory: &mut [u8], base: RealAddress, n: u64, exhausted: bool, stored: bool) -> Received
-    ensures { λ r. ⌜ ((f : Fate) → stored ≡ isStored f → Serves (proceedsIn exhausted base n f (now (memory .entry))) (now (memory .entry)) r (now (memory .exit))) ⌝ }
+    ensures { λ r. ⌜ ((f : Fate) → stored ≡ isStored f → Serves (receives.proceedsIn exhausted base n f (now (memory .entry))) (now (memory .entry)) r (now (memory .exit))) ⌝ }
 {
     let fr = FR * packed::bit(stored);
     if exhausted {
@@ -385,7 +380,7 @@ fn end(
     lacking: bool,
     n: u64,
 ) -> Received
-    ensures { λ r. ⌜ ((unit : Ru) → Serves (endIn lacking (partBy base scb unit (now (holding .entry))) n (now (memory .entry))) (now (memory .entry)) r (now (memory .exit))) ⌝ }
+    ensures { λ r. ⌜ ((unit : Ru) → Serves (receives.endIn lacking (partBy base scb unit (now (holding .entry))) n (now (memory .entry))) (now (memory .entry)) r (now (memory .exit))) ⌝ }
 {
     let stored = settle(memory, holding, base, scb, lacking, n);
     goes_on(
