@@ -47,7 +47,13 @@ pub fn plainly(status: u16, length: u16) -> Done
 fn ia_setup(memory: &[u8], base: RealAddress, setup: &mut [u8], block: Offset) -> Done
     ensures { λ r. ⌜ ((s : Setup) → SetIs s (now (setup .entry)) → acts.Sets (actions.iaSetup base s block (now (memory .entry))) r (now (setup .exit))) ⌝ }
 {
-    copies::copy_out(memory, memory::place(base, block, ARGUMENT), 6, setup, setup::OWN);
+    copies::copy_out(
+        memory,
+        memory::place(base, block, ARGUMENT),
+        6,
+        setup,
+        setup::OWN,
+    );
     plainly(DONE, 0)
 }
 

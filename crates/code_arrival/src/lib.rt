@@ -63,7 +63,12 @@ fn judge(setup: &[u8], frame: &[u8], verdict: u32) -> u64
 {
     let length = length_of(frame);
     let short = length + FCS < setup::minimum(setup);
-    ru::frame(short, setup::saves_bad(setup), verdict_number(verdict), length)
+    ru::frame(
+        short,
+        setup::saves_bad(setup),
+        verdict_number(verdict),
+        length,
+    )
 }
 
 // Neither short nor with a bad verdict.

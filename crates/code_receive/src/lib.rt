@@ -222,13 +222,7 @@ fn buffer(memory: &mut [u8], holding: &[u8], base: RealAddress, n: u64, rest: u6
     );
     let mark = filled_word(packed::size_of(n) <= filled + count, count);
     memory::put_word(memory, memory::place(base, o, FILLED), mark);
-    after_buffer(
-        n,
-        next,
-        BUFFER_EL <= word,
-        ru::used(rest),
-        filled + count,
-    )
+    after_buffer(n, next, BUFFER_EL <= word, ru::used(rest), filled + count)
 }
 
 // ---- end
@@ -255,9 +249,7 @@ fn bit_if(applies: bool, bit: u16) -> u16
 fn error_bits(lacking: bool, n: u64) -> u16
     ensures { λ r. ⌜ (r ≡ ends.errorBits lacking (frameIn n)) × (r ≤ 0x0A80) ⌝ }
 {
-    verdict_bit(packed::kind_of(n))
-        + bit_if(lacking, LACKING_BIT)
-        + bit_if(ru::short(n), SHORT_BIT)
+    verdict_bit(packed::kind_of(n)) + bit_if(lacking, LACKING_BIT) + bit_if(ru::short(n), SHORT_BIT)
 }
 
 // The descriptor's status: C, with all error bits that apply, and OK only with no error bit.
@@ -383,13 +375,7 @@ fn end(
     ensures { λ r. ⌜ ((unit : Ru) → Serves (receives.endIn lacking (partBy base scb unit (now (holding .entry))) n (now (memory .entry))) (now (memory .entry)) r (now (memory .exit))) ⌝ }
 {
     let stored = settle(memory, holding, base, scb, lacking, n);
-    goes_on(
-        memory,
-        base,
-        n,
-        lacking | (ru::el(n) | ru::full(n)),
-        stored,
-    )
+    goes_on(memory, base, n, lacking | (ru::el(n) | ru::full(n)), stored)
 }
 
 // ---- one service

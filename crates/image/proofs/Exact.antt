@@ -32,13 +32,13 @@ use Rattle.numerals.proofs.Laws.{field-below, piece, fit, digits-zero, from-app
 use Rattle.phases.specs.Fields.{flagsOf, odd}
 use Rattle.phases.specs.Phases.{numberOf, cuTag, cuWord, cuShaped, ruTag, ruWord, ruShaped, FillingWide}
 use Rattle.phases.proofs.Units.{both, never, one-below, flag1, flag2, flag3, flag4, bits3, number-below, wide-of, cu-shaped, cu-same, rest-below, ru-shaped, ru-same, Same, RuSame}
-use Rattle.packed.specs.Packed.{marksBy, marksOf, statusOf, packedOf, marksIn, cuTagIn, ruTagIn, UnitsWide, PackedIs}
+use Rattle.packed.specs.Packed.{marksBy, marksOf, statusOf, packedOf, statusIs, marksIn, cuTagIn, ruTagIn, UnitsWide, PackedIs}
 use Rattle.packed.specs.SetUp.{settingsByte, setupBytes}
 use Rattle.packed.specs.declared.Packed.{Packed}
 use Rattle.packed.proofs.Laws.{cu-tag-below, ru-tag-below, marks-below, scb-is, base-is, cu-is, ru-is, cu-of, ru-of, events-is, initialised-is, rulast-is}
 use Rattle.image.specs.Ranges.{settingsFresh, unitsIdle, addressesFresh, sized, unitsFit, cuFits, frameFits, ruFits, unitsFresh, initialisedOrFresh, inRange, Wide}
 use Rattle.image.specs.Found as is
-use Rattle.image.specs.Image.{front, unitBytes, imageOf, packedAt, eventsOf, settingsOf, unitsBy, unitsAt, deviceFrom, deviceAt, statusIs, headShaped, unitsShaped, spareZero, shaped, rangeFrom, decodeFull, decodeOf}
+use Rattle.image.specs.Image.{front, unitBytes, imageOf, packedAt, eventsOf, settingsOf, unitsBy, unitsAt, deviceFrom, deviceAt, headShaped, unitsShaped, spareZero, shaped, rangeFrom, decodeFull, decodeOf}
 use Rattle.image.proofs.Steps.{full-taken, full-out, full-other, decode-full, device-full, length-units, length-image}
 
 -- ---- the events and the settings in their bits

@@ -1,7 +1,8 @@
 -- The units' state as four numbers, which is how the record keeps it and how a call carries it. Assumes nothing.
 use mathlib.Core.Path.{_≡_}
-use mathlib.Core.Bool.{Bool, true, false}
+use mathlib.Core.Bool.{Bool, true, false, _&&_}
 use Prim.Native.Nat.{ℕ, _+_, _*_, _/_, _%_, _<_, _^_}
+use lib.Dec.{eqb}
 use Rattle.scb.specs.Words.{one, eventBits, raise}
 use Rattle.scb.specs.declared.Events.{Events}
 use Rattle.device.specs.Change.{withCu, withRu, withEvents, servedRu}
@@ -65,6 +66,10 @@ ruTagIn k = k .status / 2 ^ 16 % 2 ^ 8
 
 abbrev pub baseIn : Packed → ℕ
 baseIn k = k .status / 2 ^ 40
+
+-- the bits of a status that nothing uses are zero: 3-0 of its first byte; 3, 6 and 7 of its second
+abbrev pub statusIs : ℕ → Bool
+statusIs s = eqb (s % 2 ^ 4) 0 && eqb (s / 2 ^ 11 % 2) 0 && eqb (s / 2 ^ 14 % 2 ^ 2) 0
 
 -- ---- numbers that are a state's: every field is as wide as the code's types and a real address make it
 

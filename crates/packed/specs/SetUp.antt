@@ -21,6 +21,10 @@ settingsByte s = joinedSettings (one (s .savebad)) (modesOf s)
 abbrev pub modesIn : ℕ → ℕ
 modesIn b = b / 2
 
+-- it has three bits
+abbrev pub settingsEnd : ℕ
+settingsEnd = 2 ^ 3
+
 -- one byte of settings, one of the minimum length, six of the own address, ninety-six of the listed addresses
 unfoldable pub setupBytes : Setup → List ℕ
 setupBytes s = settingsByte (s .settings) ∷ (s .settings .minimum ∷ (s .own ++ s .listed))

@@ -117,11 +117,23 @@ pub fn ru_tag(k: Packed) -> u64
     k.status / RU % RU_TAGS
 }
 
+// Where a bit and two bits stand that nothing uses: above the command unit's tag and above the marks.
+const CU_END: u64 = CU * CU_TAGS;
+
+const MARKS_END: u64 = MARKS * MARK_SETS;
+
+// Whether the bits of a status that nothing uses are zero.
+pub fn status_is(s: u64) -> bool
+    ensures { λ r. ⌜ r ≡ kept.statusIs s ⌝ }
+{
+    (s % EVENTS == 0) & (s / CU_END % 2 == 0) & (s / MARKS_END % 4 == 0)
+}
+
 // ---- a unit's word
 
 // From the lowest byte on: two of an offset, one of flags, one of kind, two of size, two of the next offset. A begun command is below its kind; the
 // units' flags are the modules' to say.
-const FLAGS: u64 = 1 << 16;
+pub const FLAGS: u64 = 1 << 16;
 
 const KIND: u64 = 1 << 24;
 
@@ -212,13 +224,7 @@ pub fn after_cu(k: Packed, tag: u64, word: u64, raised: u64) -> Packed
 {
     let marks = marks(k) % RU_LAST + EVENTS * raise(events(k), raised % EVENT_SETS);
     Packed {
-        status: status_of(
-            k.status / SCB,
-            marks,
-            tag,
-            ru_tag(k),
-            k.status / BASE,
-        ),
+        status: status_of(k.status / SCB, marks, tag, ru_tag(k), k.status / BASE),
         cu: word,
         ru: k.ru,
         rest: k.rest,
@@ -231,13 +237,7 @@ pub fn after_ru(k: Packed, tag: u64, word: u64, rest: u64, raised: u64) -> Packe
 {
     let marks = marks(k) % RU_LAST + RU_LAST + EVENTS * raise(events(k), raised % EVENT_SETS);
     Packed {
-        status: status_of(
-            k.status / SCB,
-            marks,
-            cu_tag(k),
-            tag,
-            k.status / BASE,
-        ),
+        status: status_of(k.status / SCB, marks, cu_tag(k), tag, k.status / BASE),
         cu: k.cu,
         ru: word,
         rest: rest,
@@ -249,13 +249,7 @@ pub fn with_ru(k: Packed, tag: u64, word: u64, rest: u64) -> Packed
     ensures { λ r. ⌜ ((u : Units) (v : Ru) → kept.PackedIs u k → kept.RuIs v tag word rest → kept.PackedIs (change.withRu u v) r) ⌝ }
 {
     Packed {
-        status: status_of(
-            k.status / SCB,
-            marks(k),
-            cu_tag(k),
-            tag,
-            k.status / BASE,
-        ),
+        status: status_of(k.status / SCB, marks(k), cu_tag(k), tag, k.status / BASE),
         cu: k.cu,
         ru: word,
         rest: rest,

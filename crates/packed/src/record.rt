@@ -3,7 +3,7 @@
 // All of it.
 pub const SIZE: usize = 256;
 
-// The letters and the version; the five bytes of both as a number.
+// The letters and the version.
 pub const LETTERS: usize = 0;
 
 pub const VERSION: usize = 3;
@@ -26,3 +26,11 @@ pub const SPARE_WORDS: usize = 14;
 
 // What the commands set up, to the end.
 pub const SETUP: usize = 152;
+
+pub const SETTINGS: usize = SETUP + crate::setup::SETTINGS;
+
+pub const MINIMUM: usize = SETUP + crate::setup::MINIMUM;
+
+pub const OWN: usize = SETUP + crate::setup::OWN;
+
+pub const LISTED: usize = SETUP + crate::setup::LISTED;

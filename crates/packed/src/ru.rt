@@ -105,7 +105,10 @@ pub fn frame(short: bool, save_bad: bool, verdict: u64, length: u64) -> u64
     requires { ⌜ (verdict < 3) × (length < 2 ^ 16) ⌝ }
     ensures { λ r. ⌜ (r < 2 ^ 48) × (r ≡ frameNumber (record { length = length; verdict = verdictOf verdict; short = short; savebad = «save_bad» })) ⌝ }
 {
-    SHORT * crate::bit(short) + SAVE_BAD * crate::bit(save_bad) + crate::KIND * verdict + crate::SIZE * length
+    SHORT * crate::bit(short)
+        + SAVE_BAD * crate::bit(save_bad)
+        + crate::KIND * verdict
+        + crate::SIZE * length
 }
 
 // It is held before the descriptor that was next.

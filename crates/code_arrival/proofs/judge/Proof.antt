@@ -17,7 +17,7 @@ judge-spec =
     (λ c κs. search needs)
     (λ c κs. search needs)
     (λ c κs. search needs)
-    (λ c. 
+    (λ c.
     let verdict-number : tie.After-verdict-number = search needs in
     let saves-bad : tie.After-saves-bad = search needs in
     let minimum : tie.After-minimum = search needs in

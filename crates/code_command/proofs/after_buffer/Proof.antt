@@ -17,21 +17,21 @@ after-buffer-spec =
     (tie.spec
     (λ c κs. search needs)
     (λ c κs. search needs)
-    (λ c v h. 
+    (λ c v h.
     let t : tie.Start = search needs in
     let ending : tie.After-ending = search needs in
     let then1 : tie.Then1 = search needs in
     rw (then1 .if1 .taken, c .quiet .ensures) (record { unit = ending-is _ v (t .args .filled) (ending .ending .ensures v h); raised = refl; length = refl }))
     (λ c κs. search needs)
     (λ c κs. search needs)
-    (λ c v h. 
+    (λ c v h.
     let t : tie.Start = search needs in
     let is-none : tie.After-is-none = search needs in
     let else1 : tie.Else1 = search needs in
     let then2 : tie.Then2 = search needs in
     rw (else1 .if1 .left, ← is-none .is-none .ensures, then2 .if2 .taken, c .quiet2 .ensures) (record { unit = failing-is _ v h; raised = refl; length = refl }))
     (λ c κs. search needs)
-    (λ c v h. 
+    (λ c v h.
     let t : tie.Start = search needs in
     let is-none : tie.After-is-none = search needs in
     let else1 : tie.Else1 = search needs in
@@ -42,7 +42,7 @@ after-buffer-spec =
     (λ c. search needs)
     (λ c κs. search needs)
     (λ c κs. search needs)
-    (λ c v h. 
+    (λ c v h.
     let t : tie.Start = search needs in
     let is-none : tie.After-is-none = search needs in
     let sending : tie.After-sending = search needs in

@@ -17,7 +17,7 @@ after-end-spec =
     (λ c. search needs)
     (λ c κs. search needs)
     (λ c. search needs)
-    (λ c. 
+    (λ c.
     let t : tie.Start = search needs in
     let interrupt : tie.After-interrupt = search needs in
     let el : tie.After-el = search needs in
@@ -29,7 +29,7 @@ after-end-spec =
     (λ c κs. search needs)
     (λ c κs. search needs)
     (λ c. search needs)
-    (λ c. 
+    (λ c.
     let t : tie.Start = search needs in
     let interrupt : tie.After-interrupt = search needs in
     let el : tie.After-el = search needs in
@@ -42,7 +42,7 @@ after-end-spec =
     rw (← el .el .ensures, ← suspend .suspend .ensures, ← pausing .pausing .ensures, else1 .if1 .left, then2 .if2 .taken)
     (record { unit = suspended-is _ o (c .plain .ensures); raised = raised-is v _ (sym (interrupt .interrupt .ensures .0)) (cu.Suspended o) 2 refl; sent = refl }))
     (λ c κs. search needs)
-    (λ c. 
+    (λ c.
     let t : tie.Start = search needs in
     let interrupt : tie.After-interrupt = search needs in
     let el : tie.After-el = search needs in

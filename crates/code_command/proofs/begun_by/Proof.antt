@@ -10,6 +10,6 @@ begun-by-spec =
     tie.close
     (tie.spec
     (λ c κs. search needs)
-    (λ c. 
+    (λ c.
     let t : tie.Start = search needs in
     (c .begun .ensures .0, rw (← begun-by-is (t .args .block) (t .args .word)) (c .begun .ensures .1))))

@@ -26,7 +26,7 @@ buffer-spec =
     (λ c. search needs)
     (λ c. search needs)
     (λ c κs. search needs)
-    (λ c u s. 
+    (λ c u s.
     let t : tie.Start = search needs in
     let next-of : tie.After-next-of = search needs in
     let size-of : tie.After-size-of = search needs in
@@ -49,7 +49,7 @@ buffer-spec =
     (λ c. search needs)
     (λ c κs. search needs)
     (λ c. search needs)
-    (λ c u s. 
+    (λ c u s.
     let kind-of = c .before in
     let copy-out = kind-of .before .before .before in
     let real-at = copy-out .before .before in

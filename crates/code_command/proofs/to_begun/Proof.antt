@@ -18,7 +18,7 @@ to-begun-spec =
     (λ c κs. search needs)
     (λ c κs. search needs)
     (λ c. search needs)
-    (λ c u s h. 
+    (λ c u s h.
     let t : tie.Start = search needs in
     let begin-transmit : tie.After-begin-transmit = search needs in
     let begun-by : tie.After-begun-by = search needs in
@@ -27,7 +27,7 @@ to-begun-spec =
     (λ c. search needs)
     (λ c κs. search needs)
     (λ c κs. search needs)
-    (λ c u s h. 
+    (λ c u s h.
     let t : tie.Start = search needs in
     let acting : tie.After-acting = search needs in
     let begun-by : tie.After-begun-by = search needs in

@@ -12,14 +12,14 @@ to-first-spec =
     (tie.spec
     (λ c κs. search needs)
     (λ c κs. search needs)
-    (λ c v h. 
+    (λ c v h.
     let t : tie.Start = search needs in
     let ending : tie.After-ending = search needs in
     let then1 : tie.Then1 = search needs in
     rw (then1 .if1 .taken, c .quiet .ensures) (record { unit = ending-is _ v 14 (ending .ending .ensures v h); raised = refl; length = refl }))
     (λ c κs. search needs)
     (λ c κs. search needs)
-    (λ c v h. 
+    (λ c v h.
     let t : tie.Start = search needs in
     let sending : tie.After-sending = search needs in
     let else1 : tie.Else1 = search needs in

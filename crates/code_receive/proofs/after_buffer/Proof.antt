@@ -22,7 +22,7 @@ after-buffer-spec =
     (λ c κs. search needs)
     (λ c κs. search needs)
     (λ c κs. search needs)
-    (λ c. 
+    (λ c.
     let t : tie.Start = search needs in
     let size-of : tie.After-size-of = search needs in
     let filled-up : tie.After-filled-up = search needs in
@@ -32,7 +32,7 @@ after-buffer-spec =
     (λ c κs. search needs)
     (λ c. search needs)
     (λ c κs. search needs)
-    (λ c. 
+    (λ c.
     let t : tie.Start = search needs in
     let size-of : tie.After-size-of = search needs in
     let is-none : tie.After-is-none = search needs in
@@ -43,12 +43,12 @@ after-buffer-spec =
     (λ c κs. search needs)
     (λ c κs. search needs)
     (λ c. search needs)
-    (λ c κs. 
+    (λ c κs.
     let t : tie.Start = search needs in
     let is-none : tie.After-is-none = search needs in
     let else2 : tie.Else2 = search needs in
     (t .pre .1, omega (arith, buffers-left (t .args .el) (is-none .is-none .result) (t .args .used) (else2 .if2 .left))))
-    (λ c. 
+    (λ c.
     let t : tie.Start = search needs in
     let size-of : tie.After-size-of = search needs in
     let is-none : tie.After-is-none = search needs in

@@ -36,7 +36,7 @@ buffer-spec =
     (λ c κs. search needs)
     (λ c κs. search needs)
     (λ c κs. search needs)
-    (λ c. 
+    (λ c.
     let put-word : tie.After-put-word = search needs in
     let place4 = put-word .before in
     let filled-word = place4 .before .before in
@@ -55,7 +55,7 @@ buffer-spec =
     let n = size-of .size-of .result in
     let k : count-into .count-into .result ≡ min (word % 2 ^ 14) (n - filled .filled .result) = count-into .count-into .ensures in
     omega (arith, k, filled .filled .ensures))
-    (λ c κs. 
+    (λ c κs.
     let used : tie.After-used = search needs in
     let put-word : tie.After-put-word = search needs in
     let place4 = put-word .before in
@@ -76,7 +76,7 @@ buffer-spec =
     let k : count-into .count-into .result ≡ min (word % 2 ^ 14) (n - filled .filled .result) = count-into .count-into .ensures in
     (omega (arith, used .used .ensures), omega (arith, k, filled .filled .ensures)))
     (λ c. search needs)
-    (λ c h. 
+    (λ c h.
     let used : tie.After-used = search needs in
     let put-word : tie.After-put-word = search needs in
     let place4 = put-word .before in

@@ -28,7 +28,7 @@ goes-on-spec =
     (λ c κs. search needs)
     (λ c. search needs)
     (λ c. search needs)
-    (λ c f e. 
+    (λ c f e.
     let plain : tie.After-plain = search needs in
     let if2 = plain .before in
     let pausing = if2 .before in
@@ -52,7 +52,7 @@ goes-on-spec =
     }))
     (λ c κs. search needs)
     (λ c. search needs)
-    (λ c f e. 
+    (λ c f e.
     let plain : tie.After-plain2 = search needs in
     let if2 = plain .before in
     let pausing = if2 .before in

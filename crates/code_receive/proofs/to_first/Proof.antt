@@ -18,7 +18,7 @@ to-first-spec =
     (λ c κs. search needs)
     (λ c κs. search needs)
     (λ c κs. search needs)
-    (λ c. 
+    (λ c.
     let t : tie.Start = search needs in
     let begun : tie.After-begun = search needs in
     let is-bare : tie.After-is-bare = search needs in
@@ -30,7 +30,7 @@ to-first-spec =
       unit = λ h. rw (← is-bare .is-bare .ensures, then1 .if1 .taken) (closing _ v (t .args .first) false (c .with-next .ensures v false (begun-by (offsetOf n) (frameIn n) (wordOf n .first) (t .args .control) _ (begun .begun .ensures .1 (offsetOf n) (frameIn n) (wordOf n .first) h))));
     })
     (λ c κs. search needs)
-    (λ c. 
+    (λ c.
     let t : tie.Start = search needs in
     let begun : tie.After-begun = search needs in
     let is-bare : tie.After-is-bare = search needs in
@@ -44,7 +44,7 @@ to-first-spec =
     })
     (λ c κs. search needs)
     (λ c κs. search needs)
-    (λ c. 
+    (λ c.
     let t : tie.Start = search needs in
     let begun : tie.After-begun = search needs in
     let is-bare : tie.After-is-bare = search needs in
