@@ -55,7 +55,7 @@ const EVENT_SETS: u64 = 1 << 4;
 
 const CU_TAGS: u64 = 1 << 3;
 
-const MARK_SETS: u64 = 1 << 2;
+pub const MARK_SETS: u64 = 1 << 2;
 
 const MARK_BITS: u64 = 1 << 8;
 
