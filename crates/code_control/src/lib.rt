@@ -143,7 +143,10 @@ pub fn obey_cuc(
     match scb::cu_goes(command, cu_number(tag)) {
         0 => {
             abort(memory, base, cu::WAITING < tag, word, ABORTED_BLOCK);
-            CuObeyed { tag: cu::IDLE, word: 0 }
+            CuObeyed {
+                tag: cu::IDLE,
+                word: 0,
+            }
         }
         1 => cu_suspended(tag, word),
         _ => cu_active(

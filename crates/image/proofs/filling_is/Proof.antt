@@ -15,7 +15,7 @@ filling-is-spec =
     (λ c κs. search needs)
     (λ c κs. search needs)
     (λ c κs. search needs)
-    (λ c. 
+    (λ c.
     let frame-is : tie.After-frame-is = search needs in
     let used : tie.After-used = search needs in
     let goes-on : tie.After-goes-on = search needs in

@@ -26,7 +26,7 @@ is-image-spec =
     (λ c κs. search needs)
     (λ c κs. search needs)
     (λ c κs. search needs)
-    (λ c. 
+    (λ c.
     let then1 : tie.Then1 = search needs in
     let then2 : tie.Then2 = search needs in
     let spare-zero : tie.After-spare-zero = search needs in
@@ -43,7 +43,7 @@ is-image-spec =
     let b : (spareZero r && ltb (field r (setupAt + settingsAt) 1) settingsEnd) ≡ true = rw (← spare-zero .spare-zero .ensures, ← read8 .read8 .ensures) (then2 .if2 .taken) in
     image-working r w a b (sym (rw p at (initialised .initialised .ensures)) ∙ c .if3 .taken))
     (λ c κs. search needs)
-    (λ c. 
+    (λ c.
     let then1 : tie.Then1 = search needs in
     let then2 : tie.Then2 = search needs in
     let else3 : tie.Else3 = search needs in
@@ -60,7 +60,7 @@ is-image-spec =
     let a : wordsAre (field r lettersAt 8) (packedAt r) ≡ true = sym (rw (front-at .front-at .ensures, p) at (words-are .words-are .ensures)) ∙ then1 .if1 .taken in
     let b : (spareZero r && ltb (field r (setupAt + settingsAt) 1) settingsEnd) ≡ true = rw (← spare-zero .spare-zero .ensures, ← read8 .read8 .ensures) (then2 .if2 .taken) in
     c .is-fresh .ensures ∙ image-fresh r w a b (sym (rw p at (initialised .initialised .ensures)) ∙ else3 .if3 .left))
-    (λ c. 
+    (λ c.
     let then1 : tie.Then1 = search needs in
     let spare-zero : tie.After-spare-zero = search needs in
     let read8 : tie.After-read8 = search needs in
@@ -74,7 +74,7 @@ is-image-spec =
     let a : wordsAre (field r lettersAt 8) (packedAt r) ≡ true = sym (rw (front-at .front-at .ensures, p) at (words-are .words-are .ensures)) ∙ then1 .if1 .taken in
     let b : (spareZero r && ltb (field r (setupAt + settingsAt) 1) settingsEnd) ≡ false = rw (← spare-zero .spare-zero .ensures, ← read8 .read8 .ensures) (c .if2 .left) in
     image-spare r w a b)
-    (λ c. 
+    (λ c.
     let t : tie.Start = search needs in
     let packed-at : tie.After-packed-at = search needs in
     let front-at : tie.After-front-at = search needs in
