@@ -3,7 +3,11 @@ use mathlib.Core.Path.{_≡_}
 use mathlib.Core.List.{List}
 use Prim.Native.Nat.{ℕ}
 use Rattle.memory.specs.Memory.{apply}
-use Rattle.actions.specs.Actions.{Acted}
+use Rattle.memory.specs.declared.Offset.{Offset}
+use Rattle.memory.specs.declared.RealAddress.{RealAddress}
+use Rattle.device.specs.declared.Action.{Action}
+use Rattle.actions.specs.Setup.{Setup}
+use Rattle.actions.specs.Actions.{Acted, act}
 use Rattle.packed.specs.SetUp.{SetIs}
 use Rattle.code_actions.specs.declared.Done.{Done}
 
@@ -31,3 +35,7 @@ pub record Acts (said : Acted) (before : List ℕ) (r : Done) (m set : List ℕ)
   pub told : Tells said r
   pub memory : m ≡ apply (said .writes) before
   pub setup : SetIs (said .setup) set
+
+-- whatever setup the bytes are of: m and set are memory and setup before, the primed ones after
+abbrev pub ActsOn : Action → RealAddress → (block : Offset) → (m set : List ℕ) → Done → (m′ set′ : List ℕ) → Type 0
+ActsOn a base block m set r m′ set′ = (s : Setup) → SetIs s set → Acts (act a base s block m) m r m′ set′

@@ -1,7 +1,8 @@
 // The actions of the commands over lent bytes: what each reads from its block, puts into the setup or into memory, and its status.
-// It takes every memory and a setup of 104 bytes; the definitions are those of the crate `actions`, in document 01's order.
+// It takes every memory and a setup's bytes; the definitions are those of the crate `actions`, in document 01's order.
 use memory::Offset;
 use memory::RealAddress;
+use packed::setup;
 ghost use mathlib.Core.Path.{_≡_};
 ghost use Prim.Native.Nat.{_<_};
 ghost use lib.ListN.{length};
@@ -9,7 +10,7 @@ ghost use Rattle.device.specs.Numbers.{actionOf};
 ghost use Rattle.device.specs.declared.Settings.{Settings};
 ghost use Rattle.actions.specs.Setup.{Setup};
 ghost use Rattle.actions.specs.Actions as actions;
-ghost use Rattle.packed.specs.SetUp.{settingsByte, SetIs};
+ghost use Rattle.packed.specs.SetUp.{setupSize, settingsByte, SetIs};
 ghost use Rattle.code_actions.specs.Acts as acts;
 
 // The commands' own fields: the argument, and the addresses of an MC-Setup.
@@ -17,16 +18,10 @@ const ARGUMENT: u16 = 6;
 
 const ADDRESSES: u16 = 8;
 
-// A setup: a byte of settings, one of the minimum length, six of the own address, then the listed addresses.
-const SETTINGS: usize = 0;
+// Byte 2 of a Configure has save bad in its highest bit, byte 8 promiscuous and broadcast disabled in its lowest two.
+const SAVE_BAD: u8 = 1 << 7;
 
-const MINIMUM: usize = 1;
-
-const OWN: usize = 2;
-
-const LISTED: usize = 8;
-
-const LISTED_SIZE: usize = 96;
+const MODES: u8 = 1 << 2;
 
 // What an action comes to besides the lent bytes: the status, the length sent.
 pub struct Done {
@@ -52,7 +47,13 @@ pub fn plainly(status: u16, length: u16) -> Done
 fn ia_setup(memory: &[u8], base: RealAddress, setup: &mut [u8], block: Offset) -> Done
     ensures { λ r. ⌜ ((s : Setup) → SetIs s (now (setup .entry)) → acts.Sets (actions.iaSetup base s block (now (memory .entry))) r (now (setup .exit))) ⌝ }
 {
-    copies::copy_out(memory, memory::place(base, block, ARGUMENT), 6, setup, OWN);
+    copies::copy_out(
+        memory,
+        memory::place(base, block, ARGUMENT),
+        6,
+        setup,
+        setup::OWN,
+    );
     plainly(DONE, 0)
 }
 
@@ -86,15 +87,15 @@ fn byte_of(memory: &[u8], base: RealAddress, block: Offset, k: u16) -> u8
     memory::byte_at(memory, memory::place(base, block, ARGUMENT + k))
 }
 
-// The settings byte after a Configure: bit 0 is bit 7 of byte 2; above it stand bits 0 and 1 of byte 8 if that is taken, else what was kept.
+// The settings byte after a Configure: save bad is bit 7 of byte 2; the modes are bits 0 and 1 of byte 8 if that is taken, else what was kept.
 fn settings_by(memory: &[u8], base: RealAddress, block: Offset, count: u16, kept: u8) -> u8
     ensures { λ r. ⌜ ((s : Settings) → kept ≡ settingsByte s → r ≡ settingsByte (actions.settingsBy count (actions.byteOf base block (now (memory .entry))) s)) ⌝ }
 {
-    let save = byte_of(memory, base, block, 2) / 128;
+    let save = byte_of(memory, base, block, 2) / SAVE_BAD;
     if 8 < count {
-        return save + byte_of(memory, base, block, 8) % 4 * 2;
+        return setup::settings(save, byte_of(memory, base, block, 8) % MODES);
     }
-    save + kept / 2 * 2
+    setup::settings(save, setup::modes(kept))
 }
 
 // The minimum length after a Configure: byte 10 if that is taken, else what was kept.
@@ -109,13 +110,13 @@ fn minimum_by(memory: &[u8], base: RealAddress, block: Offset, count: u16, kept:
 
 // Configure: 8000h and nothing changed, if byte 3 is not acceptable.
 fn configure(memory: &[u8], base: RealAddress, setup: &mut [u8], block: Offset) -> Done
-    requires { ⌜ length (now setup) ≡ 104 ⌝ }
+    requires { ⌜ length (now setup) ≡ setupSize ⌝ }
     ensures { λ r. ⌜ ((s : Setup) → SetIs s (now (setup .entry)) → acts.Sets (actions.configure base s block (now (memory .entry))) r (now (setup .exit))) ⌝ }
 {
     if is_acceptable(byte_of(memory, base, block, 3)) {
         let count = clamp(byte_of(memory, base, block, 0));
-        setup[SETTINGS] = settings_by(memory, base, block, count, setup[SETTINGS]);
-        setup[MINIMUM] = minimum_by(memory, base, block, count, setup[MINIMUM]);
+        setup[setup::SETTINGS] = settings_by(memory, base, block, count, setup[setup::SETTINGS]);
+        setup[setup::MINIMUM] = minimum_by(memory, base, block, count, setup[setup::MINIMUM]);
         return plainly(DONE, 0);
     }
     plainly(FAILED, 0)
@@ -135,18 +136,18 @@ fn groups(memory: &[u8], base: RealAddress, block: Offset) -> u16
 
 // MC-Setup: the list is n addresses from +8 on, the unused slots zero; above 16 addresses 8000h, and the old list kept.
 fn mc_setup(memory: &[u8], base: RealAddress, setup: &mut [u8], block: Offset) -> Done
-    requires { ⌜ length (now setup) ≡ 104 ⌝ }
+    requires { ⌜ length (now setup) ≡ setupSize ⌝ }
     ensures { λ r. ⌜ ((s : Setup) → SetIs s (now (setup .entry)) → acts.Sets (actions.mcSetup base s block (now (memory .entry))) r (now (setup .exit))) ⌝ }
 {
     let n = groups(memory, base, block);
     if n <= 16 {
-        numerals::clear(setup, LISTED, LISTED_SIZE);
+        numerals::clear(setup, setup::LISTED, setup::LISTED_SIZE);
         copies::copy_out(
             memory,
             memory::place(base, block, ADDRESSES),
             n as usize * 6,
             setup,
-            LISTED,
+            setup::LISTED,
         );
         return plainly(DONE, 0);
     }
@@ -163,8 +164,8 @@ fn tdr(memory: &mut [u8], base: RealAddress, block: Offset) -> Done
 
 // The action of a begun command, by its number. No command before its end has 4, a Transmit's.
 pub fn act(memory: &mut [u8], base: RealAddress, setup: &mut [u8], kind: u64, block: Offset) -> Done
-    requires { ⌜ length (now setup) ≡ 104 ⌝ }
-    ensures { λ r. ⌜ ((s : Setup) → SetIs s (now (setup .entry)) → acts.Acts (actions.act (actionOf kind) base s block (now (memory .entry))) (now (memory .entry)) r (now (memory .exit)) (now (setup .exit))) ⌝ }
+    requires { ⌜ length (now setup) ≡ setupSize ⌝ }
+    ensures { λ r. ⌜ acts.ActsOn (actionOf kind) base block (now (memory .entry)) (now (setup .entry)) r (now (memory .exit)) (now (setup .exit)) ⌝ }
 {
     match kind {
         0 => plainly(DONE, 0),

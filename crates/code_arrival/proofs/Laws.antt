@@ -1,16 +1,14 @@
--- What a unit's word tells of a frame, and which counter an arrival adds to. No contract cites this file. Assumes nothing.
+-- Good frames, and which counter an arrival adds to. No contract cites this file. Assumes nothing.
 use mathlib.Core.Path.{_≡_, _∙_, refl, sym, ap}
 use mathlib.Core.Bool.{Bool, true, false, not, cond, _&&_, _||_, false≢true}
 use mathlib.Core.List.{List, [], _∷_}
-use Prim.Native.Nat.{ℕ, _+_, _*_, _/_, _%_, _<_, _≤_}
+use Prim.Native.Nat.{ℕ, _<_, _≤_}
 use native.Mathlib.Omega.{arith}
 use lib.Dec.{eqb}
-use lib.ListN.{getD}
 use Rattle.memory.specs.Address.{place}
 use Rattle.memory.specs.Memory.{countTo}
 use Rattle.memory.specs.declared.Offset.{Offset}
 use Rattle.memory.specs.declared.RealAddress.{RealAddress}
-use Rattle.scb.specs.Words.{one}
 use Rattle.device.specs.Answers.{counterOf, counts, isHeld}
 use Rattle.device.specs.Numbers.{counterPlace, verdictOf}
 use Rattle.device.specs.State.{goodBy, isGood}
@@ -21,10 +19,8 @@ use Rattle.device.specs.declared.Ru.{Ru}
 use Rattle.device.specs.declared.Ru.the-variants as ru
 use Rattle.device.specs.declared.Verdict.{Verdict}
 use Rattle.device.specs.declared.Verdict.the-variants as verdict
-use Rattle.actions.specs.Setup.{Setup}
 use Rattle.receive.specs.Arrival.{counterBy, counterFor, inReady, inNoResources, fateIn}
-use Rattle.phases.specs.Phases.{odd, wordOf, ruTag}
-use Rattle.packed.specs.SetUp.{setupBytes, SetIs}
+use Rattle.phases.specs.Phases.{ruTag}
 
 -- ---- numbers and what they are of
 
@@ -33,48 +29,6 @@ offset-same a b e = ap {B = Offset} (λ (x : ℕ). record { 0 = x }) e
 
 pub real-same : (a b : RealAddress) → a .0 ≡ b .0 → a ≡ b
 real-same a b e = ap {B = RealAddress} (λ (x : ℕ). record { 0 = x }) e
-
--- ---- flags of a word
-
-module _ (n : ℕ) where
-  pub first-in : odd (n / 65536) ≡ wordOf n .first
-  unfolding wordOf
-  first-in = let e : n / 65536 % 2 ≡ n / 65536 % 256 % 2 = omega arith in rw e
-
-  pub second-in : odd (n / 131072) ≡ wordOf n .second
-  unfolding wordOf
-  second-in = let e : n / 131072 % 2 ≡ n / 65536 % 256 / 2 % 2 = omega arith in rw e
-
-  pub third-in : odd (n / 262144) ≡ wordOf n .third
-  unfolding wordOf
-  third-in = let e : n / 262144 % 2 ≡ n / 65536 % 256 / 4 % 2 = omega arith in rw e
-
-  pub fourth-in : odd (n / 524288) ≡ wordOf n .fourth
-  unfolding wordOf
-  fourth-in = let e : n / 524288 % 2 ≡ n / 65536 % 256 / 8 % 2 = omega arith in rw e
-
-  pub fifth-in : odd (n / 1048576) ≡ wordOf n .fifth
-  unfolding wordOf
-  fifth-in = let e : n / 1048576 % 2 ≡ n / 65536 % 256 / 16 % 2 = omega arith in rw e
-
-  pub sixth-in : odd (n / 2097152) ≡ wordOf n .sixth
-  unfolding wordOf
-  sixth-in = let e : n / 2097152 % 2 ≡ n / 65536 % 256 / 32 % 2 = omega arith in rw e
-
--- ---- settings
-
-one-low : (a b c : Bool) → (one a + 2 * one b + 4 * one c) % 2 ≡ one a
-one-low true b c = omega arith
-one-low false b c = omega arith
-
-module _ (s : Setup) (b : List ℕ) (h : SetIs s b) where
-  pub savebad-is : getD b 0 0 % 2 ≡ one (s .settings .savebad)
-  unfolding setupBytes
-  savebad-is = rw (h .bytes-are) (one-low (s .settings .savebad) (s .settings .promiscuous) (s .settings .nobroadcast))
-
-  pub minimum-is : getD b 1 0 ≡ s .settings .minimum
-  unfolding setupBytes
-  minimum-is = rw (h .bytes-are)
 
 -- ---- good frames, and counters
 

@@ -7,30 +7,23 @@ use native.Mathlib.Omega.{arith}
 use Rattle.memory.specs.declared.Offset.{Offset}
 use Rattle.device.proofs.Laws.{verdict-back}
 use Rattle.device.specs.Answers.{isHeld}
-use Rattle.device.specs.Numbers.{verdictNumber}
 use Rattle.device.specs.State.{isGood}
 use Rattle.device.specs.declared.Frame.{Frame}
 use Rattle.device.specs.declared.Ru.{Ru}
 use Rattle.device.specs.declared.Ru.the-variants as ru
 use Rattle.device.specs.declared.Settings.{Settings}
-use Rattle.device.specs.declared.Verdict.{Verdict}
-use Rattle.device.specs.declared.Verdict.the-variants as verdict
 use Rattle.receive.specs.Arrival.{lengthOf, judged, counterFor, inNoResources, fateIn, holding}
-use Rattle.phases.specs.Phases.{numberOf, frameWord, ruWord, ruRest, WordWide}
-use Rattle.phases.proofs.Units.{never, word-back}
-use Rattle.packed.specs.Packed.{RuIs}
-use Rattle.code_arrival.specs.Arrives.{frameNumber, frameIn}
-
-pub verdict-below : (v : Verdict) → verdictNumber v < 3
-verdict-below verdict.Good = omega arith
-verdict-below verdict.Crc = omega arith
-verdict-below verdict.Misaligned = omega arith
+use Rattle.phases.specs.Phases.{plain, frameWord, frameNumber, WordWide}
+use Rattle.phases.proofs.Units.{never, word-back, verdict-small}
+use Rattle.packed.specs.Packed.{WordIs, RuIs}
+use Rattle.packed.proofs.Words.{held, ready-back}
+use Rattle.code_arrival.specs.Arrives.{frameIn}
 
 -- ---- an arriving frame
 
 -- a frame's word is as wide as its length
 frame-wide : (o : Offset) (f : Frame) (p : Bool) → o .0 < 65536 → f .length < 65536 → WordWide (frameWord o f p)
-frame-wide o f p h l = record { at = h; kind = omega (arith, verdict-below (f .verdict)); size = l; next = omega arith }
+frame-wide o f p h l = record { at = h; kind = omega (arith, verdict-small (f .verdict)); size = l; next = omega arith }
 
 pub judged-below : (s : Settings) (f : List ℕ) (v : ℕ) → judged s f v .length < 65536
 unfolding judged lengthOf
@@ -46,22 +39,14 @@ never-held true f e = never e
 never-held false f e = never e
 
 -- a unit that comes to hold a frame was Ready, and holds it before the descriptor that was next
-pub held-unit : (u : Ru) (tag n rest : ℕ) (f : Frame) → RuIs u tag n rest → isHeld (fateIn u f) ≡ true → f .length < 65536
-    → RuIs (holding u f) 4 (frameNumber f + n % 65536) 0
-unfolding ruWord ruRest numberOf
-held-unit ru.Idle tag n rest f h e l = absurd (never e)
-held-unit ru.NoResources tag n rest f h e l = absurd (never-held (isGood f) f e)
-held-unit (ru.Suspended o) tag n rest f h e l = absurd (never e)
-held-unit (ru.Ready o) tag n rest f h e l =
-    let m : n % 65536 ≡ o .0 = omega (arith, h .word-is, h .wide .at) in
-    record {
-      tag-is = refl;
-      word-is = rw m (omega arith);
-      rest-is = refl;
-      wide = frame-wide o f false (h .wide .at) l;
-      filling = tt;
-    }
-held-unit (ru.Held o g p) tag n rest f h e l = absurd (never e)
-held-unit (ru.Filling s w) tag n rest f h e l = absurd (never e)
-held-unit (ru.Closing s o full) tag n rest f h e l = absurd (never e)
-held-unit (ru.Lacking s) tag n rest f h e l = absurd (never e)
+pub held-unit : (u : Ru) (tag n rest : ℕ) (f : Frame) → RuIs u tag n rest → isHeld (fateIn u f) ≡ true
+    → (word : ℕ) → ((o : Offset) → WordIs (plain (o .0)) n → WordIs (frameWord o f false) word) → RuIs (holding u f) 4 word 0
+held-unit ru.Idle tag n rest f h e word put = absurd (never e)
+held-unit ru.NoResources tag n rest f h e word put = absurd (never-held (isGood f) f e)
+held-unit (ru.Suspended o) tag n rest f h e word put = absurd (never e)
+held-unit (ru.Ready o) tag n rest f h e word put =
+    held word o f false (put o (ready-back tag n rest o h))
+held-unit (ru.Held o g p) tag n rest f h e word put = absurd (never e)
+held-unit (ru.Filling s w) tag n rest f h e word put = absurd (never e)
+held-unit (ru.Closing s o full) tag n rest f h e word put = absurd (never e)
+held-unit (ru.Lacking s) tag n rest f h e word put = absurd (never e)

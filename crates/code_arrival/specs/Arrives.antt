@@ -1,24 +1,21 @@
 -- An arrival in numbers: receive's Arrival says what is done, and here stands that the numbers, the memory and the holding area afterwards
 -- are those. Assumes nothing.
 use mathlib.Core.Path.{_≡_}
-use mathlib.Core.Bool.{false}
+use mathlib.Core.Bool.{true}
 use mathlib.Core.List.{List}
 use Prim.Native.Nat.{ℕ}
 use Rattle.memory.specs.Memory.{apply}
 use Rattle.device.specs.Change.{withRu}
 use Rattle.device.specs.declared.Frame.{Frame}
 use Rattle.device.specs.declared.Units.{Units}
-use Rattle.phases.specs.Phases.{numberOf, wordOf, frameWord, frameOf}
-use Rattle.receive.specs.Arrival.{Arrival}
+use Rattle.actions.specs.Setup.{Setup}
+use Rattle.phases.specs.Phases.{wordOf, frameOf}
+use Rattle.receive.specs.Arrival.{Arrival, arrival}
 use Rattle.packed.specs.Packed.{PackedIs}
+use Rattle.packed.specs.SetUp.{SetIs}
 use Rattle.packed.specs.declared.Packed.{Packed}
 
--- ---- a frame as a number
-
--- as it was judged, before it is known which descriptor it goes to; and the frame that a unit's word tells
-abbrev pub frameNumber : Frame → ℕ
-frameNumber f = numberOf (frameWord (record { 0 = 0 }) f false)
-
+-- the frame that a unit's word tells
 abbrev pub frameIn : ℕ → Frame
 frameIn n = frameOf (wordOf n)
 
@@ -29,3 +26,8 @@ pub record Arrives (said : Arrival) (u : Units) (before : List ℕ) (r : Packed)
   pub units : PackedIs (withRu u (said .unit)) r
   pub memory : m ≡ apply (said .writes) before
   pub holding : h ≡ said .area
+
+-- whatever units and setup the numbers and bytes are of: m and h are memory and holding area before, the primed ones after
+abbrev pub ArrivesAt : Packed → (set frame : List ℕ) → (verdict : ℕ) → (m h : List ℕ) → Packed → (m′ h′ : List ℕ) → Type 0
+ArrivesAt k set frame verdict m h r m′ h′ =
+    (u : Units) (s : Setup) → PackedIs u k → SetIs s set → s .settings ≡ u .settings → Arrives (arrival u true frame verdict m h) u m r m′ h′

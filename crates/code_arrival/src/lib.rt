@@ -1,49 +1,24 @@
-// An arriving frame over numbers: how it is judged, whether the unit holds it, and which counter goes up. An arrival assumes 104 bytes of setup and
+// An arriving frame over numbers: how it is judged, whether the unit holds it, and which counter goes up. An arrival assumes a setup's bytes and
 // a frame of at least 14 bytes that matched. receive's specs/ say what is done, and specs/Arrives.antt that the numbers afterwards are those.
 use memory::Offset;
 use memory::RealAddress;
 use packed::Packed;
+use packed::ru;
+use packed::setup;
 ghost use mathlib.Core.Path.{_≡_};
-ghost use mathlib.Core.Bool.{true};
-ghost use Prim.Native.Nat.{_+_, _*_, _%_, _<_, _≤_};
+ghost use Prim.Native.Nat.{_<_, _≤_, _^_};
 ghost use lib.ListN.{length};
 ghost use Rattle.memory.specs.Memory.{apply};
-ghost use Rattle.memory.specs.declared.Offset.{Offset};
-ghost use Rattle.scb.specs.Words.{one};
 ghost use Rattle.device.specs.Answers.{counterOf, counts, isHeld};
 ghost use Rattle.device.specs.Numbers.{counterPlace, verdictNumber, verdictOf};
 ghost use Rattle.device.specs.State.{isGood};
 ghost use Rattle.device.specs.declared.Counter.{Counter};
 ghost use Rattle.device.specs.declared.Ru.{Ru};
-ghost use Rattle.device.specs.declared.Units.{Units};
 ghost use Rattle.actions.specs.Setup.{Setup};
 ghost use Rattle.receive.specs.Arrival as arrivals;
-ghost use Rattle.phases.specs.Phases.{ruTag};
-ghost use Rattle.packed.specs.Packed.{PackedIs};
-ghost use Rattle.packed.specs.SetUp.{SetIs};
-ghost use Rattle.code_arrival.specs.Arrives.{frameNumber, frameIn, Arrives};
-
-// The unit's tags.
-const SUSPENDED: u64 = 1;
-
-const NO_RESOURCES: u64 = 2;
-
-const READY: u64 = 3;
-
-const HELD: u64 = 4;
-
-// A unit's word has an offset in its low 16 bits.
-const OFFSETS: u64 = 65536;
-
-// What stands in the unit's word above the offset of the frame descriptor, by the value of its lowest bit: whether the frame is short, save-bad
-// at arrival, the verdict and the length. The room code_receive has the others.
-const SHORT: u64 = 131072;
-
-const SAVE_BAD: u64 = 262144;
-
-const VERDICT: u64 = 16777216;
-
-const LENGTH: u64 = 4294967296;
+ghost use Rattle.phases.specs.Phases.{ruTag, frameNumber};
+ghost use Rattle.packed.specs.SetUp.{setupSize, SetIs};
+ghost use Rattle.code_arrival.specs.Arrives.{frameIn, ArrivesAt};
 
 // A frame has at most 2,048 bytes; the FCS, four bytes more, no call hands over.
 const LONGEST: usize = 2048;
@@ -64,13 +39,6 @@ const RSCERRS: u16 = 12;
 
 const OVRNERRS: u16 = 14;
 
-// A flag as a number.
-pub fn bit(b: bool) -> u64
-    ensures { λ r. ⌜ (r ≡ one b) × (r < 2) ⌝ }
-{
-    if b { 1 } else { 0 }
-}
-
 // The length of a frame. One that exceeds 2,048 bytes is refused before anything here is asked.
 fn length_of(frame: &[u8]) -> u64
     ensures { λ r. ⌜ (r ≡ arrivals.lengthOf (now (frame .entry))) × (r ≤ 2048) ⌝ }
@@ -90,28 +58,31 @@ fn verdict_number(v: u32) -> u64
 
 // Short, bad and good are judged once, by the settings at arrival. Short: bytes plus 4 below the minimum.
 fn judge(setup: &[u8], frame: &[u8], verdict: u32) -> u64
-    requires { ⌜ length (now setup) ≡ 104 ⌝ }
-    ensures { λ r. ⌜ (r < 281474976710656) × ((s : Setup) → SetIs s (now (setup .entry)) → r ≡ frameNumber (arrivals.judged (s .settings) (now (frame .entry)) verdict)) ⌝ }
+    requires { ⌜ length (now setup) ≡ setupSize ⌝ }
+    ensures { λ r. ⌜ (r < 2 ^ 48) × ((s : Setup) → SetIs s (now (setup .entry)) → r ≡ frameNumber (arrivals.judged (s .settings) (now (frame .entry)) verdict)) ⌝ }
 {
     let length = length_of(frame);
-    SHORT * bit(length + FCS < setup[1] as u64)
-        + SAVE_BAD * (setup[0] % 2) as u64
-        + VERDICT * verdict_number(verdict)
-        + LENGTH * length
+    let short = length + FCS < setup::minimum(setup);
+    ru::frame(
+        short,
+        setup::saves_bad(setup),
+        verdict_number(verdict),
+        length,
+    )
 }
 
 // Neither short nor with a bad verdict.
 pub fn is_good(f: u64) -> bool
     ensures { λ r. ⌜ r ≡ isGood (frameIn f) ⌝ }
 {
-    !packed::flag(f, SHORT) & (packed::kind_of(f) == 0)
+    !ru::short(f) & (packed::kind_of(f) == 0)
 }
 
 // Short: no counter whatever the verdict. Misaligned verdict: ALNERRS. CRC verdict: CRCERRS.
 fn counter_of(f: u64) -> u16
     ensures { λ r. ⌜ r ≡ counterPlace (arrivals.counterFor (frameIn f)) ⌝ }
 {
-    if packed::flag(f, SHORT) {
+    if ru::short(f) {
         return UNCOUNTED;
     }
     match packed::kind_of(f) {
@@ -125,16 +96,16 @@ fn counter_of(f: u64) -> u16
 fn counter_for(tag: u64, f: u64) -> u16
     ensures { λ r. ⌜ ((u : Ru) → tag ≡ ruTag u → r ≡ counterPlace (counterOf (arrivals.fateIn u (frameIn f)))) ⌝ }
 {
-    if READY < tag {
+    if ru::READY < tag {
         return OVRNERRS;
     }
     if is_good(f) {
-        if tag == NO_RESOURCES {
+        if tag == ru::NO_RESOURCES {
             return RSCERRS;
         }
         return UNCOUNTED;
     }
-    if SUSPENDED < tag {
+    if ru::SUSPENDED < tag {
         return counter_of(f);
     }
     UNCOUNTED
@@ -144,7 +115,7 @@ fn counter_for(tag: u64, f: u64) -> u16
 fn is_held(tag: u64, f: u64) -> bool
     ensures { λ r. ⌜ ((u : Ru) → tag ≡ ruTag u → r ≡ isHeld (arrivals.fateIn u (frameIn f))) ⌝ }
 {
-    (tag == READY) & (is_good(f) | packed::flag(f, SAVE_BAD))
+    (tag == ru::READY) & (is_good(f) | ru::save_bad(f))
 }
 
 // The counter is read from the SCB, increased modulo 65,536, written back. No counter: nothing is written.
@@ -165,15 +136,15 @@ pub fn arrive(
     frame: &[u8],
     verdict: u32,
 ) -> Packed
-    requires { ⌜ (length (now setup) ≡ 104) × (14 ≤ length (now frame)) ⌝ }
-    ensures { λ r. ⌜ ((u : Units) (s : Setup) → PackedIs u k → SetIs s (now (setup .entry)) → s .settings ≡ u .settings → Arrives (arrivals.arrival u true (now (frame .entry)) verdict (now (memory .entry)) (now (holding .entry))) u (now (memory .entry)) r (now (memory .exit)) (now (holding .exit))) ⌝ }
+    requires { ⌜ (length (now setup) ≡ setupSize) × (14 ≤ length (now frame)) ⌝ }
+    ensures { λ r. ⌜ ArrivesAt k (now (setup .entry)) (now (frame .entry)) verdict (now (memory .entry)) (now (holding .entry)) r (now (memory .exit)) (now (holding .exit)) ⌝ }
 {
     let f = judge(setup, frame, verdict);
     let tag = packed::ru_tag(k);
     count(memory, packed::base(k), packed::scb(k), counter_for(tag, f));
     if is_held(tag, f) {
         memory::put_run(holding, HELD_FROM, frame);
-        return packed::with_ru(k, HELD, f + k.ru % OFFSETS, 0);
+        return packed::with_ru(k, ru::HELD, ru::held(f, k.ru), 0);
     }
     k
 }

@@ -11,7 +11,7 @@ use Rattle.scb.proofs.Status.{any-bits}
 use Rattle.device.specs.State.{freshUnits, fresh}
 use Rattle.device.specs.declared.Device.{Device}
 use Rattle.actions.specs.Setup.{setupOf}
-use Rattle.packed.specs.Packed.{flagsIn, PackedIs}
+use Rattle.packed.specs.Packed.{marksIn, PackedIs}
 use Rattle.packed.specs.SetUp.{SetIs}
 use Rattle.packed.specs.declared.Packed.{Packed}
 use Rattle.packed.proofs.Laws.{events-is}
@@ -37,11 +37,11 @@ module _ (d : Device) (m : List ℕ) where
   attends-reset m1 set k e h w s = rw e (record { kept = h; edge = refl; memory = w; setup = s })
 
   pub attends-obeyed : (command : ℕ) (m1 set : List ℕ) (k : Packed) → command ≡ wordAt m (ofScb (d .units) 2) → resets command ≡ false
-      → Leaves (obey d command m) m k m1 → SetIs (setupOf d) set → Attends (attend d m) m (record { kept = k; edge = not (eqb (flagsIn k / 16) 0) }) m1 set
+      → Leaves (obey d command m) m k m1 → SetIs (setupOf d) set → Attends (attend d m) m (record { kept = k; edge = not (eqb (marksIn k / 16) 0) }) m1 set
   unfolding attend obey unitsAfter
   attends-obeyed command m1 set k c e l s =
       let u = obey d command m .outcome .device .units in
-      let edge : not (eqb (flagsIn k / 16) 0) ≡ anyOf (u .events) = rw (events-is u k (l .kept)) (sym (any-bits (u .events))) in
+      let edge : not (eqb (marksIn k / 16) 0) ≡ anyOf (u .events) = rw (events-is u k (l .kept)) (sym (any-bits (u .events))) in
       rw (← c, e) (record { kept = l .kept; edge = edge; memory = l .memory; setup = s })
 
   pub attention-later : d .units .initialised ≡ true → attention d m ≡ attend d m

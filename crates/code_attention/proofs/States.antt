@@ -20,10 +20,10 @@ use Rattle.device.specs.declared.Units.{Units}
 use Rattle.actions.specs.Setup.{Setup, setupOf}
 use Rattle.phases.specs.Phases.{numberOf, cuTag, cuWord, ruTag, ruWord, ruRest}
 use Rattle.phases.proofs.Units.{one-below}
-use Rattle.packed.specs.Packed.{flagsBy, flagsIn, statusBy, packedOf, PackedIs}
+use Rattle.packed.specs.Packed.{marksBy, marksIn, statusBy, packedOf, PackedIs}
 use Rattle.packed.specs.SetUp.{setupBytes, SetIs}
 use Rattle.packed.specs.declared.Packed.{Packed}
-use Rattle.packed.proofs.Laws.{flags-is, events-is}
+use Rattle.packed.proofs.Laws.{marks-is, events-is}
 use Rattle.attention.specs.Attention.{initialEvents}
 use Rattle.code_control.proofs.CuCodes.{cu-idle-is}
 use Rattle.code_control.proofs.RuCodes.{ru-idle-is}
@@ -70,27 +70,27 @@ without : (x y z a b c d f : ℕ) → z + y ≡ x → 16 * x + a + b + c + d + f
 without x y z a b c d f e = omega arith
 
 module _ (u : Units) (k : Packed) (h : PackedIs u k) where
-  -- the flags below the events
-  pub low-flags : flagsIn k % 4 ≡ one (u .initialised) + 2 * one (u .rulast)
-  low-flags = rw (flags-is u k h) (omega (arith, one-below (u .initialised), one-below (u .rulast)))
+  -- the marks below the events
+  pub low-marks : marksIn k % 4 ≡ one (u .initialised) + 2 * one (u .rulast)
+  low-marks = rw (marks-is u k h) (omega (arith, one-below (u .initialised), one-below (u .rulast)))
 
-  rulast-bit : flagsIn k / 2 % 2 ≡ one (u .rulast)
-  rulast-bit = omega (arith, low-flags, one-below (u .initialised), one-below (u .rulast))
+  rulast-bit : marksIn k / 2 % 2 ≡ one (u .rulast)
+  rulast-bit = omega (arith, low-marks, one-below (u .initialised), one-below (u .rulast))
 
   pub acknowledges : (command : ℕ) → command < 65536
       → PackedIs (withEvents u (acknowledged (u .events) command))
-      (record { status = k .status - 16 * bitAnd (flagsIn k / 16) (command / 4096); cu = k .cu; ru = k .ru; rest = k .rest })
+      (record { status = k .status - 16 * bitAnd (marksIn k / 16) (command / 4096); cu = k .cu; ru = k .ru; rest = k .rest })
   unfolding packedOf
   acknowledges command l =
       let e = acknowledged (u .events) command in
-      let s : k .status ≡ statusBy (u .scb .0) (flagsBy (u .initialised) (u .rulast) (u .events)) (cuTag (u .cu)) (ruTag (u .ru)) (u .base .0) =
+      let s : k .status ≡ statusBy (u .scb .0) (marksBy (u .initialised) (u .rulast) (u .events)) (cuTag (u .cu)) (ruTag (u .ru)) (u .base .0) =
       ap (λ (x : Packed). x .status) (h .same) in
       let t : k .status - 16 * bitAnd (eventBits (u .events)) (command / 4096)
-      ≡ statusBy (u .scb .0) (flagsBy (u .initialised) (u .rulast) e) (cuTag (u .cu)) (ruTag (u .ru)) (u .base .0) =
-      let q : flagsBy (u .initialised) (u .rulast) (u .events) / 16 ≡ eventBits (u .events) = omega (arith, one-below (u .initialised), one-below (u .rulast)) in
-      let q' : flagsBy (u .initialised) (u .rulast) e / 16 ≡ eventBits e = omega (arith, one-below (u .initialised), one-below (u .rulast)) in
-      let r : flagsBy (u .initialised) (u .rulast) (u .events) % 4 ≡ one (u .initialised) + 2 * one (u .rulast) = omega (arith, one-below (u .initialised), one-below (u .rulast)) in
-      let r' : flagsBy (u .initialised) (u .rulast) e % 4 ≡ one (u .initialised) + 2 * one (u .rulast) = omega (arith, one-below (u .initialised), one-below (u .rulast)) in
+      ≡ statusBy (u .scb .0) (marksBy (u .initialised) (u .rulast) e) (cuTag (u .cu)) (ruTag (u .ru)) (u .base .0) =
+      let q : marksBy (u .initialised) (u .rulast) (u .events) / 16 ≡ eventBits (u .events) = omega (arith, one-below (u .initialised), one-below (u .rulast)) in
+      let q' : marksBy (u .initialised) (u .rulast) e / 16 ≡ eventBits e = omega (arith, one-below (u .initialised), one-below (u .rulast)) in
+      let r : marksBy (u .initialised) (u .rulast) (u .events) % 4 ≡ one (u .initialised) + 2 * one (u .rulast) = omega (arith, one-below (u .initialised), one-below (u .rulast)) in
+      let r' : marksBy (u .initialised) (u .rulast) e % 4 ≡ one (u .initialised) + 2 * one (u .rulast) = omega (arith, one-below (u .initialised), one-below (u .rulast)) in
       rw (s, q, q', r, r') (without (eventBits (u .events)) (eventBits e) (bitAnd (eventBits (u .events)) (command / 4096)) _ _ _ _ _ (cleared (u .events) command l)) in
       record {
         same =
@@ -107,12 +107,12 @@ module _ (u : Units) (k : Packed) (h : PackedIs u k) where
 
   pub initialises : (base : RealAddress) (scb : Offset) → base .0 < 16777216 → scb .0 < 65536
       → PackedIs (initialisedAt u base scb initialEvents)
-      (record { status = statusBy (scb .0 % 65536) ((flagsIn k / 2 % 2 * 2 + 161) % 256) 0 0 (base .0 % 16777216); cu = 0; ru = 0; rest = 0 })
+      (record { status = statusBy (scb .0 % 65536) ((marksIn k / 2 % 2 * 2 + 161) % 256) 0 0 (base .0 % 16777216); cu = 0; ru = 0; rest = 0 })
   unfolding packedOf numberOf cuWord ruWord ruRest eventBits joined
   initialises base scb b s =
       let p : scb .0 % 65536 ≡ scb .0 = omega arith in
       let q : base .0 % 16777216 ≡ base .0 = omega arith in
-      let f : (flagsIn k / 2 % 2 * 2 + 161) % 256 ≡ flagsBy true (u .rulast) initialEvents = omega (arith, rulast-bit, one-below (u .rulast)) in
+      let f : (marksIn k / 2 % 2 * 2 + 161) % 256 ≡ marksBy true (u .rulast) initialEvents = omega (arith, rulast-bit, one-below (u .rulast)) in
       record {
         same = rw (p, q, f);
         wide =

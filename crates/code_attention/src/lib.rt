@@ -5,6 +5,9 @@ use code_control::RuObeyed;
 use memory::Offset;
 use memory::RealAddress;
 use packed::Packed;
+use packed::cu;
+use packed::ru;
+use packed::setup;
 ghost use mathlib.Core.Path.{_≡_};
 ghost use mathlib.Core.List.{[], _∷_};
 ghost use Prim.Native.Nat.{_*_, _<_};
@@ -20,7 +23,8 @@ ghost use Rattle.device.specs.declared.Device.{Device};
 ghost use Rattle.device.specs.declared.Ru.{Ru};
 ghost use Rattle.device.specs.declared.Units.{Units};
 ghost use Rattle.actions.specs.Setup.{setupOf};
-ghost use Rattle.phases.specs.Phases.{odd, cuTag, ruTag};
+ghost use Rattle.phases.specs.Fields.{odd};
+ghost use Rattle.phases.specs.Phases.{cuTag, ruTag};
 ghost use Rattle.packed.specs.Packed as kept;
 ghost use Rattle.packed.specs.SetUp as setups;
 ghost use Rattle.control.specs.Obey as obeys;
@@ -52,26 +56,18 @@ const ACKNOWLEDGED: u16 = 12;
 
 const CODES: u16 = 0x0770;
 
-// The tags from which on the command unit is Active and the receive unit is Ready; and RUS of Ready.
-const ACTIVE: u64 = 2;
-
-const READY: u64 = 3;
-
+// RUS of Ready.
 const RUS_READY: u16 = 4;
 
-// The events CNA and RNR in the number of the events; the lowest event, and the base, in the kept status.
+// The events in their number: CX, CNA, RNR.
+const CX: u64 = 8;
+
 const CNA: u64 = 2;
 
 const RNR: u64 = 1;
 
-const EVENT: u64 = 16;
-
-const OFFSET: u64 = 16777216;
-
-const BASE: u64 = 1099511627776;
-
-// The kept flags of an initialisation: initialised, CX and CNA.
-const INITIALISED: u64 = 161;
+// The marks of an initialisation: initialised, CX and CNA.
+const INITIALISED: u64 = packed::INITIALISED + packed::EVENTS * (CX + CNA);
 
 // The setup after reset: the minimum length, and each byte of the own address.
 const MINIMUM: u8 = 64;
@@ -84,7 +80,7 @@ const OWN: u8 = 255;
 fn ru_number(tag: u64) -> u16
     ensures { λ r. ⌜ (r < 8) × ((v : Ru) → tag ≡ ruTag v → r ≡ words.ruNumber (states.ruState v)) ⌝ }
 {
-    if tag < READY {
+    if tag < ru::READY {
         return tag as u16;
     }
     RUS_READY
@@ -141,9 +137,9 @@ fn base_of(memory: &[u8], iscp: RealAddress) -> RealAddress
 fn initialised_at(k: Packed, base: RealAddress, scb: Offset) -> Packed
     ensures { λ r. ⌜ ((u : Units) → base .0 < 16777216 → kept.PackedIs u k → kept.PackedIs (change.initialisedAt u base scb attentions.initialEvents) r) ⌝ }
 {
-    let flags = packed::flags(k) / 2 % 2 * 2 + INITIALISED;
+    let marks = packed::marks(k) / packed::RU_LAST % 2 * packed::RU_LAST + INITIALISED;
     Packed {
-        status: packed::status_of(scb.0 as u64, flags, 0, 0, base.0 as u64),
+        status: packed::status_of(scb.0 as u64, marks, cu::IDLE, ru::IDLE, base.0 as u64),
         cu: 0,
         ru: 0,
         rest: 0,
@@ -170,7 +166,7 @@ fn acknowledge(k: Packed, command: u16) -> Packed
 {
     let cleared = packed::events(k) & (command >> ACKNOWLEDGED) as u64;
     Packed {
-        status: k.status - EVENT * cleared,
+        status: k.status - packed::EVENTS * cleared,
         cu: k.cu,
         ru: k.ru,
         rest: k.rest,
@@ -181,10 +177,10 @@ fn acknowledge(k: Packed, command: u16) -> Packed
 fn left_active(before: u64, after: u64) -> u64
     ensures { λ r. ⌜ (r < 3) × ((b a : Cu) → before ≡ cuTag b → after ≡ cuTag a → r ≡ 2 * words.one (attends.leftActive b a)) ⌝ }
 {
-    if before < ACTIVE {
+    if before < cu::WAITING {
         return 0;
     }
-    if after < ACTIVE {
+    if after < cu::WAITING {
         return CNA;
     }
     0
@@ -194,10 +190,10 @@ fn left_active(before: u64, after: u64) -> u64
 fn left_ready(before: u64, after: u64) -> u64
     ensures { λ r. ⌜ (r < 2) × ((b a : Ru) → before ≡ ruTag b → after ≡ ruTag a → r ≡ words.one (attends.leftReady b a)) ⌝ }
 {
-    if before < READY {
+    if before < ru::READY {
         return 0;
     }
-    if after < READY {
+    if after < ru::READY {
         return RNR;
     }
     0
@@ -209,9 +205,16 @@ fn after_codes(k: Packed, c: CuObeyed, r: RuObeyed, raised: u64) -> Packed
     ensures { λ x. ⌜ ((u : Units) (a : Cu) (v : Ru) (by : Events) → kept.PackedIs u k → kept.CuIs a (c .tag) (c .word) → kept.RuIs v (r .tag) (r .word) (r .rest)
         → raised ≡ words.eventBits by → kept.PackedIs (attends.bothWith u a v by) x) ⌝ }
 {
-    let flags = packed::flags(k) % 4 + 16 * packed::raise(packed::events(k), raised);
+    let marks = packed::marks(k) % packed::MARK_SETS
+        + packed::EVENTS * packed::raise(packed::events(k), raised);
     Packed {
-        status: packed::status_of(k.status / OFFSET, flags, c.tag, r.tag, k.status / BASE),
+        status: packed::status_of(
+            k.status / packed::SCB,
+            marks,
+            c.tag,
+            r.tag,
+            k.status / packed::BASE,
+        ),
         cu: c.word,
         ru: r.word,
         rest: r.rest,
@@ -290,24 +293,24 @@ fn fresh() -> Packed
 
 // The setup after reset: minimum length 64, six FFh for the address, all else zero.
 fn renew(setup: &mut [u8])
-    ensures { λ _. ⌜ (length (now (setup .entry)) ≡ 104 → now (setup .exit) ≡ setups.setupBytes (setupOf states.fresh)) ⌝ }
+    ensures { λ _. ⌜ (length (now (setup .entry)) ≡ setups.setupSize → now (setup .exit) ≡ setups.setupBytes (setupOf states.fresh)) ⌝ }
 {
-    let mut fresh: [u8; 104] = [0; 104];
-    fresh[1] = MINIMUM;
-    fresh[2] = OWN;
-    fresh[3] = OWN;
-    fresh[4] = OWN;
-    fresh[5] = OWN;
-    fresh[6] = OWN;
-    fresh[7] = OWN;
+    let mut fresh: [u8; setup::SIZE] = [0; setup::SIZE];
+    fresh[setup::MINIMUM] = MINIMUM;
+    fresh[setup::OWN] = OWN;
+    fresh[setup::OWN + 1] = OWN;
+    fresh[setup::OWN + 2] = OWN;
+    fresh[setup::OWN + 3] = OWN;
+    fresh[setup::OWN + 4] = OWN;
+    fresh[setup::OWN + 5] = OWN;
     memory::put_run(setup, 0, &fresh);
 }
 
 // Whether the first attention was.
 fn initialised(k: Packed) -> bool
-    ensures { λ r. ⌜ r ≡ odd (kept.flagsIn k) ⌝ }
+    ensures { λ r. ⌜ r ≡ odd (kept.marksIn k) ⌝ }
 {
-    packed::flags(k) % 2 == 1
+    packed::initialised(k)
 }
 
 // ---- an attention

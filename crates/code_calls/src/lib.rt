@@ -4,6 +4,7 @@ use device::Answer;
 use device::Refusal;
 use image::Decoded;
 use packed::Packed;
+use packed::record;
 ghost use mathlib.Core.Path.{_≡_};
 ghost use mathlib.Core.Bool.{true};
 ghost use Prim.Native.Nat.{_+_, _*_, _<_, _≤_};
@@ -12,7 +13,7 @@ ghost use lib.ListN.{length};
 ghost use Rattle.memory.specs.Size.{sizeAllowed};
 ghost use Rattle.scb.specs.Words as words;
 ghost use Rattle.device.specs.Answers as answers;
-ghost use Rattle.device.specs.Limits.{longest};
+ghost use Rattle.device.specs.Limits.{longest, recordSize};
 ghost use Rattle.device.specs.declared.Units.{Units};
 ghost use Rattle.calls.specs.Calls as calls;
 ghost use Rattle.code_calls.specs.Inner as inner;
@@ -48,7 +49,7 @@ fn refuse(r: Refusal) -> u64
 fn lengths_right(holding: usize, outgoing: usize, kept: usize) -> bool
     ensures { λ r. ⌜ r ≡ calls.lengthsRight holding outgoing kept ⌝ }
 {
-    (kept == 256) & (holding == 2048) & (outgoing == 2048)
+    (kept == record::SIZE) & (holding == 2048) & (outgoing == 2048)
 }
 
 // Why a call is refused, if it is not for its record: the lowest number that applies, by the lengths of what is lent and of the frame.
@@ -80,20 +81,15 @@ fn answer_of(edge: bool) -> u64
 
 // ---- the calls on a record that is an image: the setup is lent as it stands there, the units' numbers go back at the end
 
-// Where in a record the setup begins; it goes on to the end.
-const SETUP: usize = 152;
-
-const RECORD: usize = 256;
-
 // Where in an answer stands what a turn tells.
-const TOLD: u64 = 65536;
+const TOLD: u64 = 1 << 16;
 
 // An attention to the device of the numbers k.
 fn attention_on(memory: &mut [u8], kept: &mut [u8], k: Packed) -> u64
-    requires { ⌜ length (now kept) ≡ 256 ⌝ }
+    requires { ⌜ length (now kept) ≡ recordSize ⌝ }
     ensures { λ r. ⌜ ((u : Units) → inner.Finds (now (kept .entry)) k u → inner.AttendsOn u (now (memory .entry)) (now (kept .entry)) r (now (memory .exit)) (now (kept .exit))) ⌝ }
 {
-    let a = code_attention::attend(memory, &mut kept[SETUP..RECORD], k);
+    let a = code_attention::attend(memory, &mut kept[record::SETUP..record::SIZE], k);
     let after = a.kept;
     image::store(kept, after);
     answer_of(a.edge)
@@ -108,10 +104,17 @@ fn arrival_on(
     frame: &[u8],
     verdict: u32,
 ) -> u64
-    requires { ⌜ length (now kept) ≡ 256 ⌝ }
+    requires { ⌜ length (now kept) ≡ recordSize ⌝ }
     ensures { λ r. ⌜ ((u : Units) → inner.Finds (now (kept .entry)) k u → inner.ArrivesOn u (now (memory .entry)) (now (holding .entry)) (now (kept .entry)) (now (frame .entry)) verdict r (now (memory .exit)) (now (holding .exit)) (now (kept .exit))) ⌝ }
 {
-    let after = code_chip::arrival(memory, holding, &kept[SETUP..RECORD], k, frame, verdict);
+    let after = code_chip::arrival(
+        memory,
+        holding,
+        &kept[record::SETUP..record::SIZE],
+        k,
+        frame,
+        verdict,
+    );
     image::store(kept, after);
     answer_of(false)
 }
@@ -135,14 +138,14 @@ fn turns_on(
     budget: u16,
     unit: u64,
 ) -> u64
-    requires { ⌜ (length (now kept) ≡ 256) × (unit ≤ 281474976710656) ⌝ }
+    requires { ⌜ (length (now kept) ≡ recordSize) × (unit ≤ 281474976710656) ⌝ }
     ensures { λ r. ⌜ ((u : Units) → inner.Finds (now (kept .entry)) k u → inner.RunsOn u (now (memory .entry)) (now (holding .entry)) (now (outgoing .entry)) (now (kept .entry)) report budget unit r (now (memory .exit)) (now (outgoing .exit)) (now (kept .exit))) ⌝ }
 {
     let t = code_chip::run(
         memory,
         holding,
         outgoing,
-        &mut kept[SETUP..RECORD],
+        &mut kept[record::SETUP..record::SIZE],
         k,
         report,
         budget,
@@ -158,7 +161,7 @@ fn turns_on(
 pub fn reset(kept: &mut [u8]) -> u64
     ensures { λ r. ⌜ calls.Renews (calls.resetCall (now (kept .entry))) r (now (kept .exit)) ⌝ }
 {
-    if kept.len() == 256 {
+    if kept.len() == record::SIZE {
         image::renew(kept);
         return answer_of(false);
     }

@@ -36,8 +36,9 @@ use Rattle.chip.specs.World.{World, worldOf}
 use Rattle.chip.specs.Arrival.{arrival, arrivalOf}
 use Rattle.chip.specs.Turn.{commandUnits, receiveUnits, raisedIn, statusBy, concluded, commandTurn, receiveTurn, turnBy, turnOf, servedBy}
 use Rattle.chip.specs.Run.{tells, stops, stopsAt}
-use Rattle.phases.specs.Phases.{odd, cuTag, ruTag}
-use Rattle.packed.specs.Packed.{packedOf, flagsIn, cuTagIn, ruTagIn, PackedIs, cuServed}
+use Rattle.phases.specs.Fields.{odd}
+use Rattle.phases.specs.Phases.{cuTag, ruTag}
+use Rattle.packed.specs.Packed.{packedOf, marksIn, cuTagIn, ruTagIn, PackedIs, cuServed}
 use Rattle.packed.proofs.Laws.{cu-is, ru-is, rulast-is}
 use Rattle.packed.specs.SetUp.{SetIs}
 use Rattle.packed.specs.declared.Packed.{Packed}
@@ -239,7 +240,7 @@ module _ (u : Units) (k : Packed) (h : PackedIs u k) where
       let b = sym holds-is ∙ lt-leb 4 (ruTagIn k) n in
       rw (a, b)
 
-  pub commands-next : 2 ≤ cuTagIn k → 4 ≤ ruTagIn k → odd (flagsIn k / 2) ≡ commands u
+  pub commands-next : 2 ≤ cuTagIn k → 4 ≤ ruTagIn k → odd (marksIn k / 2) ≡ commands u
   unfolding commands
   commands-next l n =
       let a = sym active-is ∙ le-leb 2 (cuTagIn k) l in

@@ -1,6 +1,8 @@
 // The chip over numbers: a turn, turns in a row, and an arrival. The state goes in and comes out as four numbers, and what the commands set up
 // is lent beside it. The crate chip has the definitions that every promise here cites.
 use packed::Packed;
+use packed::cu;
+use packed::ru;
 ghost use mathlib.Core.Path.{_≡_};
 ghost use mathlib.Core.List.{List};
 ghost use Prim.Native.Nat.{ℕ};
@@ -14,6 +16,7 @@ ghost use Rattle.chip.specs.Arrival as arrivals;
 ghost use Rattle.chip.specs.Turn as turns;
 ghost use Rattle.chip.specs.Run as runs;
 ghost use Rattle.packed.specs.Packed as keeps;
+ghost use Rattle.packed.specs.SetUp.{setupSize};
 ghost use Rattle.code_chip.specs.Does as does;
 
 // What a turn comes to, besides the lent bytes; `told` is the length that it sent, with EDGE above it if it reports one. A turn that sends a
@@ -31,15 +34,7 @@ pub struct Turns {
     pub taken: u16,
 }
 
-const EDGE: u32 = 65536;
-
-// The command unit has work from this tag on, while Active; the receive unit from that one on, while a frame is held.
-const ACTIVE: u64 = 2;
-
-const HOLDING: u64 = 4;
-
-// The mark that the receive unit was served at the last working turn.
-const RU_LAST: u64 = 2;
+const EDGE: u32 = 1 << 16;
 
 // A frame has a header of 14 bytes; a shorter one is dropped before anything is asked of it.
 const HEADER: usize = 14;
@@ -73,7 +68,7 @@ fn command_turn(
     k: Packed,
     report: u16,
 ) -> Turned
-    requires { ⌜ length (now setup) ≡ 104 ⌝ }
+    requires { ⌜ length (now setup) ≡ setupSize ⌝ }
     ensures { λ r. ⌜ ((d : Device) (h : List ℕ) → does.DeviceIs d k (now (setup .entry)) → does.Tells (turns.commandTurn (world.worldOf d (now (memory .entry)) h (now (outgoing .entry))) report) r (now (memory .exit)) (now (outgoing .exit)) (now (setup .exit))) ⌝ }
 {
     let c = code_command::serve(
@@ -110,13 +105,13 @@ fn receive_turn(memory: &mut [u8], holding: &[u8], k: Packed) -> Turned
 fn commands(k: Packed) -> bool
     ensures { λ r. ⌜ ((u : Units) → keeps.PackedIs u k → r ≡ does.commands u) ⌝ }
 {
-    if packed::cu_tag(k) < ACTIVE {
+    if packed::cu_tag(k) < cu::WAITING {
         return false;
     }
-    if packed::ru_tag(k) < HOLDING {
+    if packed::ru_tag(k) < ru::HELD {
         return true;
     }
-    packed::flag(packed::flags(k), RU_LAST)
+    packed::ru_last(k)
 }
 
 // A turn: RU has work while a frame is held, CU while Active; if both have, the one not served at the last working turn is served.
@@ -128,13 +123,13 @@ pub fn turn(
     k: Packed,
     report: u16,
 ) -> Turned
-    requires { ⌜ length (now setup) ≡ 104 ⌝ }
+    requires { ⌜ length (now setup) ≡ setupSize ⌝ }
     ensures { λ r. ⌜ ((d : Device) → does.DeviceIs d k (now (setup .entry)) → does.Does (turns.turnOf (world.worldOf d (now (memory .entry)) (now (holding .entry)) (now (outgoing .entry))) report) (runs.stopsAt (world.worldOf d (now (memory .entry)) (now (holding .entry)) (now (outgoing .entry))) report) r (now (memory .exit)) (now (outgoing .exit)) (now (setup .exit))) ⌝ }
 {
     if commands(k) {
         return command_turn(memory, outgoing, setup, k, report);
     }
-    if HOLDING <= packed::ru_tag(k) {
+    if ru::HELD <= packed::ru_tag(k) {
         return receive_turn(memory, holding, k);
     }
     Turned {
@@ -156,7 +151,7 @@ pub fn run(
     report: u16,
     budget: u16,
 ) -> Turns
-    requires { ⌜ length (now setup) ≡ 104 ⌝ }
+    requires { ⌜ length (now setup) ≡ setupSize ⌝ }
     ensures { λ r. ⌜ ((d : Device) → does.DeviceIs d k (now (setup .entry)) → does.Runs (runs.runOf budget (world.worldOf d (now (memory .entry)) (now (holding .entry)) (now (outgoing .entry))) report) r (now (memory .exit)) (now (outgoing .exit)) (now (setup .exit))) ⌝ }
 {
     let mut state = k;
@@ -193,7 +188,7 @@ pub fn arrival(
     frame: &[u8],
     verdict: u32,
 ) -> Packed
-    requires { ⌜ length (now setup) ≡ 104 ⌝ }
+    requires { ⌜ length (now setup) ≡ setupSize ⌝ }
     ensures { λ r. ⌜ ((d : Device) (out : List ℕ) → does.DeviceIs d k (now (setup .entry)) → does.Arrives (arrivals.arrivalOf (world.worldOf d (now (memory .entry)) (now (holding .entry)) out) (now (frame .entry)) verdict) r (now (setup .entry)) (now (memory .exit)) (now (holding .exit))) ⌝ }
 {
     if frame.len() < HEADER {

@@ -8,6 +8,7 @@ use Rattle.scb.specs.Words.{eventBits}
 use Rattle.device.specs.declared.Cu.{Cu}
 use Rattle.actions.specs.Setup.{Setup}
 use Rattle.command.specs.Part.{Part, Service}
+use Rattle.command.specs.Service.{service}
 use Rattle.packed.specs.Packed.{CuIs}
 use Rattle.packed.specs.SetUp.{SetIs}
 use Rattle.code_command.specs.declared.Commanded.{Commanded}
@@ -24,3 +25,8 @@ pub record Serves (said : Service) (before : List ℕ) (r : Commanded) (m out se
   pub memory : m ≡ apply (said .writes) before
   pub outgoing : out ≡ said .part .outgoing
   pub setup : SetIs (said .part .setup) set
+
+-- whatever unit and setup the numbers and bytes are of: m, out and set are memory, outgoing area and setup before, the primed ones after
+abbrev pub Served : RealAddress → (tag n report : ℕ) → (m out set : List ℕ) → Commanded → (m′ out′ set′ : List ℕ) → Type 0
+Served base tag n report m out set r m′ out′ set′ =
+    (c : Cu) (s : Setup) → CuIs c tag n → SetIs s set → Serves (service (partBy base c s out) m report) m r m′ out′ set′

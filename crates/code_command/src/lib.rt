@@ -1,26 +1,23 @@
 // The command unit over its numbers: one service, which begins a command, takes a buffer of a Transmit, or ends a command.
-// It takes every memory, every tag and word, and a setup of 104 bytes; the definitions are those of the crate `command`, in the same order as here.
+// It takes every memory, every tag and word, and a setup's bytes; the definitions are those of the crate `command`, in the same order as here.
 use code_actions::Done;
 use memory::Offset;
 use memory::RealAddress;
+use packed::cu;
+use packed::setup;
 ghost use mathlib.Core.Path.{_≡_};
 ghost use mathlib.Core.Bool.{true};
-ghost use Prim.Native.Nat.{_+_, _<_};
-ghost use lib.Dec.{eqb};
+ghost use Prim.Native.Nat.{_+_, _<_, _^_};
 ghost use lib.ListN.{length};
 ghost use lib.Seq.{sets};
 ghost use Rattle.memory.specs.Address as address;
-ghost use Rattle.device.specs.Numbers as numbers;
 ghost use Rattle.device.specs.declared.Begun.{Begun};
-ghost use Rattle.device.specs.declared.Cu.{Cu};
 ghost use Rattle.actions.specs.Setup.{Setup};
 ghost use Rattle.command.specs.Begin as begins;
 ghost use Rattle.command.specs.Buffer as buffers;
-ghost use Rattle.command.specs.Service as services;
-ghost use Rattle.phases.specs.Phases.{wordOf, begunOf, sendingOf};
-ghost use Rattle.packed.specs.Packed.{CuIs};
-ghost use Rattle.packed.specs.SetUp.{SetIs};
-ghost use Rattle.code_actions.specs.Acts.{Acts};
+ghost use Rattle.phases.specs.Phases.{wordOf, begunOf};
+ghost use Rattle.packed.specs.Packed.{BegunIs};
+ghost use Rattle.packed.specs.SetUp.{setupSize, SetIs};
 ghost use Rattle.code_command.specs.Serves as serves;
 ghost use Rattle.code_command.specs.Inner as inner;
 
@@ -50,7 +47,7 @@ const COMMANDS: u16 = 8;
 
 const TRANSMIT: u16 = 4;
 
-const HELD: u16 = 8192;
+const HELD: u16 = 1 << 13;
 
 // A frame's header, and the most bytes of a frame. So many descriptors before it make a descriptor the last that a Transmit may use.
 const HEADER: u64 = 14;
@@ -60,47 +57,9 @@ const LONGEST: u64 = 2048;
 const LAST: u64 = 63;
 
 // A descriptor's word: the count is its rest by 16,384; EOF is the highest bit.
-const COUNT: u16 = 16384;
+const COUNT: u16 = 1 << 14;
 
-const EOF: u16 = 32768;
-
-// The own address in a setup.
-const OWN: usize = 2;
-
-const OWN_END: usize = 8;
-
-// The tags of the unit's phases.
-const IDLE: u64 = 0;
-
-const SUSPENDED: u64 = 1;
-
-const WAITING: u64 = 2;
-
-const ACTING: u64 = 3;
-
-const SENDING: u64 = 4;
-
-const ENDING: u64 = 5;
-
-const FAILING: u64 = 6;
-
-// Where a unit's word has its kind, its size and its next offset. Below them is the begun command: its block, I, S, EL, a waiting SUSPEND.
-const KIND: u64 = 16777216;
-
-const SIZE: u64 = 4294967296;
-
-const NEXT: u64 = 281474976710656;
-
-const BEGUN: u64 = 1048576;
-
-// Where a begun command has its flags.
-const INTERRUPT: u64 = 65536;
-
-const SUSPEND: u64 = 131072;
-
-const EL: u64 = 262144;
-
-const PAUSING: u64 = 524288;
+const EOF: u16 = 1 << 15;
 
 // Events as a number: 8 CX, 2 CNA.
 const CX: u64 = 8;
@@ -123,25 +82,25 @@ fn quiet(tag: u64, word: u64) -> Commanded
 
 // What the command word holds to the end: bits 13 to 15 are I, S, EL. No SUSPEND waits yet.
 fn begun_by(block: Offset, word: u16) -> u64
-    ensures { λ r. ⌜ (r < 1048576) × inner.BegunIs (begins.begunBy block word) r ⌝ }
+    ensures { λ r. ⌜ (r < 2 ^ 20) × BegunIs (begins.begunBy block word) r ⌝ }
 {
-    block.0 as u64 + INTERRUPT * (word / HELD) as u64
+    cu::begun(block, word / HELD)
 }
 
 // A Transmit goes on to its first descriptor, or to its end where there is none.
 fn to_first(none: bool, b: u64, first: Offset) -> Commanded
-    requires { ⌜ b < 1048576 ⌝ }
-    ensures { λ r. ⌜ ((v : Begun) → inner.BegunIs v b → inner.Quiet (begins.toFirst none v first) r) ⌝ }
+    requires { ⌜ b < 2 ^ 20 ⌝ }
+    ensures { λ r. ⌜ ((v : Begun) → BegunIs v b → inner.Quiet (begins.toFirst none v first) r) ⌝ }
 {
     if none {
-        return quiet(ENDING, b + SIZE * HEADER);
+        return quiet(cu::ENDING, cu::ending(b, HEADER));
     }
-    quiet(SENDING, b + SIZE * HEADER + NEXT * first.0 as u64)
+    quiet(cu::SENDING, cu::sending(b, 0, HEADER, first))
 }
 
 // The header of a Transmit goes to the outgoing area: destination, own address, type.
 fn put_header(memory: &[u8], outgoing: &mut [u8], setup: &[u8], base: RealAddress, block: Offset)
-    requires { ⌜ length (now setup) ≡ 104 ⌝ }
+    requires { ⌜ length (now setup) ≡ setupSize ⌝ }
     ensures { λ _. ⌜ ((s : Setup) → SetIs s (now (setup .entry)) → now (outgoing .exit) ≡ sets (now (outgoing .entry)) 0 (begins.headerOf base (s .own) block (now (memory .entry)))) ⌝ }
 {
     copies::copy_out(
@@ -151,7 +110,7 @@ fn put_header(memory: &[u8], outgoing: &mut [u8], setup: &[u8], base: RealAddres
         outgoing,
         0,
     );
-    memory::put_run(outgoing, 6, &setup[OWN..OWN_END]);
+    memory::put_run(outgoing, 6, &setup[setup::OWN..setup::OWN_END]);
     copies::copy_out(memory, memory::place(base, block, TYPE), 2, outgoing, 12);
 }
 
@@ -164,8 +123,8 @@ fn begin_transmit(
     block: Offset,
     b: u64,
 ) -> Commanded
-    requires { ⌜ (length (now setup) ≡ 104) × (b < 1048576) ⌝ }
-    ensures { λ r. ⌜ ((v : Begun) (c : Cu) (s : Setup) → inner.BegunIs v b → v .block ≡ block → SetIs s (now (setup .entry)) → inner.Goes (begins.toBegun true (serves.partBy base c s (now (outgoing .entry))) v 0 (now (memory .entry))) r (now (outgoing .exit))) ⌝ }
+    requires { ⌜ (length (now setup) ≡ setupSize) × (b < 2 ^ 20) ⌝ }
+    ensures { λ r. ⌜ inner.Transmits base block b (now (memory .entry)) (now (outgoing .entry)) (now (setup .entry)) r (now (outgoing .exit)) ⌝ }
 {
     let first = memory::offset_at(memory, memory::place(base, block, ARGUMENT));
     put_header(memory, outgoing, setup, base, block);
@@ -181,15 +140,15 @@ fn to_begun(
     block: Offset,
     word: u16,
 ) -> Commanded
-    requires { ⌜ length (now setup) ≡ 104 ⌝ }
-    ensures { λ r. ⌜ ((c : Cu) (s : Setup) → SetIs s (now (setup .entry)) → inner.Goes (begins.toBegun (eqb (begins.cmd word) numbers.transmit) (serves.partBy base c s (now (outgoing .entry))) (begins.begunBy block word) word (now (memory .entry))) r (now (outgoing .exit))) ⌝ }
+    requires { ⌜ length (now setup) ≡ setupSize ⌝ }
+    ensures { λ r. ⌜ inner.Begins base block word (now (memory .entry)) (now (outgoing .entry)) (now (setup .entry)) r (now (outgoing .exit)) ⌝ }
 {
     let number = word % COMMANDS;
     let b = begun_by(block, word);
     if number == TRANSMIT {
         return begin_transmit(memory, outgoing, setup, base, block, b);
     }
-    quiet(ACTING, b + KIND * number as u64)
+    quiet(cu::ACTING, cu::acting(b, number as u64))
 }
 
 // Begin: the command word is read, and the status 4000h written.
@@ -200,8 +159,8 @@ fn begin(
     base: RealAddress,
     block: Offset,
 ) -> Commanded
-    requires { ⌜ length (now setup) ≡ 104 ⌝ }
-    ensures { λ r. ⌜ ((c : Cu) (s : Setup) → SetIs s (now (setup .entry)) → serves.Serves (begins.begin (serves.partBy base c s (now (outgoing .entry))) block (now (memory .entry))) (now (memory .entry)) r (now (memory .exit)) (now (outgoing .exit)) (now (setup .entry))) ⌝ }
+    requires { ⌜ length (now setup) ≡ setupSize ⌝ }
+    ensures { λ r. ⌜ inner.Opens base block (now (memory .entry)) (now (outgoing .entry)) (now (setup .entry)) r (now (memory .exit)) (now (outgoing .exit)) ⌝ }
 {
     let word = memory::word_at(memory, memory::place(base, block, COMMAND));
     let next = to_begun(memory, outgoing, setup, base, block, word);
@@ -213,36 +172,33 @@ fn begin(
 
 // Where a Transmit goes after a buffer that fitted: to its end at EOF; it fails at FFFFh before EOF, and with no EOF in 64.
 fn after_buffer(eof: bool, next: Offset, b: u64, used: u64, filled: u64) -> Commanded
-    requires { ⌜ (b < 1048576) × (used < 256) × (filled < 65536) ⌝ }
-    ensures { λ r. ⌜ ((v : Begun) → inner.BegunIs v b → inner.Quiet (buffers.afterBuffer true eof (address.isNone next) (buffers.isLast used) v (inner.walk next (used + 1) filled)) r) ⌝ }
+    requires { ⌜ (b < 2 ^ 20) × (used < 2 ^ 8) × (filled < 2 ^ 16) ⌝ }
+    ensures { λ r. ⌜ ((v : Begun) → BegunIs v b → inner.Quiet (buffers.afterBuffer true eof (address.isNone next) (buffers.isLast used) v (inner.walk next (used + 1) filled)) r) ⌝ }
 {
     if eof {
-        return quiet(ENDING, b + SIZE * filled);
+        return quiet(cu::ENDING, cu::ending(b, filled));
     }
     if memory::is_none(next) {
-        return quiet(FAILING, b);
+        return quiet(cu::FAILING, b);
     }
     if LAST <= used {
-        return quiet(FAILING, b);
+        return quiet(cu::FAILING, b);
     }
-    quiet(
-        SENDING,
-        b + KIND * (used + 1) + SIZE * filled + NEXT * next.0 as u64,
-    )
+    quiet(cu::SENDING, cu::sending(b, used + 1, filled, next))
 }
 
 // A buffer turn of a Transmit: one descriptor, +0 15 EOF, 13-0 count; +2 next offset; +4 real address. Its data goes behind what is there;
 // none of a buffer that would pass 2,048 bytes. Memory is only read.
 fn buffer(memory: &[u8], outgoing: &mut [u8], base: RealAddress, n: u64) -> Commanded
-    ensures { λ r. ⌜ ((c : Cu) (s : Setup) → inner.Goes (buffers.buffer (serves.partBy base c s (now (outgoing .entry))) (begunOf (wordOf n)) (sendingOf (wordOf n)) (now (memory .entry)) .part) r (now (outgoing .exit))) ⌝ }
+    ensures { λ r. ⌜ inner.Buffers base n (now (memory .entry)) (now (outgoing .entry)) r (now (outgoing .exit)) ⌝ }
 {
     let o = packed::next_of(n);
     let filled = packed::size_of(n);
-    let b = n % BEGUN;
+    let b = cu::begun_of(n);
     let word = memory::word_at(memory, memory::place(base, o, 0));
     let count = (word % COUNT) as u64;
     if LONGEST < filled + count {
-        return quiet(FAILING, b);
+        return quiet(cu::FAILING, b);
     }
     let next = memory::offset_at(memory, memory::place(base, o, 2));
     let buffer = memory::real_at(memory, memory::place(base, o, 4));
@@ -256,26 +212,26 @@ fn buffer(memory: &[u8], outgoing: &mut [u8], base: RealAddress, n: u64) -> Comm
 fn after_end(b: u64, link: Offset, length: u16) -> Commanded
     ensures { λ r. ⌜ inner.Leaves (begunOf (wordOf b)) link length r ⌝ }
 {
-    let cx = b / INTERRUPT % 2 * CX;
-    if packed::flag(b, EL) {
+    let cx = cu::interrupt(b) * CX;
+    if cu::el(b) {
         return Commanded {
-            tag: IDLE,
+            tag: cu::IDLE,
             word: 0,
             raised: cx + CNA,
             length: length,
         };
     }
-    if packed::flag(b, SUSPEND) | packed::flag(b, PAUSING) {
+    if cu::suspend(b) | cu::pausing(b) {
         return Commanded {
-            tag: SUSPENDED,
-            word: link.0 as u64,
+            tag: cu::SUSPENDED,
+            word: packed::plain(link),
             raised: cx + CNA,
             length: length,
         };
     }
     Commanded {
-        tag: WAITING,
-        word: link.0 as u64,
+        tag: cu::WAITING,
+        word: packed::plain(link),
         raised: cx,
         length: length,
     }
@@ -300,12 +256,12 @@ fn done_by(
     n: u64,
     report: u16,
 ) -> Done
-    requires { ⌜ length (now setup) ≡ 104 ⌝ }
-    ensures { λ r. ⌜ ((c : Cu) (s : Setup) → CuIs c tag n → SetIs s (now (setup .entry)) → Acts (inner.actedBy c base s (now (memory .entry)) report) (now (memory .entry)) r (now (memory .exit)) (now (setup .exit))) ⌝ }
+    requires { ⌜ length (now setup) ≡ setupSize ⌝ }
+    ensures { λ r. ⌜ inner.ActsBy base tag n report (now (memory .entry)) (now (setup .entry)) r (now (memory .exit)) (now (setup .exit)) ⌝ }
 {
     match tag {
-        ACTING => code_actions::act(memory, base, setup, packed::kind_of(n), packed::at_of(n)),
-        ENDING => code_actions::send(packed::size_of(n) as u16, report),
+        cu::ACTING => code_actions::act(memory, base, setup, packed::kind_of(n), packed::at_of(n)),
+        cu::ENDING => code_actions::send(packed::size_of(n) as u16, report),
         _ => code_actions::plainly(0x8100, 0),
     }
 }
@@ -323,14 +279,14 @@ pub fn serve(
     n: u64,
     report: u16,
 ) -> Commanded
-    requires { ⌜ length (now setup) ≡ 104 ⌝ }
-    ensures { λ r. ⌜ ((c : Cu) (s : Setup) → CuIs c tag n → SetIs s (now (setup .entry)) → serves.Serves (services.service (serves.partBy base c s (now (outgoing .entry))) (now (memory .entry)) report) (now (memory .entry)) r (now (memory .exit)) (now (outgoing .exit)) (now (setup .exit))) ⌝ }
+    requires { ⌜ length (now setup) ≡ setupSize ⌝ }
+    ensures { λ r. ⌜ serves.Served base tag n report (now (memory .entry)) (now (outgoing .entry)) (now (setup .entry)) r (now (memory .exit)) (now (outgoing .exit)) (now (setup .exit)) ⌝ }
 {
     match tag {
-        IDLE => quiet(tag, n),
-        SUSPENDED => quiet(tag, n),
-        WAITING => begin(memory, outgoing, setup, base, packed::at_of(n)),
-        SENDING => buffer(memory, outgoing, base, n),
+        cu::IDLE => quiet(tag, n),
+        cu::SUSPENDED => quiet(tag, n),
+        cu::WAITING => begin(memory, outgoing, setup, base, packed::at_of(n)),
+        cu::SENDING => buffer(memory, outgoing, base, n),
         _ => {
             let done = done_by(memory, setup, base, tag, n, report);
             end(memory, base, done, n)

@@ -2,6 +2,8 @@
 // It takes every memory and all numbers; specs/ says what comes of numbers that are a unit's, in the words of the room control.
 use memory::Offset;
 use memory::RealAddress;
+use packed::cu;
+use packed::ru;
 ghost use mathlib.Core.Path.{_≡_};
 ghost use Prim.Native.Nat.{_<_};
 ghost use Rattle.memory.specs.Memory as bytes;
@@ -33,26 +35,10 @@ const ABORTED_BLOCK: u16 = 0x9000;
 
 const ABORTED_DESCRIPTOR: u16 = 0;
 
-// The tags of the phases that a code tells apart: below Waiting the command unit is not Active, below Ready the receive unit is not Ready.
-const IDLE: u64 = 0;
-
-const SUSPENDED: u64 = 1;
-
-const WAITING: u64 = 2;
-
-const READY: u64 = 3;
-
-const HELD: u64 = 4;
-
 // The number of Active in CUS, and the column of Ready in the control table.
 const CUS_ACTIVE: u8 = 2;
 
 const READY_COLUMN: u8 = 3;
-
-// The flags of a waiting SUSPEND in the units' words.
-const CU_PAUSING: u64 = 524288;
-
-const RU_PAUSING: u64 = 65536;
 
 // ---- what both units do
 
@@ -98,7 +84,7 @@ pub struct CuObeyed {
 pub fn cu_number(tag: u64) -> u8
     ensures { λ r. ⌜ (r < 4) × ((c : Cu) → tag ≡ cuTag c → r ≡ words.cuNumber (states.cuState c)) ⌝ }
 {
-    if WAITING < tag {
+    if cu::WAITING < tag {
         return CUS_ACTIVE;
     }
     tag as u8
@@ -108,21 +94,21 @@ pub fn cu_number(tag: u64) -> u8
 fn cu_suspended(tag: u64, word: u64) -> CuObeyed
     ensures { λ r. ⌜ ((c : Cu) → kept.CuIs c tag word → kept.CuIs (control.cuSuspended c) (r .tag) (r .word)) ⌝ }
 {
-    if tag < WAITING {
+    if tag < cu::WAITING {
         return CuObeyed {
             tag: tag,
             word: word,
         };
     }
-    if tag == WAITING {
+    if tag == cu::WAITING {
         return CuObeyed {
-            tag: SUSPENDED,
+            tag: cu::SUSPENDED,
             word: word,
         };
     }
     CuObeyed {
         tag: tag,
-        word: word | CU_PAUSING,
+        word: word | cu::PAUSING,
     }
 }
 
@@ -130,9 +116,9 @@ fn cu_suspended(tag: u64, word: u64) -> CuObeyed
 fn cu_active(first: Offset, tag: u64, word: u64) -> CuObeyed
     ensures { λ r. ⌜ ((c : Cu) → kept.CuIs c tag word → kept.CuIs (control.cuActive first c) (r .tag) (r .word)) ⌝ }
 {
-    if tag < WAITING {
+    if tag < cu::WAITING {
         return CuObeyed {
-            tag: WAITING,
+            tag: cu::WAITING,
             word: first.0 as u64,
         };
     }
@@ -156,8 +142,11 @@ pub fn obey_cuc(
 {
     match scb::cu_goes(command, cu_number(tag)) {
         0 => {
-            abort(memory, base, WAITING < tag, word, ABORTED_BLOCK);
-            CuObeyed { tag: IDLE, word: 0 }
+            abort(memory, base, cu::WAITING < tag, word, ABORTED_BLOCK);
+            CuObeyed {
+                tag: cu::IDLE,
+                word: 0,
+            }
         }
         1 => cu_suspended(tag, word),
         _ => cu_active(
@@ -188,7 +177,7 @@ pub struct RuObeyed {
 fn ru_column(tag: u64) -> u8
     ensures { λ r. ⌜ (r < 4) × ((v : Ru) → tag ≡ ruTag v → r ≡ numbers.ruColumn (states.ruState v)) ⌝ }
 {
-    if READY < tag {
+    if ru::READY < tag {
         return READY_COLUMN;
     }
     tag as u8
@@ -198,23 +187,23 @@ fn ru_column(tag: u64) -> u8
 fn ru_suspended(tag: u64, word: u64, rest: u64) -> RuObeyed
     ensures { λ r. ⌜ ((v : Ru) → kept.RuIs v tag word rest → kept.RuIs (control.ruSuspended v) (r .tag) (r .word) (r .rest)) ⌝ }
 {
-    if tag < READY {
+    if tag < ru::READY {
         return RuObeyed {
             tag: tag,
             word: word,
             rest: rest,
         };
     }
-    if tag == READY {
+    if tag == ru::READY {
         return RuObeyed {
-            tag: SUSPENDED,
+            tag: ru::SUSPENDED,
             word: word,
             rest: rest,
         };
     }
     RuObeyed {
         tag: tag,
-        word: word | RU_PAUSING,
+        word: word | ru::PAUSING,
         rest: rest,
     }
 }
@@ -223,9 +212,9 @@ fn ru_suspended(tag: u64, word: u64, rest: u64) -> RuObeyed
 fn ru_ready(first: Offset, tag: u64, word: u64, rest: u64) -> RuObeyed
     ensures { λ r. ⌜ ((v : Ru) → kept.RuIs v tag word rest → kept.RuIs (control.ruReady first v) (r .tag) (r .word) (r .rest)) ⌝ }
 {
-    if tag < READY {
+    if tag < ru::READY {
         return RuObeyed {
-            tag: READY,
+            tag: ru::READY,
             word: first.0 as u64,
             rest: 0,
         };
@@ -252,9 +241,9 @@ pub fn obey_ruc(
 {
     match scb::ru_goes(command, ru_column(tag)) {
         0 => {
-            abort(memory, base, HELD < tag, word, ABORTED_DESCRIPTOR);
+            abort(memory, base, ru::HELD < tag, word, ABORTED_DESCRIPTOR);
             RuObeyed {
-                tag: IDLE,
+                tag: ru::IDLE,
                 word: 0,
                 rest: 0,
             }

@@ -1,25 +1,18 @@
 // Is this frame for us: the one question that an arrival asks of the settings and the addresses, which are lent as the record keeps them.
-// It assumes 104 bytes of them and a frame of at least 14 bytes. filter's Match says the answer.
+// It assumes all their bytes and a frame of at least 14 bytes. filter's Match says the answer.
+use packed::setup;
 ghost use mathlib.Core.Path.{_≡_};
 ghost use Prim.Native.Nat.{_≤_};
 ghost use lib.ListN.{length, drop};
 ghost use Rattle.device.specs.Limits.{addressLength, mostListed};
 ghost use Rattle.filter.specs.Match as match;
 ghost use Rattle.actions.specs.Setup.{Setup};
-ghost use Rattle.packed.specs.SetUp.{SetIs};
+ghost use Rattle.packed.specs.SetUp.{ownAt, listedAt, setupSize, SetIs};
 
 // An address has six bytes, and sixteen addresses are listed.
 const ADDRESS: usize = 6;
 
 const LISTED: usize = 16;
-
-// What the bytes hold: the settings, then the minimum length, the own address, the listed addresses.
-const LISTED_FROM: usize = 8;
-
-// Bits of the settings' byte, by their values.
-const PROMISCUOUS: u8 = 2;
-
-const NO_BROADCAST: u8 = 4;
 
 // Whether the destination of a frame is all FFh.
 fn is_broadcast(frame: &[u8]) -> bool
@@ -36,29 +29,29 @@ fn is_broadcast(frame: &[u8]) -> bool
 
 // Whether it is the own address. The six bytes are compared without a branch between them.
 fn is_own(setup: &[u8], frame: &[u8]) -> bool
-    requires { ⌜ (length (now setup) ≡ 104) × (14 ≤ length (now frame)) ⌝ }
-    ensures { λ r. ⌜ r ≡ match.agree (now (setup .entry)) 2 (now (frame .entry)) addressLength ⌝ }
+    requires { ⌜ (length (now setup) ≡ setupSize) × (14 ≤ length (now frame)) ⌝ }
+    ensures { λ r. ⌜ r ≡ match.agree (now (setup .entry)) ownAt (now (frame .entry)) addressLength ⌝ }
 {
-    (setup[2] == frame[0])
-        & (setup[3] == frame[1])
-        & (setup[4] == frame[2])
-        & (setup[5] == frame[3])
-        & (setup[6] == frame[4])
-        & (setup[7] == frame[5])
+    (setup[setup::OWN] == frame[0])
+        & (setup[setup::OWN + 1] == frame[1])
+        & (setup[setup::OWN + 2] == frame[2])
+        & (setup[setup::OWN + 3] == frame[3])
+        & (setup[setup::OWN + 4] == frame[4])
+        & (setup[setup::OWN + 5] == frame[5])
 }
 
 // Whether the destination is one of the sixteen listed addresses. A listed address is left at the first byte that differs, and the list
 // at the first address that agrees.
 fn is_listed(setup: &[u8], frame: &[u8]) -> bool
-    requires { ⌜ (length (now setup) ≡ 104) × (14 ≤ length (now frame)) ⌝ }
-    ensures { λ r. ⌜ r ≡ match.isListed (drop 8 (now (setup .entry))) (now (frame .entry)) mostListed ⌝ }
+    requires { ⌜ (length (now setup) ≡ setupSize) × (14 ≤ length (now frame)) ⌝ }
+    ensures { λ r. ⌜ r ≡ match.isListed (drop listedAt (now (setup .entry))) (now (frame .entry)) mostListed ⌝ }
 {
     let mut found = false;
     let mut i: usize = 0;
     'listed: while i < LISTED {
         let mut j: usize = 0;
         while j < ADDRESS {
-            if setup[LISTED_FROM + i * ADDRESS + j] != frame[j] {
+            if setup[setup::LISTED + i * ADDRESS + j] != frame[j] {
                 i += 1;
                 continue 'listed;
             }
@@ -81,14 +74,14 @@ fn is_group(frame: &[u8]) -> bool
 // Match: promiscuous; or all FFh with broadcast enabled; or not all FFh and either own address or, with the low bit of the first byte
 // set, a listed address.
 pub fn matches(setup: &[u8], frame: &[u8]) -> bool
-    requires { ⌜ (length (now setup) ≡ 104) × (14 ≤ length (now frame)) ⌝ }
+    requires { ⌜ (length (now setup) ≡ setupSize) × (14 ≤ length (now frame)) ⌝ }
     ensures { λ r. ⌜ ((s : Setup) → SetIs s (now (setup .entry)) → r ≡ match.matches (s .settings) (s .own) (s .listed) (now (frame .entry))) ⌝ }
 {
-    if setup[0] / PROMISCUOUS % 2 == 1 {
+    if setup::promiscuous(setup) {
         return true;
     }
     if is_broadcast(frame) {
-        return setup[0] / NO_BROADCAST % 2 == 0;
+        return !setup::no_broadcast(setup);
     }
     if is_own(setup, frame) {
         return true;

@@ -1,9 +1,9 @@
 -- Words of descriptors, the status of a frame, and an end whose writes come in two parts. No contract cites this file. Assumes nothing.
-use mathlib.Core.Path.{_≡_, _∙_, refl, sym, ap}
+use mathlib.Core.Path.{_≡_, _∙_, refl, sym, ap, subst}
 use mathlib.Core.Bool.{Bool, true, false, not, cond, _&&_, _||_, true≢false, false≢true}
 use mathlib.Core.List.{List, []}
 use mathlib.Core.Logic.{⊎-elim}
-use Prim.Native.Nat.{ℕ, zero, suc, _+_, _*_, _/_, _%_, _<_, _≤_}
+use Prim.Native.Nat.{ℕ, _+_, _*_, _/_, _%_, _<_, _≤_, _^_}
 use native.Mathlib.Nat.{div-one}
 use native.Mathlib.Omega.{arith}
 use borrow.Author.Tests.{leb-false, le-leb, lt-leb, eq-eqb, ne-eqb}
@@ -24,12 +24,14 @@ use Rattle.device.specs.declared.Storing.{Storing}
 use Rattle.device.specs.declared.Verdict.{Verdict}
 use Rattle.device.specs.declared.Verdict.the-variants as verdict
 use Rattle.device.specs.declared.Walk.{Walk}
+use Rattle.receive.specs.Begin.{begunBy}
 use Rattle.receive.specs.Buffer.{afterBuffer}
 use Rattle.receive.specs.End.{verdictBit, errorBits, frameStatus, fateBy, raisedBy, proceeds}
 use Rattle.receive.specs.Part.{quietly}
 use Rattle.receive.specs.Service.{service}
-use Rattle.phases.specs.Phases.{odd, ruTag}
+use Rattle.phases.specs.Phases.{ruTag, storingWith, storingWord}
 use Rattle.phases.proofs.Units.{never}
+use Rattle.packed.specs.Packed.{WordIs}
 use Rattle.code_receive.specs.Receives.{partBy, partAt, Serves}
 use Rattle.code_receive.specs.declared.Received.{Received}
 
@@ -53,22 +55,18 @@ el-is w h =
     (λ (g : 32768 ≤ w). le-leb 32768 w g ∙ sym (eq-eqb (w / 32768 % 2) 1 (omega arith)))
     (below-or-not w 32768)
 
-pub size-is : (w : ℕ) → w % 16384 ≡ bitsAt w 0 14
+pub size-is : (w : ℕ) → w % 2 ^ 14 ≡ bitsAt w 0 14
 unfolding bitsAt
 size-is w = rw (div-one w)
 
 -- S and EL of a frame descriptor
-one-two : (k : ℕ) → k < 2 → one (eqb k 1) ≡ k
-one-two zero h = refl
-one-two (suc zero) h = refl
-one-two (suc (suc k)) h = absurd (omega arith)
+begun-by-is : (o : Offset) (f : Frame) (p : Bool) (w : ℕ) → storingWith o f p (w / 2 ^ 14) ≡ begunBy o f p w
+unfolding begunBy bitsAt
+begun-by-is o f p w = let a : w / 2 ^ 14 / 2 ≡ w / 2 ^ 15 = omega arith in rw a
 
-one-odd : (x : ℕ) → one (odd x) ≡ x % 2
-one-odd x = one-two (x % 2) (omega arith)
-
-pub control-bits : (w : ℕ) → w < 65536 → w / 16384 ≡ one (bit w 14) + 2 * one (bit w 15)
-unfolding bitsAt
-control-bits w h = rw (one-odd (w / 16384), one-odd (w / 32768)) (omega arith)
+pub begun-by : (o : Offset) (f : Frame) (p : Bool) (w n : ℕ) → WordIs (storingWord (storingWith o f p (w / 2 ^ 14)) 0 false) n
+    → WordIs (storingWord (begunBy o f p w) 0 false) n
+begun-by o f p w n h = subst (λ (s : Storing). WordIs (storingWord s 0 false) n) (begun-by-is o f p w) h
 
 last-false : (a b c : Bool) → (a || b || c) ≡ false → c ≡ false
 last-false true b c e = absurd (never (sym e))

@@ -1,3 +1,2 @@
 -- What the code of the receive unit rests on.
 mod Laws
-mod Units

@@ -2,17 +2,13 @@
 // say what is done, and specs/Receives.antt that the numbers afterwards are those. The room code_arrival has what comes before.
 use memory::Offset;
 use memory::RealAddress;
+use packed::ru;
 ghost use mathlib.Core.Path.{_≡_};
-ghost use mathlib.Core.Bool.{cond, _||_};
-ghost use mathlib.Core.List.{[]};
-ghost use Prim.Native.Nat.{ℕ, _+_, _*_, _-_, _/_, _%_, _<_, _≤_, min};
-ghost use lib.Dec.{leb};
-ghost use lib.ListN.{length};
+ghost use mathlib.Core.Bool.{cond};
+ghost use Prim.Native.Nat.{_-_, _%_, _<_, _≤_, _^_, min};
 ghost use Rattle.memory.specs.Address.{isNone, place};
 ghost use Rattle.memory.specs.Memory.{apply};
-ghost use Rattle.memory.specs.declared.Offset.{Offset};
 ghost use Rattle.device.specs.Answers.{counterOf, isStored};
-ghost use Rattle.device.specs.Limits.{mostBuffers};
 ghost use Rattle.device.specs.Numbers.{counterPlace, verdictOf};
 ghost use Rattle.device.specs.declared.Fate.{Fate};
 ghost use Rattle.device.specs.declared.Ru.{Ru};
@@ -21,10 +17,10 @@ ghost use Rattle.receive.specs.Begin as begins;
 ghost use Rattle.receive.specs.Buffer as buffers;
 ghost use Rattle.receive.specs.End as ends;
 ghost use Rattle.receive.specs.Service.{service};
-ghost use Rattle.phases.specs.Phases.{ruOf, wordOf, fillingOf};
 ghost use Rattle.packed.specs.Packed.{RuIs};
 ghost use Rattle.code_arrival.specs.Arrives.{frameIn};
-ghost use Rattle.code_receive.specs.Receives.{storingIn, partBy, partAt, Serves};
+ghost use Rattle.code_receive.specs.Receives as receives;
+ghost use Rattle.code_receive.specs.Receives.{partBy, Quietly, Serves};
 
 // What a service comes to, besides the lent bytes: the unit as its tag and words, and the events that came up.
 pub struct Received {
@@ -33,41 +29,6 @@ pub struct Received {
     pub rest: u64,
     pub raised: u64,
 }
-
-// The unit's tags.
-const SUSPENDED: u64 = 1;
-
-const NO_RESOURCES: u64 = 2;
-
-const READY: u64 = 3;
-
-const HELD: u64 = 4;
-
-const FILLING: u64 = 5;
-
-const CLOSING: u64 = 6;
-
-const LACKING: u64 = 7;
-
-// What stands in the unit's word above the offset of the frame descriptor, by the value of its lowest bit: a waiting SUSPEND, whether the
-// frame is short, save-bad at arrival, S and EL of the descriptor, EL of the last buffer used, and the next buffer descriptor. Verdict and
-// length are the rooms code_arrival's and kept's to say.
-const PAUSING: u64 = 65536;
-
-const SHORT: u64 = 131072;
-
-const SAVE_BAD: u64 = 262144;
-
-const SUSPEND: u64 = 524288;
-
-const EL: u64 = 1048576;
-
-const FULL: u64 = 2097152;
-
-const NEXT_FREE: u64 = 281474976710656;
-
-// The second word: how many bytes are stored, and above them in how many buffers.
-const USED: u64 = 65536;
 
 // The events FR and RNR.
 const FR: u64 = 4;
@@ -97,7 +58,7 @@ const FIRST: u16 = 6;
 const HEADER_AT: u16 = 8;
 
 // Bits 14 and 15 of +2 are S and EL.
-const CONTROL_BITS: u16 = 16384;
+const CONTROL_BITS: u16 = 1 << 14;
 
 // The receive buffer descriptor: +0 EOF, F and count, +2 next, +4 real address, +8 EL in bit 15 and size in the 14 bits below.
 const FILLED: u16 = 0;
@@ -110,9 +71,9 @@ const SIZE: u16 = 8;
 
 const BUFFER_EL: u16 = 0x8000;
 
-const SIZES: u16 = 0x4000;
+const SIZES: u16 = 1 << 14;
 
-const COUNTS: u64 = 0x4000;
+const COUNTS: u64 = 1 << 14;
 
 const EOF: u16 = 0x8000;
 
@@ -148,55 +109,38 @@ fn is_bare(n: u64) -> bool
     packed::size_of(n) <= HEADER as u64
 }
 
-// A unit's word without its next offset, and with flags set that were not. A sum that reaches that offset is cut, though no
-// unit has such a word.
-fn flagged(n: u64, flags: u64) -> u64
-    requires { ⌜ flags < 281474976710656 ⌝ }
-    ensures { λ r. ⌜ r ≡ (n % 281474976710656 + flags) % 281474976710656 ⌝ }
-{
-    (n % NEXT_FREE + flags) % NEXT_FREE
-}
-
-// A word with the next offset.
-fn with_next(n: u64, o: Offset) -> u64
-    requires { ⌜ n < 281474976710656 ⌝ }
-    ensures { λ r. ⌜ r ≡ n + 281474976710656 * o .0 ⌝ }
-{
-    n + NEXT_FREE * o.0 as u64
-}
-
 // No data: the end is next, and the first offset stays the next free one. Data left at FFFFh: out of buffers.
 fn to_first(n: u64, control: u16, first: Offset) -> Received
-    ensures { λ r. ⌜ (r .raised ≡ 0) × ((rest : ℕ) → RuIs (ruOf 4 (wordOf n) rest) 4 n rest → RuIs (begins.toFirst (begins.isBare (frameIn n)) (isNone first) (begins.begunBy (record { 0 = n % 65536 }) (frameIn n) (wordOf n .first) control) first) (r .tag) (r .word) (r .rest)) ⌝ }
+    ensures { λ r. ⌜ Quietly (receives.HeldIn n) (begins.toFirst (begins.isBare (frameIn n)) (isNone first) (receives.begunIn n control) first) r ⌝ }
 {
-    let s = flagged(n, SUSPEND * (control / CONTROL_BITS) as u64);
+    let s = ru::begun(n, control / CONTROL_BITS);
     if is_bare(n) {
         return Received {
-            tag: CLOSING,
-            word: with_next(s, first),
+            tag: ru::CLOSING,
+            word: ru::with_next(s, first),
             rest: 0,
             raised: 0,
         };
     }
     if memory::is_none(first) {
         return Received {
-            tag: LACKING,
+            tag: ru::LACKING,
             word: s,
             rest: 0,
             raised: 0,
         };
     }
     Received {
-        tag: FILLING,
-        word: with_next(s, first),
-        rest: HEADER as u64,
+        tag: ru::FILLING,
+        word: ru::with_next(s, first),
+        rest: ru::rest_of(HEADER as u64, 0),
         raised: 0,
     }
 }
 
 // Begin: read +2 and +6, write 4000h. It asks nothing of the holding area.
 fn begin(memory: &mut [u8], base: RealAddress, n: u64) -> Received
-    ensures { λ r. ⌜ ((rest : ℕ) → RuIs (ruOf 4 (wordOf n) rest) 4 n rest → Serves (begins.begin (partAt base []) (record { 0 = n % 65536 }) (frameIn n) (wordOf n .first) (now (memory .entry))) (now (memory .entry)) r (now (memory .exit))) ⌝ }
+    ensures { λ r. ⌜ (receives.HeldIn n → Serves (receives.beginIn base n (now (memory .entry))) (now (memory .entry)) r (now (memory .exit))) ⌝ }
 {
     let fd = packed::at_of(n);
     let control = memory::word_at(memory, memory::place(base, fd, CONTROL));
@@ -222,7 +166,7 @@ fn count_into(length: u64, filled: u64, size: u64) -> u64
 
 // F, count, and EOF if the data ends there. A count has 14 bits.
 fn filled_word(done: bool, n: u64) -> u16
-    ensures { λ r. ⌜ r ≡ buffers.filledWord done (n % 16384) ⌝ }
+    ensures { λ r. ⌜ r ≡ buffers.filledWord done (n % 2 ^ 14) ⌝ }
 {
     if done {
         return EOF + F + (n % COUNTS) as u16;
@@ -232,39 +176,39 @@ fn filled_word(done: bool, n: u64) -> u16
 
 // The data ends: all is stored. Data left after EL, at FFFFh or after 64: out of buffers.
 fn after_buffer(n: u64, next: Offset, el: bool, used: u64, filled: u64) -> Received
-    requires { ⌜ (used < 256) × (filled < 65536) ⌝ }
-    ensures { λ r. ⌜ (r .raised ≡ 0) × ((rest : ℕ) → RuIs (ruOf 5 (wordOf n) rest) 5 n rest → RuIs (buffers.afterBuffer (leb (frameIn n .length) filled) el (isNone next) (leb mostBuffers (used + 1)) (storingIn n) (record { next = next; used = used + 1; filled = filled })) (r .tag) (r .word) (r .rest)) ⌝ }
+    requires { ⌜ (used < 2 ^ 8) × (filled < 2 ^ 16) ⌝ }
+    ensures { λ r. ⌜ Quietly (receives.FillingIn n) (receives.afterIn n next el used filled) r ⌝ }
 {
     if packed::size_of(n) <= filled {
         return Received {
-            tag: CLOSING,
-            word: with_next(flagged(n, FULL * code_arrival::bit(el)), next),
+            tag: ru::CLOSING,
+            word: ru::with_next(ru::filled_up(n, el), next),
             rest: 0,
             raised: 0,
         };
     }
     if el | memory::is_none(next) | (MOST_BUFFERS <= used + 1) {
         return Received {
-            tag: LACKING,
-            word: flagged(n, 0),
+            tag: ru::LACKING,
+            word: ru::filled_up(n, false),
             rest: 0,
             raised: 0,
         };
     }
     Received {
-        tag: FILLING,
-        word: with_next(flagged(n, 0), next),
-        rest: filled + USED * (used + 1),
+        tag: ru::FILLING,
+        word: ru::with_next(ru::filled_up(n, false), next),
+        rest: ru::rest_of(filled, used + 1),
         raised: 0,
     }
 }
 
 // A buffer: one descriptor is read whole, its buffer filled at its real address, then F, count and EOF are written.
 fn buffer(memory: &mut [u8], holding: &[u8], base: RealAddress, n: u64, rest: u64) -> Received
-    ensures { λ r. ⌜ (RuIs (ruOf 5 (wordOf n) rest) 5 n rest → Serves (buffers.buffer (partAt base (now (holding .entry))) (storingIn n) (fillingOf (wordOf n) rest) (now (memory .entry))) (now (memory .entry)) r (now (memory .exit))) ⌝ }
+    ensures { λ r. ⌜ (receives.FillingIn n → Serves (receives.bufferIn base n rest (now (holding .entry)) (now (memory .entry))) (now (memory .entry)) r (now (memory .exit))) ⌝ }
 {
     let o = packed::next_of(n);
-    let filled = rest % USED;
+    let filled = ru::filled(rest);
     let word = memory::word_at(memory, memory::place(base, o, SIZE));
     let next = memory::offset_at(memory, memory::place(base, o, NEXT));
     let to = memory::real_at(memory, memory::place(base, o, BUFFER));
@@ -278,13 +222,7 @@ fn buffer(memory: &mut [u8], holding: &[u8], base: RealAddress, n: u64, rest: u6
     );
     let mark = filled_word(packed::size_of(n) <= filled + count, count);
     memory::put_word(memory, memory::place(base, o, FILLED), mark);
-    after_buffer(
-        n,
-        next,
-        BUFFER_EL <= word,
-        rest / USED % 256,
-        filled + count,
-    )
+    after_buffer(n, next, BUFFER_EL <= word, ru::used(rest), filled + count)
 }
 
 // ---- end
@@ -311,9 +249,7 @@ fn bit_if(applies: bool, bit: u16) -> u16
 fn error_bits(lacking: bool, n: u64) -> u16
     ensures { λ r. ⌜ (r ≡ ends.errorBits lacking (frameIn n)) × (r ≤ 0x0A80) ⌝ }
 {
-    verdict_bit(packed::kind_of(n))
-        + bit_if(lacking, LACKING_BIT)
-        + bit_if(packed::flag(n, SHORT), SHORT_BIT)
+    verdict_bit(packed::kind_of(n)) + bit_if(lacking, LACKING_BIT) + bit_if(ru::short(n), SHORT_BIT)
 }
 
 // The descriptor's status: C, with all error bits that apply, and OK only with no error bit.
@@ -344,7 +280,7 @@ fn describe(
     lacking: bool,
     n: u64,
 )
-    ensures { λ _. ⌜ ((scb : Offset) (unit : Ru) → now (memory .exit) ≡ apply (ends.descriptorBy stored lacking (partBy base scb unit (now (holding .entry))) (storingIn n)) (now (memory .entry))) ⌝ }
+    ensures { λ _. ⌜ receives.Describes base n stored lacking (now (holding .entry)) (now (memory .entry)) (now (memory .exit)) ⌝ }
 {
     let fd = packed::at_of(n);
     if stored {
@@ -386,9 +322,9 @@ fn settle(
     lacking: bool,
     n: u64,
 ) -> bool
-    ensures { λ r. ⌜ (r ≡ isStored (ends.fateOf lacking (frameIn n))) × ((unit : Ru) → now (memory .exit) ≡ apply (ends.settles lacking (partBy base scb unit (now (holding .entry))) (storingIn n) (now (memory .entry))) (now (memory .entry))) ⌝ }
+    ensures { λ r. ⌜ (r ≡ isStored (ends.fateOf lacking (frameIn n))) × receives.Settles base scb n lacking (now (holding .entry)) (now (memory .entry)) (now (memory .exit)) ⌝ }
 {
-    let stored = !lacking | packed::flag(n, SAVE_BAD);
+    let stored = !lacking | ru::save_bad(n);
     describe(memory, holding, base, stored, lacking, n);
     code_arrival::count(memory, base, scb, lost(lacking, n));
     stored
@@ -397,12 +333,12 @@ fn settle(
 // Exhausted: No Resources, which wins over Suspended. Otherwise +6 of the next frame descriptor (link read now) gets the next free offset;
 // S or a waiting SUSPEND suspends. FR came up if the frame is stored, and leaving Ready raises RNR.
 fn goes_on(memory: &mut [u8], base: RealAddress, n: u64, exhausted: bool, stored: bool) -> Received
-    ensures { λ r. ⌜ ((f : Fate) → stored ≡ isStored f → Serves (ends.proceeds exhausted (partAt base []) (storingIn n) (record { 0 = n / 281474976710656 }) f [] (now (memory .entry))) (now (memory .entry)) r (now (memory .exit))) ⌝ }
+    ensures { λ r. ⌜ ((f : Fate) → stored ≡ isStored f → Serves (receives.proceedsIn exhausted base n f (now (memory .entry))) (now (memory .entry)) r (now (memory .exit))) ⌝ }
 {
-    let fr = FR * code_arrival::bit(stored);
+    let fr = FR * packed::bit(stored);
     if exhausted {
         return Received {
-            tag: NO_RESOURCES,
+            tag: ru::NO_RESOURCES,
             word: 0,
             rest: 0,
             raised: fr + RNR,
@@ -411,17 +347,17 @@ fn goes_on(memory: &mut [u8], base: RealAddress, n: u64, exhausted: bool, stored
     let link = memory::offset_at(memory, memory::place(base, packed::at_of(n), LINK));
     let free = packed::next_of(n);
     memory::put_word(memory, memory::place(base, link, FIRST), free.0);
-    if packed::flag(n, SUSPEND) | packed::flag(n, PAUSING) {
+    if ru::suspend(n) | ru::pausing(n) {
         return Received {
-            tag: SUSPENDED,
-            word: link.0 as u64,
+            tag: ru::SUSPENDED,
+            word: packed::plain(link),
             rest: 0,
             raised: fr + RNR,
         };
     }
     Received {
-        tag: READY,
-        word: link.0 as u64,
+        tag: ru::READY,
+        word: packed::plain(link),
         rest: 0,
         raised: fr,
     }
@@ -436,16 +372,10 @@ fn end(
     lacking: bool,
     n: u64,
 ) -> Received
-    ensures { λ r. ⌜ ((unit : Ru) → Serves (ends.proceeds (lacking || (storingIn n .el || wordOf n .sixth)) (partBy base scb unit (now (holding .entry))) (storingIn n) (record { 0 = n / 281474976710656 }) (ends.fateOf lacking (frameIn n)) (ends.settles lacking (partBy base scb unit (now (holding .entry))) (storingIn n) (now (memory .entry))) (now (memory .entry))) (now (memory .entry)) r (now (memory .exit))) ⌝ }
+    ensures { λ r. ⌜ ((unit : Ru) → Serves (receives.endIn lacking (partBy base scb unit (now (holding .entry))) n (now (memory .entry))) (now (memory .entry)) r (now (memory .exit))) ⌝ }
 {
     let stored = settle(memory, holding, base, scb, lacking, n);
-    goes_on(
-        memory,
-        base,
-        n,
-        lacking | (packed::flag(n, EL) | packed::flag(n, FULL)),
-        stored,
-    )
+    goes_on(memory, base, n, lacking | (ru::el(n) | ru::full(n)), stored)
 }
 
 // ---- one service
@@ -462,7 +392,7 @@ pub fn serve(
 ) -> Received
     ensures { λ r. ⌜ ((u : Ru) → RuIs u tag word rest → Serves (service (partBy base scb u (now (holding .entry))) (now (memory .entry))) (now (memory .entry)) r (now (memory .exit))) ⌝ }
 {
-    if tag < HELD {
+    if tag < ru::HELD {
         return Received {
             tag: tag,
             word: word,
@@ -470,11 +400,11 @@ pub fn serve(
             raised: 0,
         };
     }
-    if tag == HELD {
+    if tag == ru::HELD {
         return begin(memory, base, word);
     }
-    if tag == FILLING {
+    if tag == ru::FILLING {
         return buffer(memory, holding, base, word, rest);
     }
-    end(memory, holding, base, scb, tag == LACKING, word)
+    end(memory, holding, base, scb, tag == ru::LACKING, word)
 }

@@ -29,20 +29,21 @@ use Rattle.device.specs.declared.Units.{Units}
 use Rattle.actions.specs.Setup.{setupOf}
 use Rattle.numerals.specs.Places.{bytesFrom, field}
 use Rattle.numerals.proofs.Laws.{field-below, piece, fit, digits-zero, from-append, from-bytes, from-cons, length-from, whole, first-of, second-of, one as field-one}
-use Rattle.phases.specs.Phases.{flagsOf as bitsOf, odd, numberOf, cuTag, cuWord, cuShaped, ruTag, ruWord, ruShaped, FillingWide}
+use Rattle.phases.specs.Fields.{flagsOf, odd}
+use Rattle.phases.specs.Phases.{numberOf, cuTag, cuWord, cuShaped, ruTag, ruWord, ruShaped, FillingWide}
 use Rattle.phases.proofs.Units.{both, never, one-below, flag1, flag2, flag3, flag4, bits3, number-below, wide-of, cu-shaped, cu-same, rest-below, ru-shaped, ru-same, Same, RuSame}
-use Rattle.packed.specs.Packed.{flagsBy, flagsOf, statusOf, packedOf, flagsIn, cuTagIn, ruTagIn, UnitsWide, PackedIs}
+use Rattle.packed.specs.Packed.{marksBy, marksOf, statusOf, packedOf, statusIs, marksIn, cuTagIn, ruTagIn, UnitsWide, PackedIs}
 use Rattle.packed.specs.SetUp.{settingsByte, setupBytes}
 use Rattle.packed.specs.declared.Packed.{Packed}
-use Rattle.packed.proofs.Laws.{cu-tag-below, ru-tag-below, flags-below, scb-is, base-is, cu-is, ru-is, cu-of, ru-of, events-is, initialised-is, rulast-is}
+use Rattle.packed.proofs.Laws.{cu-tag-below, ru-tag-below, marks-below, scb-is, base-is, cu-is, ru-is, cu-of, ru-of, events-is, initialised-is, rulast-is}
 use Rattle.image.specs.Ranges.{settingsFresh, unitsIdle, addressesFresh, sized, unitsFit, cuFits, frameFits, ruFits, unitsFresh, initialisedOrFresh, inRange, Wide}
 use Rattle.image.specs.Found as is
-use Rattle.image.specs.Image.{front, unitBytes, imageOf, packedAt, eventsOf, settingsOf, unitsBy, unitsAt, deviceFrom, deviceAt, statusIs, headShaped, unitsShaped, spareZero, shaped, rangeFrom, decodeFull, decodeOf}
+use Rattle.image.specs.Image.{front, unitBytes, imageOf, packedAt, eventsOf, settingsOf, unitsBy, unitsAt, deviceFrom, deviceAt, headShaped, unitsShaped, spareZero, shaped, rangeFrom, decodeFull, decodeOf}
 use Rattle.image.proofs.Steps.{full-taken, full-out, full-other, decode-full, device-full, length-units, length-image}
 
 -- ---- the events and the settings in their bits
 
-bits-of : (e : Events) → eventBits e ≡ bitsOf (e .rnr) (e .cna) (e .fr) (e .cx) false false
+bits-of : (e : Events) → eventBits e ≡ flagsOf (e .rnr) (e .cna) (e .fr) (e .cx) false false
 unfolding eventBits joined
 bits-of e = omega arith
 
@@ -58,9 +59,9 @@ events-back e =
 
 events-same : (n : ℕ) → n < 16 → eventBits (eventsOf n) ≡ n
 events-same n h =
-    bits-of (eventsOf n) ∙ eqb→eq _ n (below (λ k. eqb (bitsOf (odd k) (odd (k / 2)) (odd (k / 4)) (odd (k / 8)) false false) k) 16 tt n h)
+    bits-of (eventsOf n) ∙ eqb→eq _ n (below (λ k. eqb (flagsOf (odd k) (odd (k / 2)) (odd (k / 4)) (odd (k / 8)) false false) k) 16 tt n h)
 
-byte-bits : (s : Settings) → settingsByte s ≡ bitsOf (s .savebad) (s .promiscuous) (s .nobroadcast) false false false
+byte-bits : (s : Settings) → settingsByte s ≡ flagsOf (s .savebad) (s .promiscuous) (s .nobroadcast) false false false
 byte-bits s = omega arith
 
 pub settings-back : (s : Settings) → settingsOf (settingsByte s) (s .minimum) ≡ s
@@ -226,8 +227,8 @@ fit-ru u e = both (ltb (u .base .0) 16777216 && cuFits (u .cu)) (ruFits (u .ru))
 module _ (u : Units) (h : UnitsWide u) where
   status-tests : (statusOf u % 16 ≡ 0) × (statusOf u / 2048 % 2 ≡ 0) × (statusOf u / 16384 % 4 ≡ 0) × (statusOf u < 18446744073709551616)
   status-tests =
-      let f = flagsOf u in
-      let p : f / 16 < 16 = omega (arith, flags-below (u .initialised) (u .rulast) (u .events)) in
+      let f = marksOf u in
+      let p : f / 16 < 16 = omega (arith, marks-below (u .initialised) (u .rulast) (u .events)) in
       let q : f % 4 < 4 = omega arith in
       let c = cu-tag-below (u .cu) in
       let v : ruTag (u .ru) < 256 = omega (arith, ru-tag-below (u .ru)) in (
@@ -378,8 +379,8 @@ one-mod n = at-bit (n % 2) (omega arith)
     at-bit (suc zero) h = refl
     at-bit (suc (suc k)) h = absurd (omega arith)
 
-flags-same : (m e : ℕ) → m < 4 → e < 16 → let f = m + 16 * e in flagsBy (odd f) (odd (f / 2)) (eventsOf (f / 16)) ≡ f
-flags-same m e p q =
+marks-same : (m e : ℕ) → m < 4 → e < 16 → let f = m + 16 * e in marksBy (odd f) (odd (f / 2)) (eventsOf (f / 16)) ≡ f
+marks-same m e p q =
     let f = m + 16 * e in
     let x : f / 16 ≡ e = omega arith in
     let y : f % 2 ≡ m % 2 = omega arith in
@@ -431,9 +432,9 @@ module _ (r : List ℕ) (e : shaped r ≡ true) where
   unfolding unitsAt unitsBy
   ru-same-at = ru-same (ruTagIn (packedAt r)) (packedAt r .ru) (packedAt r .rest) ru-shape
 
-  flags-are : flagsOf (unitsAt r) ≡ flagsIn (packedAt r)
+  marks-are : marksOf (unitsAt r) ≡ marksIn (packedAt r)
   unfolding unitsAt unitsBy
-  flags-are = flags-same (packedAt r .status / 4096 % 4) (packedAt r .status / 16 % 16) (omega arith) (omega arith)
+  marks-are = marks-same (packedAt r .status / 4096 % 4) (packedAt r .status / 16 % 16) (omega arith) (omega arith)
 
   scb-at : unitsAt r .scb .0 ≡ packedAt r .status / 16777216 % 65536
   unfolding unitsAt unitsBy
@@ -449,9 +450,9 @@ module _ (r : List ℕ) (e : shaped r ≡ true) where
       let s = packedAt r .status in
       let t = both _ (eqb (s / 16384 % 4) 0) status-test in
       let v = both (eqb (s % 16) 0) (eqb (s / 2048 % 2) 0) (t .0) in
-      let f : flagsIn (packedAt r) / 16 ≡ s / 16 % 16 = omega arith in
-      let g : flagsIn (packedAt r) % 4 ≡ s / 4096 % 4 = omega arith in
-      rw (flags-are, cu-same-at .tag-same, ru-same-at .0 .tag-same, scb-at, base-at, f, g)
+      let f : marksIn (packedAt r) / 16 ≡ s / 16 % 16 = omega arith in
+      let g : marksIn (packedAt r) % 4 ≡ s / 4096 % 4 = omega arith in
+      rw (marks-are, cu-same-at .tag-same, ru-same-at .0 .tag-same, scb-at, base-at, f, g)
       (status-parts s (eqb-true _ _ (v .0)) (eqb-true _ _ (v .1)) (eqb-true _ _ (t .1)))
 
   -- the numbers of what is read are those that stand there
@@ -573,9 +574,9 @@ pub events-at : (d : Device) → getD (imageOf d) 5 0 ≡ 16 * eventBits (d .uni
 unfolding imageOf unitBytes front digits packedOf
 events-at d =
     let u = d .units in
-    let f : flagsOf u / 16 ≡ eventBits (u .events) = omega (arith, one-below (u .initialised), one-below (u .rulast)) in
+    let f : marksOf u / 16 ≡ eventBits (u .events) = omega (arith, one-below (u .initialised), one-below (u .rulast)) in
     rw f
-    (low-byte (eventBits (u .events)) (cuTag (u .cu)) (flagsOf u % 4) (ruTag (u .ru)) (u .scb .0) (u .base .0) (events-below (u .events)))
+    (low-byte (eventBits (u .events)) (cuTag (u .cu)) (marksOf u % 4) (ruTag (u .ru)) (u .scb .0) (u .base .0) (events-below (u .events)))
 
 -- the interrupt is high while byte 5 is not 0
 pub level : (d : Device) → anyOf (d .units .events) ≡ not (eqb (getD (imageOf d) 5 0) 0)

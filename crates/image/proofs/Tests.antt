@@ -12,35 +12,28 @@ use Rattle.scb.specs.Words.{joined, eventBits}
 use Rattle.device.specs.State.{freshUnits}
 use Rattle.device.specs.declared.Units.{Units}
 use Rattle.numerals.specs.Places.{bytesFrom, field}
-use Rattle.phases.specs.Phases.{odd, wordOf, cuOf, cuShaped, ruOf, ruShaped}
+use Rattle.phases.specs.Fields.{odd}
+use Rattle.phases.specs.Phases.{wordOf, cuOf, cuShaped, ruOf, ruShaped}
 use Rattle.phases.proofs.Units.{both}
-use Rattle.packed.specs.Packed.{statusOf, cuTagIn, ruTagIn}
+use Rattle.packed.specs.Packed.{statusOf, statusIs, marksIn, cuTagIn, ruTagIn}
 use Rattle.packed.specs.SetUp.{settingsByte}
 use Rattle.image.specs.Ranges.{cuFits, ruFits, unitsFit, unitsFresh, addressesFresh, initialisedOrFresh, inRange}
 use Rattle.image.specs.Found as is
-use Rattle.image.specs.Image.{packedAt, unitsBy, unitsAt, deviceFrom, frontIs, statusIs, headShaped, unitsShaped, spareZero, shaped, rangeFrom, imaged, decodeFull, decodeOf, decodedBy}
+use Rattle.image.specs.Image.{packedAt, unitsBy, unitsAt, deviceFrom, frontIs, headShaped, unitsShaped, spareZero, shaped, rangeFrom, imaged, decodeFull, decodeOf, decodedBy}
 use Rattle.image.specs.Numbers.{cuIs, ruIs, wordsAre, freshAt, tested}
 use Rattle.image.specs.declared.Decoded.the-variants as code
 use Rattle.image.proofs.Steps.{decode-full, decode-other, full-taken}
 use Rattle.image.proofs.Units.{same}
 use Rattle.image.proofs.Exact.{settings-same, status-same, settings-test, kept-same, units-fresh}
 
--- bit 4 of byte 6
-mark : (s : ℕ) → odd (s / 4096 % 4 + 16 * (s / 16 % 16)) ≡ odd (s / 4096)
-mark s =
-    let a = s / 4096 in
-    let x = s / 16 % 16 in
-    let e : (a % 4 + 16 * x) % 2 ≡ a % 2 = omega arith in
-    rw e
-
 or-else : (i x f : Bool) → (i ≡ false → x ≡ f) → (i || x) ≡ (i || f)
 or-else true x f h = refl
 or-else false x f h = h refl
 
 module _ (r : List ℕ) where
-  initialised-at : unitsAt r .initialised ≡ odd (field r 5 8 / 4096)
-  unfolding unitsAt unitsBy packedAt
-  initialised-at = mark (field r 5 8)
+  initialised-at : unitsAt r .initialised ≡ odd (marksIn (packedAt r))
+  unfolding unitsAt unitsBy
+  initialised-at = refl
 
   settings-are : shaped r ≡ true → settingsByte (unitsAt r .settings) ≡ field r 152 1
   unfolding unitsAt unitsBy
@@ -81,7 +74,7 @@ module _ (r : List ℕ) where
       let b : field r 152 1 ≡ 0 = eqb-true _ _ (y .1) in
       rw (s, b, x .1, own-is (w .1), listed-is (v .1))
 
-  fresh-same : shaped r ≡ true → initialisedOrFresh (deviceFrom r (unitsAt r)) ≡ (odd (field r 5 8 / 4096) || freshAt r)
+  fresh-same : shaped r ≡ true → initialisedOrFresh (deviceFrom r (unitsAt r)) ≡ (odd (marksIn (packedAt r)) || freshAt r)
   unfolding initialisedOrFresh deviceFrom
   fresh-same h =
       or-else (unitsAt r .initialised) (unitsFresh (unitsAt r) && addressesFresh (deviceFrom r (unitsAt r))) (freshAt r)
@@ -115,7 +108,7 @@ module _ (r : List ℕ) where
       let u = both (cuIs (cuTagIn k) (k .cu)) (ruIs (ruTagIn k) (k .ru) (k .rest)) (b .1) in
       let c = both (cuShaped (cuTagIn k) (k .cu)) (cuFits (cuOf (cuTagIn k) (wordOf (k .cu)))) (u .0) in
       let v = both (ruShaped (ruTagIn k) (k .ru) (k .rest)) (ruFits (ruOf (ruTagIn k) (wordOf (k .ru)) (k .rest))) (u .1) in
-      let s = both (spareZero r && ltb (field r 152 1) 8) (odd (field r 5 8 / 4096) || freshAt r) (a .1) in
+      let s = both (spareZero r && ltb (field r 152 1) 8) (odd (marksIn (packedAt r)) || freshAt r) (a .1) in
       let t = both (spareZero r) (ltb (field r 152 1) 8) (s .0) in
       let h = shape (f .0) (f .1) (t .1) (c .0) (v .0) (t .0) in
       let g : unitsFit (deviceFrom r (unitsAt r) .units) ≡ true = at-device (fit-same w (c .1) (v .1)) in
@@ -169,13 +162,13 @@ module _ (r : List ℕ) where
       unfolding tested
       image-spare b = rw (a, b) at (tested-is w)
 
-      pub image-working : (spareZero r && ltb (field r 152 1) 8) ≡ true → field r 5 8 / 4096 % 2 ≡ 1 → true ≡ imaged r
+      pub image-working : (spareZero r && ltb (field r 152 1) 8) ≡ true → odd (marksIn (packedAt r)) ≡ true → true ≡ imaged r
       unfolding tested
-      image-working b i = rw (a, b, eq-eqb (field r 5 8 / 4096 % 2) 1 i) at (tested-is w)
+      image-working b i = rw (a, b, i) at (tested-is w)
 
-      pub image-fresh : (spareZero r && ltb (field r 152 1) 8) ≡ true → (field r 5 8 / 4096 % 2 ≡ 1 → ⊥) → freshAt r ≡ imaged r
+      pub image-fresh : (spareZero r && ltb (field r 152 1) 8) ≡ true → odd (marksIn (packedAt r)) ≡ false → freshAt r ≡ imaged r
       unfolding tested
-      image-fresh b i = rw (a, b, ne-eqb (field r 5 8 / 4096 % 2) 1 i) at (tested-is w)
+      image-fresh b i = rw (a, b, i) at (tested-is w)
 
   -- ---- what is decoded
 

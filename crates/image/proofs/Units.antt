@@ -10,11 +10,12 @@ use lib.Dec.{eqb, leb, ltb}
 use Rattle.memory.proofs.Laws.{below-or-not}
 use Rattle.device.specs.Numbers.{verdictOf}
 use Rattle.device.specs.State.{goodBy}
-use Rattle.phases.specs.Phases.{odd, wordOf, cuOf, cuMost, cuKind, cuShaped, frameOf, ruOf, ruMost, ruFlags, restMost, ruShaped}
+use Rattle.phases.specs.Fields.{flagsIn, kindIn, sizeIn, filledIn, usedIn}
+use Rattle.phases.specs.Phases.{wordOf, cuOf, cuMost, cuKind, cuShaped, frameOf, ruOf, ruMost, ruFlags, restMost, ruShaped}
 use Rattle.phases.proofs.Units.{both}
 use Rattle.numerals.proofs.Laws.{or-zero}
 use Rattle.image.specs.Ranges.{cuFits, ruFits, frameFits}
-use Rattle.image.specs.Numbers.{flagsIn, kindIn, sizeIn, sizedIn, hasNextIn, actingIs, sendingIs, endingIs, begunIs, frameIs, heldIs, fillingIs, closingIs, lackingIs, holdingIs, cuIs, ruIs}
+use Rattle.image.specs.Numbers.{sizedIn, hasNextIn, actingIs, sendingIs, endingIs, begunIs, frameIs, heldIs, fillingIs, closingIs, lackingIs, holdingIs, cuIs, ruIs}
 
 -- ---- tests
 
@@ -186,28 +187,6 @@ ru-offset t n rest h e = or-zero (n / 65536) rest ∙ ap (λ (x : Bool). x && eq
 pub ru-none : (t n rest : ℕ) → t < 4 → t % 2 ≡ 0 → eqb (bitOr n rest) 0 ≡ ruIs t n rest
 ru-none t n rest h e = or-zero n rest ∙ ap (λ (x : Bool). x && eqb rest 0) (low-none n) ∙ rw e at (ru-low t n rest h)
 
--- a flag of a word is a bit of its number
-short-bit : (n : ℕ) → odd (flagsIn n / 2) ≡ odd (n / 131072)
-short-bit n =
-    let d : n / 131072 ≡ n / 65536 / 2 = omega arith in
-    let m = n / 65536 in
-    let e : m % 256 / 2 % 2 ≡ m / 2 % 2 = omega arith in
-    rw (d, e)
-
-save-bit : (n : ℕ) → odd (flagsIn n / 4) ≡ odd (n / 262144)
-save-bit n =
-    let d : n / 262144 ≡ n / 65536 / 4 = omega arith in
-    let m = n / 65536 in
-    let e : m % 256 / 4 % 2 ≡ m / 4 % 2 = omega arith in
-    rw (d, e)
-
-full-bit : (n : ℕ) → odd (flagsIn n / 32) ≡ odd (n / 2097152)
-full-bit n =
-    let d : n / 2097152 ≡ n / 65536 / 32 = omega arith in
-    let m = n / 65536 in
-    let e : m % 256 / 32 % 2 ≡ m / 32 % 2 = omega arith in
-    rw (d, e)
-
 good : (short : Bool) (k : ℕ) → k < 3 → goodBy short (verdictOf k) ≡ (not short && eqb k 0)
 unfolding verdictOf
 good true k h = refl
@@ -218,12 +197,12 @@ good false (suc (suc (suc k))) h = absurd (omega arith)
 
 module _ (n most : ℕ) where
   saved : Bool
-  saved = odd (n / 262144) || (not (odd (n / 131072)) && eqb (kindIn n) 0)
+  saved = frameOf (wordOf n) .savebad || (not (frameOf (wordOf n) .short) && eqb (kindIn n) 0)
 
   frame-same : kindIn n < 3 → (sizedIn n && saved) ≡ frameFits (frameOf (wordOf n))
   unfolding saved frameFits wordOf
   frame-same h =
-      rw (good (odd (flagsIn n / 2)) (kindIn n) h, short-bit n, save-bit n, or-swap (not (odd (n / 131072)) && eqb (kindIn n) 0) (odd (n / 262144)))
+      rw (good (frameOf (wordOf n) .short) (kindIn n) h, or-swap (not (frameOf (wordOf n) .short) && eqb (kindIn n) 0) (frameOf (wordOf n) .savebad))
 
   frame-facts : frameIs n most ≡ true → (flagsIn n < most) × (kindIn n < 3) × (frameFits (frameOf (wordOf n)) ≡ true)
   unfolding frameIs saved
@@ -260,41 +239,37 @@ module _ (n rest : ℕ) (h : n < 18446744073709551616) where
   filling-same =
       same (fillingIs n rest) (ruIs 5 n rest)
       (λ e.
-      let v = both _ (ltb (rest % 65536) (sizeIn n)) e in
-      let w = both _ (leb 14 (rest % 65536)) (v .0) in
-      let x = both _ (hasNextIn n (rest / 65536)) (w .0) in
+      let v = both _ (ltb (filledIn rest) (sizeIn n)) e in
+      let w = both _ (leb 14 (filledIn rest)) (v .0) in
+      let x = both _ (hasNextIn n (usedIn rest)) (w .0) in
       let y = both (leb rest 0xFFFFFF) (frameIs n 32) (x .0) in
       let f = frame-facts n 32 (y .1) in
       let m : rest ≤ 0xFFFFFF = leb-true _ _ (y .0) in
-      let u : rest / 65536 % 256 ≡ rest / 65536 = omega arith in
       ru-true 5 n rest
-      (record { tag = omega arith; most = omega arith; flags = f .0; kind = f .1; second = m; fits = rw (f .2, u, x .1, w .1, v .1) }))
+      (record { tag = omega arith; most = omega arith; flags = f .0; kind = f .1; second = m; fits = rw (f .2, x .1, w .1, v .1) }))
       (λ e.
       let f = ru-facts 5 n rest e in
       let m : rest ≤ 0xFFFFFF = f .second in
-      let u : rest / 65536 % 256 ≡ rest / 65536 = omega arith in
-      let v = both _ (ltb (rest % 65536) (sizeIn n)) (f .fits) in
-      let w = both _ (leb 14 (rest % 65536)) (v .0) in
-      let x = both (frameFits (frameOf (wordOf n))) (hasNextIn n (rest / 65536 % 256)) (w .0) in
-      let g : hasNextIn n (rest / 65536) ≡ true = rw (← u) (x .1) in
-      rw (le-leb rest 0xFFFFFF m, frame-true n 32 (f .flags) (f .kind) (x .0), g, w .1, v .1))
+      let v = both _ (ltb (filledIn rest) (sizeIn n)) (f .fits) in
+      let w = both _ (leb 14 (filledIn rest)) (v .0) in
+      let x = both (frameFits (frameOf (wordOf n))) (hasNextIn n (usedIn rest)) (w .0) in
+      rw (le-leb rest 0xFFFFFF m, frame-true n 32 (f .flags) (f .kind) (x .0), x .1, w .1, v .1))
 
   closing-same : closingIs n rest ≡ ruIs 6 n rest
   unfolding closingIs ruMost ruFlags restMost ruFits ruOf wordOf
   closing-same =
       same (closingIs n rest) (ruIs 6 n rest)
       (λ e.
-      let x = both _ (ltb 14 (sizeIn n) || not (odd (n / 2097152))) e in
+      let x = both _ (ltb 14 (sizeIn n) || not (wordOf n .sixth)) e in
       let y = both (eqb rest 0) (frameIs n 64) (x .0) in
       let f = frame-facts n 64 (y .1) in
       let z : rest ≡ 0 = eqb-true _ _ (y .0) in
       ru-true 6 n rest
-      (record { tag = omega arith; most = omega arith; flags = f .0; kind = f .1; second = omega arith; fits = rw (f .2, full-bit n, x .1) }))
+      (record { tag = omega arith; most = omega arith; flags = f .0; kind = f .1; second = omega arith; fits = rw (f .2, x .1) }))
       (λ e.
       let f = ru-facts 6 n rest e in
-      let x = both (frameFits (frameOf (wordOf n))) (ltb 14 (sizeIn n) || not (odd (flagsIn n / 32))) (f .fits) in
-      let g : (ltb 14 (sizeIn n) || not (odd (n / 2097152))) ≡ true = rw (← full-bit n) (x .1) in
-      rw (eq-eqb rest 0 (omega (arith, f .second)), frame-true n 64 (f .flags) (f .kind) (x .0), g))
+      let x = both (frameFits (frameOf (wordOf n))) (ltb 14 (sizeIn n) || not (wordOf n .sixth)) (f .fits) in
+      rw (eq-eqb rest 0 (omega (arith, f .second)), frame-true n 64 (f .flags) (f .kind) (x .0), x .1))
 
   lacking-same : lackingIs n rest ≡ ruIs 7 n rest
   unfolding lackingIs ruMost ruFlags restMost ruFits ruOf wordOf

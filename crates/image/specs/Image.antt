@@ -1,13 +1,13 @@
 -- The record of 256 bytes: the image of a state, and the state that a record is the image of. Assumes nothing.
 use mathlib.Core.Bool.{Bool, cond, _&&_}
 use mathlib.Core.List.{List, [], _++_}
-use Prim.Native.Nat.{ℕ, _/_, _%_}
+use Prim.Native.Nat.{ℕ, _+_, _/_, _%_, _^_}
 use lib.Dec.{eqb, ltb}
 use lib.ListN.{length, replicate}
 use lib.Seq.{sets}
 use Rattle.memory.specs.Memory.{digits}
 use Rattle.scb.specs.declared.Events.{Events}
-use Rattle.device.specs.Limits.{recordSize}
+use Rattle.device.specs.Limits.{addressLength, recordSize, listedSize}
 use Rattle.device.specs.declared.Cu.{Cu}
 use Rattle.device.specs.declared.Device.{Device}
 use Rattle.device.specs.declared.Ru.{Ru}
@@ -15,9 +15,11 @@ use Rattle.device.specs.declared.Settings.{Settings}
 use Rattle.device.specs.declared.Units.{Units}
 use Rattle.actions.specs.Setup.{setupOf}
 use Rattle.numerals.specs.Places.{bytesFrom, field}
-use Rattle.phases.specs.Phases.{odd, wordOf, cuOf, cuShaped, ruOf, ruShaped}
-use Rattle.packed.specs.Packed.{packedOf, baseIn, scbIn, flagsIn, cuTagIn, ruTagIn}
-use Rattle.packed.specs.SetUp.{setupBytes}
+use Rattle.phases.specs.Fields.{odd, flagAt}
+use Rattle.phases.specs.Phases.{wordOf, cuOf, cuShaped, ruOf, ruShaped}
+use Rattle.packed.specs.Packed.{packedOf, statusIs, baseIn, scbIn, marksIn, cuTagIn, ruTagIn}
+use Rattle.packed.specs.SetUp.{setupBytes, settingsEnd, settingsAt, minimumAt, ownAt, listedAt}
+use Rattle.packed.specs.Record.{lettersAt, statusAt, cuAt, ruAt, restAt, gapAt, gapSize, spareAt, spareSize, setupAt}
 use Rattle.packed.specs.declared.Packed.{Packed}
 use Rattle.image.specs.Ranges.{inRange}
 use Rattle.image.specs.Found.{Found}
@@ -33,24 +35,24 @@ front = digits 3 0x544742 ++ digits 2 1
 
 -- bytes 0-39: the status from byte 5, three spare bytes, the command unit's word, the receive unit's two
 unfoldable pub unitBytes : Packed → List ℕ
-unitBytes k = front ++ (digits 8 (k .status) ++ (replicate 3 0 ++ (digits 8 (k .cu) ++ (digits 8 (k .ru) ++ digits 8 (k .rest)))))
+unitBytes k = front ++ (digits 8 (k .status) ++ (replicate gapSize 0 ++ (digits 8 (k .cu) ++ (digits 8 (k .ru) ++ digits 8 (k .rest)))))
 
 -- all 256: bytes 40-151 are spare, the last 104 are the setup
 unfoldable pub imageOf : Device → List ℕ
-imageOf d = unitBytes (packedOf (d .units)) ++ (replicate 112 0 ++ setupBytes (setupOf d))
+imageOf d = unitBytes (packedOf (d .units)) ++ (replicate spareSize 0 ++ setupBytes (setupOf d))
 
 -- ---- the state of an image
 
 -- the four numbers as they stand in a record
 unfoldable pub packedAt : List ℕ → Packed
-packedAt r = record { status = field r 5 8; cu = field r 16 8; ru = field r 24 8; rest = field r 32 8 }
+packedAt r = record { status = field r statusAt 8; cu = field r cuAt 8; ru = field r ruAt 8; rest = field r restAt 8 }
 
 -- the events and the settings in their bits
 abbrev pub eventsOf : ℕ → Events
-eventsOf n = record { cx = odd (n / 8); fr = odd (n / 4); cna = odd (n / 2); rnr = odd n }
+eventsOf n = record { cx = flagAt 3 n; fr = flagAt 2 n; cna = flagAt 1 n; rnr = odd n }
 
 abbrev pub settingsOf : ℕ → ℕ → Settings
-settingsOf s minimum = record { savebad = odd s; promiscuous = odd (s / 2); nobroadcast = odd (s / 4); minimum = minimum }
+settingsOf s minimum = record { savebad = odd s; promiscuous = flagAt 1 s; nobroadcast = flagAt 2 s; minimum = minimum }
 
 -- the units of their numbers
 abbrev pub cuBy : Packed → Cu
@@ -62,27 +64,27 @@ ruBy k = ruOf (ruTagIn k) (wordOf (k .ru)) (k .rest)
 unfoldable pub unitsBy : Packed → Settings → Units
 unitsBy k s =
     record {
-      initialised = odd (flagsIn k);
+      initialised = odd (marksIn k);
       base = record { 0 = baseIn k };
       scb = record { 0 = scbIn k };
-      events = eventsOf (flagsIn k / 16);
-      rulast = odd (flagsIn k / 2);
+      events = eventsOf (marksIn k / 2 ^ 4);
+      rulast = odd (marksIn k / 2);
       settings = s;
       cu = cuBy k;
       ru = ruBy k;
     }
 
 -- byte 152 settings, byte 153 minimum length
-abbrev pub settingsAt : List ℕ → Settings
-settingsAt r = settingsOf (field r 152 1) (field r 153 1)
+abbrev pub settingsIn : List ℕ → Settings
+settingsIn r = settingsOf (field r (setupAt + settingsAt) 1) (field r (setupAt + minimumAt) 1)
 
 -- the units as they stand in a record
 unfoldable pub unitsAt : List ℕ → Units
-unitsAt r = unitsBy (packedAt r) (settingsAt r)
+unitsAt r = unitsBy (packedAt r) (settingsIn r)
 
 -- units with the addresses of a record: bytes 154-159 the own, bytes 160-255 the listed
 unfoldable pub deviceFrom : List ℕ → Units → Device
-deviceFrom r u = record { units = u; own = bytesFrom r 154 6; listed = bytesFrom r 160 96 }
+deviceFrom r u = record { units = u; own = bytesFrom r (setupAt + ownAt) addressLength; listed = bytesFrom r (setupAt + listedAt) listedSize }
 
 -- a record of another length is read as an empty one: its addresses are zero
 unfoldable pub deviceAt : List ℕ → Units → Device
@@ -92,15 +94,11 @@ deviceAt r u = deviceFrom (cond (eqb (length r) recordSize) r []) u
 
 -- letters and version, the low five bytes of a record's first eight
 abbrev pub frontIs : ℕ → Bool
-frontIs n = eqb (n % 1099511627776) 0x0001544742
-
--- the bits of a status that nothing uses: 3-0 of byte 5; 3, 6 and 7 of byte 6
-abbrev pub statusIs : ℕ → Bool
-statusIs s = eqb (s % 16) 0 && eqb (s / 2048 % 2) 0 && eqb (s / 16384 % 4) 0
+frontIs n = eqb (n % 2 ^ 40) 0x0001544742
 
 -- front, status, and settings of three bits
 unfoldable pub headShaped : List ℕ → Bool
-headShaped r = frontIs (field r 0 8) && statusIs (field r 5 8) && ltb (field r 152 1) 8
+headShaped r = frontIs (field r lettersAt 8) && statusIs (field r statusAt 8) && ltb (field r (setupAt + settingsAt) 1) settingsEnd
 
 -- each unit's tag and words are those of a unit
 abbrev pub wordsShaped : Packed → Bool
@@ -111,7 +109,7 @@ unitsShaped r = wordsShaped (packedAt r)
 
 -- bytes 13-15 and 40-151 are zero
 unfoldable pub spareZero : List ℕ → Bool
-spareZero r = eqb (field r 13 3) 0 && eqb (field r 40 112) 0
+spareZero r = eqb (field r gapAt gapSize) 0 && eqb (field r spareAt spareSize) 0
 
 -- its bytes are as an image has them, and what an image has zero is zero
 unfoldable pub shaped : List ℕ → Bool
@@ -145,7 +143,7 @@ stored r d = cond (eqb (length r) recordSize) (imageOf d) r
 
 -- the four numbers alone
 abbrev pub putPacked : List ℕ → Packed → List ℕ
-putPacked r k = sets (sets (sets (sets r 5 (digits 8 (k .status))) 16 (digits 8 (k .cu))) 24 (digits 8 (k .ru))) 32 (digits 8 (k .rest))
+putPacked r k = sets (sets (sets (sets r statusAt (digits 8 (k .status))) cuAt (digits 8 (k .cu))) ruAt (digits 8 (k .ru))) restAt (digits 8 (k .rest))
 
 unfoldable pub storedUnits : List ℕ → Packed → List ℕ
 storedUnits r k = cond (eqb (length r) recordSize) (putPacked r k) r

@@ -2,25 +2,20 @@
 -- the layout and the ranges. Assumes nothing.
 use mathlib.Core.Bool.{Bool, false, not, cond, _&&_, _||_}
 use mathlib.Core.List.{List}
-use Prim.Native.Nat.{ℕ, _/_, _%_}
+use Prim.Native.Nat.{ℕ, _+_}
 use lib.Dec.{eqb, leb, ltb}
 use Rattle.numerals.specs.Places.{field}
-use Rattle.phases.specs.Phases.{odd, wordOf, cuOf, cuShaped, ruOf, ruShaped}
-use Rattle.packed.specs.Packed.{cuTagIn, ruTagIn}
+use Rattle.device.specs.Limits.{addressLength, listedSize}
+use Rattle.phases.specs.Fields.{odd, flagsIn, kindIn, sizeIn, nextIn, sizedMost, filledIn, usedIn, filledMost}
+use Rattle.phases.specs.Phases.{wordOf, begunFlags, begunMost, actingMost, cuOf, cuShaped, heldFlags, storingFlags, closingFlags, frameOf, ruOf, ruShaped}
+use Rattle.packed.specs.Packed.{statusIs, marksIn, cuTagIn, ruTagIn}
+use Rattle.packed.specs.SetUp.{settingsEnd, settingsAt, minimumAt, ownAt, listedAt}
+use Rattle.packed.specs.Record.{lettersAt, statusAt, setupAt}
 use Rattle.packed.specs.declared.Packed.{Packed}
 use Rattle.image.specs.Ranges.{cuFits, ruFits}
-use Rattle.image.specs.Image.{frontIs, statusIs, spareZero, packedAt}
+use Rattle.image.specs.Image.{frontIs, spareZero, packedAt}
 
--- ---- the fields of a unit's word
-
-abbrev pub flagsIn : ℕ → ℕ
-flagsIn n = n / 65536 % 256
-
-abbrev pub kindIn : ℕ → ℕ
-kindIn n = n / 16777216 % 256
-
-abbrev pub sizeIn : ℕ → ℕ
-sizeIn n = n / 4294967296 % 65536
+-- ---- a unit's word
 
 -- a frame has 14 to 2,048 bytes
 abbrev pub sizedIn : ℕ → Bool
@@ -28,22 +23,22 @@ sizedIn n = leb 14 (sizeIn n) && leb (sizeIn n) 2048
 
 -- a walk goes on: fewer than 64 descriptors are used, and there is a next one
 abbrev pub hasNextIn : ℕ → ℕ → Bool
-hasNextIn n used = leb used 63 && not (eqb (n / 281474976710656) 0xFFFF)
+hasNextIn n used = leb used 63 && not (eqb (nextIn n) 0xFFFF)
 
 -- ---- the command unit, by its tag
 
 unfoldable pub actingIs : ℕ → Bool
-actingIs n = leb n 0x7FFFFFF && ltb (flagsIn n) 16 && not (eqb (kindIn n) 4)
+actingIs n = leb n actingMost && ltb (flagsIn n) begunFlags && not (eqb (kindIn n) 4)
 
 unfoldable pub sendingIs : ℕ → Bool
-sendingIs n = ltb (flagsIn n) 16 && hasNextIn n (kindIn n) && sizedIn n
+sendingIs n = ltb (flagsIn n) begunFlags && hasNextIn n (kindIn n) && sizedIn n
 
 unfoldable pub endingIs : ℕ → Bool
-endingIs n = leb n 0xFFFFFFFFFFFF && ltb (flagsIn n) 16 && eqb (kindIn n) 0 && sizedIn n
+endingIs n = leb n sizedMost && ltb (flagsIn n) begunFlags && eqb (kindIn n) 0 && sizedIn n
 
 unfoldable pub begunIs : ℕ → ℕ → Bool
 begunIs t n =
-    cond (eqb t 3) (actingIs n) (cond (eqb t 4) (sendingIs n) (cond (eqb t 5) (endingIs n) (cond (eqb t 6) (leb n 0xFFFFF) false)))
+    cond (eqb t 3) (actingIs n) (cond (eqb t 4) (sendingIs n) (cond (eqb t 5) (endingIs n) (cond (eqb t 6) (leb n begunMost) false)))
 
 -- ---- the receive unit, by its tag
 
@@ -53,24 +48,24 @@ frameIs n most =
     ltb (flagsIn n) most
     && ltb (kindIn n) 3
     && sizedIn n
-    && (odd (n / 262144) || (not (odd (n / 131072)) && eqb (kindIn n) 0))
+    && (frameOf (wordOf n) .savebad || (not (frameOf (wordOf n) .short) && eqb (kindIn n) 0))
 
 unfoldable pub heldIs : ℕ → ℕ → Bool
-heldIs n rest = leb n 0xFFFFFFFFFFFF && eqb rest 0 && frameIs n 8
+heldIs n rest = leb n sizedMost && eqb rest 0 && frameIs n heldFlags
 
 unfoldable pub fillingIs : ℕ → ℕ → Bool
 fillingIs n rest =
-    leb rest 0xFFFFFF
-    && frameIs n 32
-    && hasNextIn n (rest / 65536)
-    && leb 14 (rest % 65536)
-    && ltb (rest % 65536) (sizeIn n)
+    leb rest filledMost
+    && frameIs n storingFlags
+    && hasNextIn n (usedIn rest)
+    && leb 14 (filledIn rest)
+    && ltb (filledIn rest) (sizeIn n)
 
 unfoldable pub closingIs : ℕ → ℕ → Bool
-closingIs n rest = eqb rest 0 && frameIs n 64 && (ltb 14 (sizeIn n) || not (odd (n / 2097152)))
+closingIs n rest = eqb rest 0 && frameIs n closingFlags && (ltb 14 (sizeIn n) || not (wordOf n .sixth))
 
 unfoldable pub lackingIs : ℕ → ℕ → Bool
-lackingIs n rest = leb n 0xFFFFFFFFFFFF && eqb rest 0 && frameIs n 32 && ltb 14 (sizeIn n)
+lackingIs n rest = leb n sizedMost && eqb rest 0 && frameIs n storingFlags && ltb 14 (sizeIn n)
 
 unfoldable pub holdingIs : ℕ → ℕ → ℕ → Bool
 holdingIs t n rest =
@@ -96,12 +91,12 @@ wordsAre front k = (frontIs front && statusIs (k .status)) && (cuIs (cuTagIn k) 
 -- all is as after reset: no bit of the status, minimum length 64, own address six FFh, no address listed
 unfoldable pub freshAt : List ℕ → Bool
 freshAt r =
-    eqb (field r 5 8) 0
-    && eqb (field r 152 1) 0
-    && eqb (field r 153 1) 64
-    && eqb (field r 154 6) 0xFFFFFFFFFFFF
-    && eqb (field r 160 96) 0
+    eqb (field r statusAt 8) 0
+    && eqb (field r (setupAt + settingsAt) 1) 0
+    && eqb (field r (setupAt + minimumAt) 1) 64
+    && eqb (field r (setupAt + ownAt) addressLength) 0xFFFFFFFFFFFF
+    && eqb (field r (setupAt + listedAt) listedSize) 0
 
 -- all of them
 unfoldable pub tested : List ℕ → Bool
-tested r = wordsAre (field r 0 8) (packedAt r) && ((spareZero r && ltb (field r 152 1) 8) && (odd (field r 5 8 / 4096) || freshAt r))
+tested r = wordsAre (field r lettersAt 8) (packedAt r) && ((spareZero r && ltb (field r (setupAt + settingsAt) 1) settingsEnd) && (odd (marksIn (packedAt r)) || freshAt r))

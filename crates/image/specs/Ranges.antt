@@ -1,13 +1,13 @@
 -- The ranges: which states a record may hold. Every state that a call can leave is among them. Assumes nothing.
 use mathlib.Core.Bool.{Bool, true, not, _&&_, _||_}
 use mathlib.Core.Path.{_≡_}
-use Prim.Native.Nat.{ℕ, _<_}
+use Prim.Native.Nat.{ℕ, _<_, _^_}
 use lib.Dec.{eqb, leb, ltb}
 use lib.ListN.{length, getD}
 use Rattle.memory.specs.Address.{isNone}
 use Rattle.memory.specs.Memory.{value}
 use Rattle.scb.specs.Words.{cuNumber, ruNumber, eventBits}
-use Rattle.device.specs.Limits.{header, longest}
+use Rattle.device.specs.Limits.{addressLength, header, longest, listedSize}
 use Rattle.device.specs.State.{cuState, ruState, isGood}
 use Rattle.device.specs.declared.Cu.{Cu}
 use Rattle.device.specs.declared.Cu.the-variants as cu
@@ -72,7 +72,7 @@ ruFits (ru.Lacking s) = lackingFits s
 
 -- the units are, and the base has 24 bits
 unfoldable pub unitsFit : Units → Bool
-unitsFit u = ltb (u .base .0) 16777216 && cuFits (u .cu) && ruFits (u .ru)
+unitsFit u = ltb (u .base .0) (2 ^ 24) && cuFits (u .cu) && ruFits (u .ru)
 
 -- ---- before the first attention nothing can change: all is as after reset
 
@@ -110,11 +110,11 @@ inRange d = unitsFit (d .units) && initialisedOrFresh d
 -- ---- the widths: what the types of the code say of every state, so that no call tests it
 
 pub record Wide (d : Device) : Type 0 where
-  pub scb : d .units .scb .0 < 65536
-  pub minimum : d .units .settings .minimum < 256
+  pub scb : d .units .scb .0 < 2 ^ 16
+  pub minimum : d .units .settings .minimum < 2 ^ 8
   pub cu : WordWide (cuWord (d .units .cu))
   pub ru : WordWide (ruWord (d .units .ru))
-  pub own : length (d .own) ≡ 6
-  pub listed : length (d .listed) ≡ 96
-  pub own-bytes : (i : ℕ) → getD (d .own) i 0 < 256
-  pub listed-bytes : (i : ℕ) → getD (d .listed) i 0 < 256
+  pub own : length (d .own) ≡ addressLength
+  pub listed : length (d .listed) ≡ listedSize
+  pub own-bytes : (i : ℕ) → getD (d .own) i 0 < 2 ^ 8
+  pub listed-bytes : (i : ℕ) → getD (d .listed) i 0 < 2 ^ 8

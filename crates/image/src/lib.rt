@@ -1,11 +1,18 @@
 // The 256 bytes of the device record: which bytes are the image of a state in range, the numbers of that state, and writing them back.
-// With `phases` and `kept`, the only room that knows the layout. `is_image` asks for 256 bytes; the others take a slice of every length.
+// Where everything stands is `packed`'s to say. `is_image` asks for 256 bytes; the others take a slice of every length.
 use packed::Packed;
+use packed::cu;
+use packed::record;
+use packed::ru;
+use packed::setup;
 ghost use mathlib.Core.Bool.{cond};
 ghost use mathlib.Core.Path.{_≡_};
 ghost use lib.ListN.{length};
+ghost use Rattle.device.specs.Limits.{recordSize};
 ghost use Rattle.device.specs.State as device;
 ghost use Rattle.numerals.specs.Places.{field};
+ghost use Rattle.phases.specs.Fields.{offsetMost};
+ghost use Rattle.packed.specs.Record.{lettersAt, statusAt, cuAt, ruAt, restAt};
 ghost use Rattle.image.specs.Image as image;
 ghost use Rattle.image.specs.Numbers as numbers;
 
@@ -15,13 +22,22 @@ pub enum Decoded {
     Foreign,
 }
 
-// ---- the fields of a unit's word
+// The letters B, G, T and the version, 1, which a record begins with.
+const LETTERS: u64 = 0x544742;
 
-fn flags(n: u64) -> u64
-    ensures { λ x. ⌜ x ≡ numbers.flagsIn n ⌝ }
-{
-    n / 65536 % 256
-}
+const VERSION: u64 = 1;
+
+const FRONT: u64 = LETTERS + (VERSION << 24);
+
+const FRONT_END: u64 = 1 << 40;
+
+// The own address is written in two halves.
+const OWN_BACK: usize = record::OWN + 3;
+
+// The minimum length after reset.
+const MINIMUM: u8 = 64;
+
+// ---- a unit's word
 
 // A frame has 14 to 2,048 bytes.
 fn is_sized(n: u64) -> bool
@@ -35,14 +51,14 @@ fn is_sized(n: u64) -> bool
 fn goes_on(n: u64, used: u64) -> bool
     ensures { λ x. ⌜ x ≡ numbers.hasNextIn n used ⌝ }
 {
-    (used <= 63) & (n / 281474976710656 != 0xFFFF)
+    (used <= 63) & !memory::is_none(packed::next_of(n))
 }
 
 // The largest word of a phase that has an offset alone, or nothing.
 fn offset_most(none: bool) -> u64
-    ensures { λ x. ⌜ x ≡ cond none 0 0xFFFF ⌝ }
+    ensures { λ x. ⌜ x ≡ cond none 0 offsetMost ⌝ }
 {
-    if none { 0 } else { 0xFFFF }
+    if none { 0 } else { packed::OFFSET_MOST }
 }
 
 // ---- the command unit
@@ -50,19 +66,22 @@ fn offset_most(none: bool) -> u64
 fn acting_is(n: u64) -> bool
     ensures { λ x. ⌜ x ≡ numbers.actingIs n ⌝ }
 {
-    (n <= 0x7FFFFFF) & (flags(n) < 16) & (packed::kind_of(n) != 4)
+    (n <= cu::ACTING_MOST) & (packed::flags_of(n) < cu::FLAGS) & (packed::kind_of(n) != 4)
 }
 
 fn sending_is(n: u64) -> bool
     ensures { λ x. ⌜ x ≡ numbers.sendingIs n ⌝ }
 {
-    (flags(n) < 16) & goes_on(n, packed::kind_of(n)) & is_sized(n)
+    (packed::flags_of(n) < cu::FLAGS) & goes_on(n, packed::kind_of(n)) & is_sized(n)
 }
 
 fn ending_is(n: u64) -> bool
     ensures { λ x. ⌜ x ≡ numbers.endingIs n ⌝ }
 {
-    (n <= 0xFFFFFFFFFFFF) & (flags(n) < 16) & (packed::kind_of(n) == 0) & is_sized(n)
+    (n <= packed::SIZED_MOST)
+        & (packed::flags_of(n) < cu::FLAGS)
+        & (packed::kind_of(n) == 0)
+        & is_sized(n)
 }
 
 // A command that is begun: what its phase does not use is zero.
@@ -70,10 +89,10 @@ fn begun_is(tag: u64, n: u64) -> bool
     ensures { λ x. ⌜ x ≡ numbers.begunIs tag n ⌝ }
 {
     match tag {
-        3 => acting_is(n),
-        4 => sending_is(n),
-        5 => ending_is(n),
-        6 => n <= 0xFFFFF,
+        cu::ACTING => acting_is(n),
+        cu::SENDING => sending_is(n),
+        cu::ENDING => ending_is(n),
+        cu::FAILING => n <= cu::BEGUN_MOST,
         _ => false,
     }
 }
@@ -82,8 +101,8 @@ fn begun_is(tag: u64, n: u64) -> bool
 fn cu_is(tag: u64, n: u64) -> bool
     ensures { λ x. ⌜ x ≡ numbers.cuIs tag n ⌝ }
 {
-    if tag < 3 {
-        return n <= offset_most(tag == 0);
+    if tag < cu::ACTING {
+        return n <= offset_most(tag == cu::IDLE);
     }
     begun_is(tag, n)
 }
@@ -95,49 +114,52 @@ fn frame_is(n: u64, most: u64) -> bool
     ensures { λ x. ⌜ x ≡ numbers.frameIs n most ⌝ }
 {
     let verdict = packed::kind_of(n);
-    (flags(n) < most)
+    (packed::flags_of(n) < most)
         & (verdict < 3)
         & is_sized(n)
-        & (packed::flag(n, 262144) | (!packed::flag(n, 131072) & (verdict == 0)))
+        & (ru::save_bad(n) | (!ru::short(n) & (verdict == 0)))
 }
 
 fn held_is(n: u64, rest: u64) -> bool
     ensures { λ x. ⌜ x ≡ numbers.heldIs n rest ⌝ }
 {
-    (n <= 0xFFFFFFFFFFFF) & (rest == 0) & frame_is(n, 8)
+    (n <= packed::SIZED_MOST) & (rest == 0) & frame_is(n, ru::HELD_FLAGS)
 }
 
 // What is being filled has data left.
 fn filling_is(n: u64, rest: u64) -> bool
     ensures { λ x. ⌜ x ≡ numbers.fillingIs n rest ⌝ }
 {
-    (rest <= 0xFFFFFF)
-        & frame_is(n, 32)
-        & goes_on(n, rest / 65536)
-        & (14 <= rest % 65536)
-        & (rest % 65536 < packed::size_of(n))
+    (rest <= ru::FILLED_MOST)
+        & frame_is(n, ru::STORING_FLAGS)
+        & goes_on(n, ru::used(rest))
+        & (14 <= ru::filled(rest))
+        & (ru::filled(rest) < packed::size_of(n))
 }
 
 fn closing_is(n: u64, rest: u64) -> bool
     ensures { λ x. ⌜ x ≡ numbers.closingIs n rest ⌝ }
 {
-    (rest == 0) & frame_is(n, 64) & ((14 < packed::size_of(n)) | !packed::flag(n, 2097152))
+    (rest == 0) & frame_is(n, ru::CLOSING_FLAGS) & ((14 < packed::size_of(n)) | !ru::full(n))
 }
 
 fn lacking_is(n: u64, rest: u64) -> bool
     ensures { λ x. ⌜ x ≡ numbers.lackingIs n rest ⌝ }
 {
-    (n <= 0xFFFFFFFFFFFF) & (rest == 0) & frame_is(n, 32) & (14 < packed::size_of(n))
+    (n <= packed::SIZED_MOST)
+        & (rest == 0)
+        & frame_is(n, ru::STORING_FLAGS)
+        & (14 < packed::size_of(n))
 }
 
 fn holding_is(tag: u64, n: u64, rest: u64) -> bool
     ensures { λ x. ⌜ x ≡ numbers.holdingIs tag n rest ⌝ }
 {
     match tag {
-        4 => held_is(n, rest),
-        5 => filling_is(n, rest),
-        6 => closing_is(n, rest),
-        7 => lacking_is(n, rest),
+        ru::HELD => held_is(n, rest),
+        ru::FILLING => filling_is(n, rest),
+        ru::CLOSING => closing_is(n, rest),
+        ru::LACKING => lacking_is(n, rest),
         _ => false,
     }
 }
@@ -146,9 +168,9 @@ fn holding_is(tag: u64, n: u64, rest: u64) -> bool
 fn ru_is(tag: u64, n: u64, rest: u64) -> bool
     ensures { λ x. ⌜ x ≡ numbers.ruIs tag n rest ⌝ }
 {
-    if tag < 4 {
+    if tag < ru::HELD {
         if tag % 2 == 1 {
-            return n / 65536 | rest == 0;
+            return n / packed::FLAGS | rest == 0;
         }
         return n | rest == 0;
     }
@@ -158,42 +180,42 @@ fn ru_is(tag: u64, n: u64, rest: u64) -> bool
 // ---- reading a record: each word by a function of its own, so that it becomes one load
 
 fn front_at(r: &[u8]) -> u64
-    requires { ⌜ length (now r) ≡ 256 ⌝ }
-    ensures { λ x. ⌜ x ≡ field (now (r .entry)) 0 8 ⌝ }
+    requires { ⌜ length (now r) ≡ recordSize ⌝ }
+    ensures { λ x. ⌜ x ≡ field (now (r .entry)) lettersAt 8 ⌝ }
 {
-    numerals::read64(r, 0)
+    numerals::read64(r, record::LETTERS)
 }
 
 fn status_at(r: &[u8]) -> u64
-    requires { ⌜ length (now r) ≡ 256 ⌝ }
-    ensures { λ x. ⌜ x ≡ field (now (r .entry)) 5 8 ⌝ }
+    requires { ⌜ length (now r) ≡ recordSize ⌝ }
+    ensures { λ x. ⌜ x ≡ field (now (r .entry)) statusAt 8 ⌝ }
 {
-    numerals::read64(r, 5)
+    numerals::read64(r, record::STATUS)
 }
 
 fn cu_at(r: &[u8]) -> u64
-    requires { ⌜ length (now r) ≡ 256 ⌝ }
-    ensures { λ x. ⌜ x ≡ field (now (r .entry)) 16 8 ⌝ }
+    requires { ⌜ length (now r) ≡ recordSize ⌝ }
+    ensures { λ x. ⌜ x ≡ field (now (r .entry)) cuAt 8 ⌝ }
 {
-    numerals::read64(r, 16)
+    numerals::read64(r, record::CU)
 }
 
 fn ru_at(r: &[u8]) -> u64
-    requires { ⌜ length (now r) ≡ 256 ⌝ }
-    ensures { λ x. ⌜ x ≡ field (now (r .entry)) 24 8 ⌝ }
+    requires { ⌜ length (now r) ≡ recordSize ⌝ }
+    ensures { λ x. ⌜ x ≡ field (now (r .entry)) ruAt 8 ⌝ }
 {
-    numerals::read64(r, 24)
+    numerals::read64(r, record::RU)
 }
 
 fn rest_at(r: &[u8]) -> u64
-    requires { ⌜ length (now r) ≡ 256 ⌝ }
-    ensures { λ x. ⌜ x ≡ field (now (r .entry)) 32 8 ⌝ }
+    requires { ⌜ length (now r) ≡ recordSize ⌝ }
+    ensures { λ x. ⌜ x ≡ field (now (r .entry)) restAt 8 ⌝ }
 {
-    numerals::read64(r, 32)
+    numerals::read64(r, record::REST)
 }
 
 fn packed_at(r: &[u8]) -> Packed
-    requires { ⌜ length (now r) ≡ 256 ⌝ }
+    requires { ⌜ length (now r) ≡ recordSize ⌝ }
     ensures { λ x. ⌜ x ≡ image.packedAt (now (r .entry)) ⌝ }
 {
     Packed {
@@ -207,19 +229,13 @@ fn packed_at(r: &[u8]) -> Packed
 fn front_is(n: u64) -> bool
     ensures { λ x. ⌜ x ≡ image.frontIs n ⌝ }
 {
-    n % 1099511627776 == 0x0001544742
-}
-
-fn status_is(s: u64) -> bool
-    ensures { λ x. ⌜ x ≡ image.statusIs s ⌝ }
-{
-    (s % 16 == 0) & (s / 2048 % 2 == 0) & (s / 16384 % 4 == 0)
+    n % FRONT_END == FRONT
 }
 
 fn words_are(front: u64, k: Packed) -> bool
     ensures { λ x. ⌜ x ≡ numbers.wordsAre front k ⌝ }
 {
-    if front_is(front) & status_is(k.status) {
+    if front_is(front) & packed::status_is(k.status) {
         if cu_is(packed::cu_tag(k), k.cu) {
             return ru_is(packed::ru_tag(k), k.ru, k.rest);
         }
@@ -228,32 +244,33 @@ fn words_are(front: u64, k: Packed) -> bool
 }
 
 fn spare_zero(r: &[u8]) -> bool
-    requires { ⌜ length (now r) ≡ 256 ⌝ }
+    requires { ⌜ length (now r) ≡ recordSize ⌝ }
     ensures { λ x. ⌜ x ≡ image.spareZero (now (r .entry)) ⌝ }
 {
-    (numerals::read24(r, 13) == 0) & numerals::is_zero(r, 40, 14)
+    (numerals::read24(r, record::GAP) == 0)
+        & numerals::is_zero(r, record::SPARE, record::SPARE_WORDS)
 }
 
 fn is_fresh(r: &[u8]) -> bool
-    requires { ⌜ length (now r) ≡ 256 ⌝ }
+    requires { ⌜ length (now r) ≡ recordSize ⌝ }
     ensures { λ x. ⌜ x ≡ numbers.freshAt (now (r .entry)) ⌝ }
 {
     (status_at(r) == 0)
-        & (numerals::read8(r, 152) == 0)
-        & (numerals::read8(r, 153) == 64)
-        & (numerals::read48(r, 154) == 0xFFFFFFFFFFFF)
-        & numerals::is_zero(r, 160, 12)
+        & (numerals::read8(r, record::SETTINGS) == 0)
+        & (numerals::read8(r, record::MINIMUM) == MINIMUM)
+        & (numerals::read48(r, record::OWN) == 0xFFFFFFFFFFFF)
+        & numerals::is_zero(r, record::LISTED, setup::LISTED_SIZE / 8)
 }
 
 // Whether a record of 256 bytes is the image of a state in range. Before the first attention there is one such state.
 pub fn is_image(r: &[u8]) -> bool
-    requires { ⌜ length (now r) ≡ 256 ⌝ }
+    requires { ⌜ length (now r) ≡ recordSize ⌝ }
     ensures { λ x. ⌜ x ≡ image.imaged (now (r .entry)) ⌝ }
 {
-    let status = status_at(r);
-    if words_are(front_at(r), packed_at(r)) {
-        if spare_zero(r) & (numerals::read8(r, 152) < 8) {
-            if status / 4096 % 2 == 1 {
+    let k = packed_at(r);
+    if words_are(front_at(r), k) {
+        if spare_zero(r) & (numerals::read8(r, record::SETTINGS) < setup::SETTINGS_END) {
+            if packed::initialised(k) {
                 return true;
             }
             return is_fresh(r);
@@ -266,7 +283,7 @@ pub fn is_image(r: &[u8]) -> bool
 pub fn decode(r: &[u8]) -> Decoded
     ensures { λ x. ⌜ x ≡ image.decodedBy (image.decodeOf (now (r .entry))) ⌝ }
 {
-    if r.len() == 256 {
+    if r.len() == record::SIZE {
         if is_image(r) {
             return Decoded::Units(packed_at(r));
         }
@@ -280,31 +297,31 @@ pub fn decode(r: &[u8]) -> Decoded
 pub fn store(r: &mut [u8], k: Packed)
     ensures { λ _. ⌜ now (r .exit) ≡ image.storedUnits (now (r .entry)) k ⌝ }
 {
-    if r.len() == 256 {
-        numerals::put64(r, 5, k.status);
-        numerals::put64(r, 16, k.cu);
-        numerals::put64(r, 24, k.ru);
-        numerals::put64(r, 32, k.rest);
+    if r.len() == record::SIZE {
+        numerals::put64(r, record::STATUS, k.status);
+        numerals::put64(r, record::CU, k.cu);
+        numerals::put64(r, record::RU, k.ru);
+        numerals::put64(r, record::REST, k.rest);
     }
 }
 
 fn renew_full(r: &mut [u8])
-    requires { ⌜ length (now r) ≡ 256 ⌝ }
+    requires { ⌜ length (now r) ≡ recordSize ⌝ }
     ensures { λ _. ⌜ now (r .exit) ≡ image.imageOf device.fresh ⌝ }
 {
-    numerals::clear(r, 0, 256);
-    numerals::put24(r, 0, 0x544742);
-    numerals::put16(r, 3, 1);
-    numerals::put8(r, 153, 64);
-    numerals::put24(r, 154, 0xFFFFFF);
-    numerals::put24(r, 157, 0xFFFFFF);
+    numerals::clear(r, 0, record::SIZE);
+    numerals::put24(r, record::LETTERS, LETTERS);
+    numerals::put16(r, record::VERSION, VERSION);
+    numerals::put8(r, record::MINIMUM, MINIMUM);
+    numerals::put24(r, record::OWN, 0xFFFFFF);
+    numerals::put24(r, OWN_BACK, 0xFFFFFF);
 }
 
 // The image of the fresh state goes to a record, whatever stood there; one of another length stays as it is.
 pub fn renew(r: &mut [u8])
     ensures { λ _. ⌜ now (r .exit) ≡ image.stored (now (r .entry)) device.fresh ⌝ }
 {
-    if r.len() == 256 {
+    if r.len() == record::SIZE {
         renew_full(r);
     }
 }

@@ -14,9 +14,10 @@ use Rattle.device.specs.declared.Cu.the-variants as cu
 use Rattle.device.specs.declared.Ru.{Ru}
 use Rattle.device.specs.declared.Ru.the-variants as ru
 use Rattle.device.specs.declared.Units.{Units}
-use Rattle.phases.specs.Phases.{odd, numberOf, wordOf, cuTag, cuWord, cuOf, ruTag, ruWord, ruRest, ruOf}
+use Rattle.phases.specs.Fields.{odd}
+use Rattle.phases.specs.Phases.{numberOf, wordOf, cuTag, cuWord, cuOf, ruTag, ruWord, ruRest, ruOf}
 use Rattle.phases.proofs.Units.{one-below, cu-back, ru-back, word-back}
-use Rattle.packed.specs.Packed.{flagsBy, flagsOf, statusBy, statusOf, packedOf, scbIn, flagsIn, cuTagIn, ruTagIn, baseIn, CuIs, RuIs, UnitsWide, PackedIs}
+use Rattle.packed.specs.Packed.{marksBy, marksOf, statusBy, statusOf, packedOf, scbIn, marksIn, cuTagIn, ruTagIn, baseIn, CuIs, RuIs, UnitsWide, PackedIs}
 use Rattle.packed.specs.declared.Packed.{Packed}
 
 one-odd : (b : Bool) → eqb (one b) 1 ≡ b
@@ -112,30 +113,30 @@ module _ (e c m r s b : ℕ) (he : e < 16) (hc : c < 8) (hm : m < 4) (hr : r < 2
   base-laid : laid e c m r s b / 1099511627776 ≡ b
   base-laid = omega arith
 
--- flags are four bits of events above two of their own, and a tag has three bits
-module _ (scb flags cu ru base : ℕ) (s : scb < 65536) (f : flags < 256) (g : flags % 16 < 4) (c : cu < 8) (r : ru < 256) where
-  high : flags / 16 < 16
+-- marks are four bits of events above two of their own, and a tag has three bits
+module _ (scb marks cu ru base : ℕ) (s : scb < 65536) (f : marks < 256) (g : marks % 16 < 4) (c : cu < 8) (r : ru < 256) where
+  high : marks / 16 < 16
   high = omega arith
 
-  low : flags % 4 < 4
+  low : marks % 4 < 4
   low = omega arith
 
-  scb-part : statusBy scb flags cu ru base / 16777216 % 65536 ≡ scb
-  scb-part = scb-laid (flags / 16) cu (flags % 4) ru scb base high c low r s
+  scb-part : statusBy scb marks cu ru base / 16777216 % 65536 ≡ scb
+  scb-part = scb-laid (marks / 16) cu (marks % 4) ru scb base high c low r s
 
-  flags-part : statusBy scb flags cu ru base / 4096 % 4 + 16 * (statusBy scb flags cu ru base / 16 % 16) ≡ flags
-  flags-part =
-      let z : flags % 4 + 16 * (flags / 16) ≡ flags = omega arith in
-      rw (marks-laid (flags / 16) cu (flags % 4) ru scb base high c low r s, events-laid (flags / 16) cu (flags % 4) ru scb base high c low r s) z
+  marks-part : statusBy scb marks cu ru base / 4096 % 4 + 16 * (statusBy scb marks cu ru base / 16 % 16) ≡ marks
+  marks-part =
+      let z : marks % 4 + 16 * (marks / 16) ≡ marks = omega arith in
+      rw (marks-laid (marks / 16) cu (marks % 4) ru scb base high c low r s, events-laid (marks / 16) cu (marks % 4) ru scb base high c low r s) z
 
-  cu-part : statusBy scb flags cu ru base / 256 % 8 ≡ cu
-  cu-part = cu-laid (flags / 16) cu (flags % 4) ru scb base high c low r s
+  cu-part : statusBy scb marks cu ru base / 256 % 8 ≡ cu
+  cu-part = cu-laid (marks / 16) cu (marks % 4) ru scb base high c low r s
 
-  ru-part : statusBy scb flags cu ru base / 65536 % 256 ≡ ru
-  ru-part = ru-laid (flags / 16) cu (flags % 4) ru scb base high c low r s
+  ru-part : statusBy scb marks cu ru base / 65536 % 256 ≡ ru
+  ru-part = ru-laid (marks / 16) cu (marks % 4) ru scb base high c low r s
 
-  base-part : statusBy scb flags cu ru base / 1099511627776 ≡ base
-  base-part = base-laid (flags / 16) cu (flags % 4) ru scb base high c low r s
+  base-part : statusBy scb marks cu ru base / 1099511627776 ≡ base
+  base-part = base-laid (marks / 16) cu (marks % 4) ru scb base high c low r s
 
 pub cu-tag-below : (c : Cu) → cuTag c < 8
 cu-tag-below cu.Idle = omega arith
@@ -156,11 +157,11 @@ ru-tag-below (ru.Filling s w) = omega arith
 ru-tag-below (ru.Closing s o full) = omega arith
 ru-tag-below (ru.Lacking s) = omega arith
 
-pub flags-below : (i l : Bool) (e : Events) → flagsBy i l e < 256
-flags-below i l e = omega (arith, one-below i, one-below l, events-below e)
+pub marks-below : (i l : Bool) (e : Events) → marksBy i l e < 256
+marks-below i l e = omega (arith, one-below i, one-below l, events-below e)
 
-pub flags-low : (i l : Bool) (e : Events) → flagsBy i l e % 16 < 4
-flags-low i l e = omega (arith, one-below i, one-below l)
+pub marks-low : (i l : Bool) (e : Events) → marksBy i l e % 16 < 4
+marks-low i l e = omega (arith, one-below i, one-below l)
 
 -- ---- what is read of a state's numbers
 
@@ -170,19 +171,19 @@ module _ (u : Units) (k : Packed) (h : PackedIs u k) where
   status-is = ap (λ (x : Packed). x .status) (h .same)
 
   pub scb-is : scbIn k ≡ u .scb .0
-  scb-is = rw status-is (scb-part _ _ _ _ _ (h .wide .scb-wide) (flags-below (u .initialised) (u .rulast) (u .events)) (flags-low (u .initialised) (u .rulast) (u .events)) (cu-tag-below (u .cu)) (omega (arith, ru-tag-below (u .ru))))
+  scb-is = rw status-is (scb-part _ _ _ _ _ (h .wide .scb-wide) (marks-below (u .initialised) (u .rulast) (u .events)) (marks-low (u .initialised) (u .rulast) (u .events)) (cu-tag-below (u .cu)) (omega (arith, ru-tag-below (u .ru))))
 
-  pub flags-is : flagsIn k ≡ flagsOf u
-  flags-is = rw status-is (flags-part _ _ _ _ _ (h .wide .scb-wide) (flags-below (u .initialised) (u .rulast) (u .events)) (flags-low (u .initialised) (u .rulast) (u .events)) (cu-tag-below (u .cu)) (omega (arith, ru-tag-below (u .ru))))
+  pub marks-is : marksIn k ≡ marksOf u
+  marks-is = rw status-is (marks-part _ _ _ _ _ (h .wide .scb-wide) (marks-below (u .initialised) (u .rulast) (u .events)) (marks-low (u .initialised) (u .rulast) (u .events)) (cu-tag-below (u .cu)) (omega (arith, ru-tag-below (u .ru))))
 
   cu-tag-is : cuTagIn k ≡ cuTag (u .cu)
-  cu-tag-is = rw status-is (cu-part _ _ _ _ _ (h .wide .scb-wide) (flags-below (u .initialised) (u .rulast) (u .events)) (flags-low (u .initialised) (u .rulast) (u .events)) (cu-tag-below (u .cu)) (omega (arith, ru-tag-below (u .ru))))
+  cu-tag-is = rw status-is (cu-part _ _ _ _ _ (h .wide .scb-wide) (marks-below (u .initialised) (u .rulast) (u .events)) (marks-low (u .initialised) (u .rulast) (u .events)) (cu-tag-below (u .cu)) (omega (arith, ru-tag-below (u .ru))))
 
   ru-tag-is : ruTagIn k ≡ ruTag (u .ru)
-  ru-tag-is = rw status-is (ru-part _ _ _ _ _ (h .wide .scb-wide) (flags-below (u .initialised) (u .rulast) (u .events)) (flags-low (u .initialised) (u .rulast) (u .events)) (cu-tag-below (u .cu)) (omega (arith, ru-tag-below (u .ru))))
+  ru-tag-is = rw status-is (ru-part _ _ _ _ _ (h .wide .scb-wide) (marks-below (u .initialised) (u .rulast) (u .events)) (marks-low (u .initialised) (u .rulast) (u .events)) (cu-tag-below (u .cu)) (omega (arith, ru-tag-below (u .ru))))
 
   pub base-is : baseIn k ≡ u .base .0
-  base-is = rw status-is (base-part _ _ _ _ _ (h .wide .scb-wide) (flags-below (u .initialised) (u .rulast) (u .events)) (flags-low (u .initialised) (u .rulast) (u .events)) (cu-tag-below (u .cu)) (omega (arith, ru-tag-below (u .ru))))
+  base-is = rw status-is (base-part _ _ _ _ _ (h .wide .scb-wide) (marks-below (u .initialised) (u .rulast) (u .events)) (marks-low (u .initialised) (u .rulast) (u .events)) (cu-tag-below (u .cu)) (omega (arith, ru-tag-below (u .ru))))
 
   pub cu-is : CuIs (u .cu) (cuTagIn k) (k .cu)
   unfolding packedOf
@@ -199,19 +200,19 @@ module _ (u : Units) (k : Packed) (h : PackedIs u k) where
         filling = h .wide .filling-wide;
       }
 
-  pub events-is : flagsIn k / 16 ≡ eventBits (u .events)
-  events-is = rw flags-is (omega (arith, one-below (u .initialised), one-below (u .rulast)))
+  pub events-is : marksIn k / 16 ≡ eventBits (u .events)
+  events-is = rw marks-is (omega (arith, one-below (u .initialised), one-below (u .rulast)))
 
-  pub initialised-is : odd (flagsIn k) ≡ u .initialised
+  pub initialised-is : odd (marksIn k) ≡ u .initialised
   initialised-is =
-      let n : flagsOf u % 2 ≡ one (u .initialised) = omega (arith, one-below (u .initialised)) in
-      rw (flags-is, n) (one-odd (u .initialised))
+      let n : marksOf u % 2 ≡ one (u .initialised) = omega (arith, one-below (u .initialised)) in
+      rw (marks-is, n) (one-odd (u .initialised))
 
-  pub rulast-is : odd (flagsIn k / 2) ≡ u .rulast
+  pub rulast-is : odd (marksIn k / 2) ≡ u .rulast
   rulast-is =
-      let q : flagsOf u / 2 ≡ one (u .rulast) + 2 * (4 * eventBits (u .events)) = omega (arith, one-below (u .initialised)) in
-      let n : flagsOf u / 2 % 2 ≡ one (u .rulast) = rw q (omega (arith, one-below (u .rulast))) in
-      rw (flags-is, n) (one-odd (u .rulast))
+      let q : marksOf u / 2 ≡ one (u .rulast) + 2 * (4 * eventBits (u .events)) = omega (arith, one-below (u .initialised)) in
+      let n : marksOf u / 2 % 2 ≡ one (u .rulast) = rw q (omega (arith, one-below (u .rulast))) in
+      rw (marks-is, n) (one-odd (u .rulast))
 
 -- a tag and words lead back to their unit
 pub cu-of : (c : Cu) (tag n : ℕ) → CuIs c tag n → cuOf tag (wordOf n) ≡ c
@@ -229,19 +230,19 @@ module _ (u : Units) (k : Packed) (h : PackedIs u k) where
   cut-base : k .status / 1099511627776 ≡ u .base .0
   cut-base = base-is u k h
 
-  pub low-flag : flagsIn k % 2 ≡ one (u .initialised)
-  low-flag = rw (flags-is u k h) (omega (arith, one-below (u .initialised)))
+  pub low-mark : marksIn k % 2 ≡ one (u .initialised)
+  low-mark = rw (marks-is u k h) (omega (arith, one-below (u .initialised)))
 
-  module _ (c : Cu) (v : Ru) (i l : Bool) (e : Events) (flags cutag cuword rutag ruword rest : ℕ)
-      (f : flags ≡ flagsBy i l e) (hc : CuIs c cutag cuword) (hv : RuIs v rutag ruword rest) where
+  module _ (c : Cu) (v : Ru) (i l : Bool) (e : Events) (marks cutag cuword rutag ruword rest : ℕ)
+      (f : marks ≡ marksBy i l e) (hc : CuIs c cutag cuword) (hv : RuIs v rutag ruword rest) where
     pub together : PackedIs (record { initialised = i; base = u .base; scb = u .scb; events = e; rulast = l; settings = u .settings; cu = c; ru = v })
-        (record { status = statusBy (k .status / 16777216 % 65536) (flags % 256) (cutag % 8) (rutag % 256) (k .status / 1099511627776 % 16777216); cu = cuword; ru = ruword; rest = rest })
+        (record { status = statusBy (k .status / 16777216 % 65536) (marks % 256) (cutag % 8) (rutag % 256) (k .status / 1099511627776 % 16777216); cu = cuword; ru = ruword; rest = rest })
     unfolding packedOf
     together =
-        let s : statusBy (k .status / 16777216 % 65536) (flags % 256) (cutag % 8) (rutag % 256) (k .status / 1099511627776 % 16777216)
-        ≡ statusBy (u .scb .0) (flagsBy i l e) (cuTag c) (ruTag v) (u .base .0) =
+        let s : statusBy (k .status / 16777216 % 65536) (marks % 256) (cutag % 8) (rutag % 256) (k .status / 1099511627776 % 16777216)
+        ≡ statusBy (u .scb .0) (marksBy i l e) (cuTag c) (ruTag v) (u .base .0) =
         rw (cut-base, f, hc .tag-is, hv .tag-is)
-        (let p : flagsBy i l e % 256 ≡ flagsBy i l e = omega (arith, flags-below i l e) in
+        (let p : marksBy i l e % 256 ≡ marksBy i l e = omega (arith, marks-below i l e) in
         let q : cuTag c % 8 ≡ cuTag c = omega (arith, cu-tag-below c) in
         let r : ruTag v % 256 ≡ ruTag v = omega (arith, ru-tag-below v) in
         let t : u .base .0 % 16777216 ≡ u .base .0 = omega (arith, h .wide .base-wide) in

@@ -1,2 +1,4 @@
 -- The laws of this crate, for the crates above it.
 pub mod Laws
+pub mod Words
+pub mod SetUps

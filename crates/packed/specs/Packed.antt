@@ -1,33 +1,36 @@
 -- The units' state as four numbers, which is how the record keeps it and how a call carries it. Assumes nothing.
 use mathlib.Core.Path.{_≡_}
-use mathlib.Core.Bool.{Bool, true, false}
-use Prim.Native.Nat.{ℕ, _+_, _*_, _/_, _%_, _<_}
+use mathlib.Core.Bool.{Bool, true, false, _&&_}
+use Prim.Native.Nat.{ℕ, _+_, _*_, _/_, _%_, _<_, _^_}
+use lib.Dec.{eqb}
 use Rattle.scb.specs.Words.{one, eventBits, raise}
 use Rattle.scb.specs.declared.Events.{Events}
 use Rattle.device.specs.Change.{withCu, withRu, withEvents, servedRu}
+use Rattle.device.specs.declared.Begun.{Begun}
 use Rattle.device.specs.declared.Cu.{Cu}
 use Rattle.device.specs.declared.Ru.{Ru}
 use Rattle.device.specs.declared.Units.{Units}
-use Rattle.phases.specs.Phases.{numberOf, cuTag, cuWord, ruTag, ruWord, ruRest, WordWide, FillingWide}
+use Rattle.phases.specs.Phases.{numberOf, begunWord, cuTag, cuWord, ruTag, ruWord, ruRest, WordWide, FillingWide}
+use Rattle.phases.specs.declared.Word.{Word}
 use Rattle.packed.specs.declared.Packed.{Packed}
 
 -- ---- a state's numbers
 
 -- bit 0 initialised, bit 1 RU served last, bits 7-4 CX, FR, CNA, RNR
-abbrev pub flagsBy : Bool → Bool → Events → ℕ
-flagsBy initialised rulast events = one initialised + 2 * one rulast + 16 * eventBits events
+abbrev pub marksBy : Bool → Bool → Events → ℕ
+marksBy initialised rulast events = one initialised + 2 * one rulast + 2 ^ 4 * eventBits events
 
-abbrev pub flagsOf : Units → ℕ
-flagsOf u = flagsBy (u .initialised) (u .rulast) (u .events)
+abbrev pub marksOf : Units → ℕ
+marksOf u = marksBy (u .initialised) (u .rulast) (u .events)
 
 -- eight bytes, in the order of the record from byte 5 on: bits 7-4 the events; bits 2-0 the CU's tag, bit 4 initialised, bit 5 RU served last; the
 -- RU's tag; two bytes of the SCB's offset; three of the base
-abbrev pub statusBy : (scb flags cu ru base : ℕ) → ℕ
-statusBy scb flags cu ru base =
-    16 * (flags / 16) + 256 * cu + 4096 * (flags % 4) + 65536 * ru + 16777216 * scb + 1099511627776 * base
+abbrev pub statusBy : (scb marks cu ru base : ℕ) → ℕ
+statusBy scb marks cu ru base =
+    2 ^ 4 * (marks / 2 ^ 4) + 2 ^ 8 * cu + 2 ^ 12 * (marks % 2 ^ 2) + 2 ^ 16 * ru + 2 ^ 24 * scb + 2 ^ 40 * base
 
 abbrev pub statusOf : Units → ℕ
-statusOf u = statusBy (u .scb .0) (flagsOf u) (cuTag (u .cu)) (ruTag (u .ru)) (u .base .0)
+statusOf u = statusBy (u .scb .0) (marksOf u) (cuTag (u .cu)) (ruTag (u .ru)) (u .base .0)
 
 -- all of the state but the settings and the addresses, which stand beside it
 unfoldable pub packedOf : Units → Packed
@@ -50,21 +53,34 @@ ruServed u v by = withEvents (servedRu (withRu u v) true) (raise (u .events) by)
 -- ---- what is read of the status
 
 abbrev pub scbIn : Packed → ℕ
-scbIn k = k .status / 16777216 % 65536
+scbIn k = k .status / 2 ^ 24 % 2 ^ 16
 
-abbrev pub flagsIn : Packed → ℕ
-flagsIn k = k .status / 4096 % 4 + 16 * (k .status / 16 % 16)
+abbrev pub marksIn : Packed → ℕ
+marksIn k = k .status / 2 ^ 12 % 2 ^ 2 + 2 ^ 4 * (k .status / 2 ^ 4 % 2 ^ 4)
 
 abbrev pub cuTagIn : Packed → ℕ
-cuTagIn k = k .status / 256 % 8
+cuTagIn k = k .status / 2 ^ 8 % 2 ^ 3
 
 abbrev pub ruTagIn : Packed → ℕ
-ruTagIn k = k .status / 65536 % 256
+ruTagIn k = k .status / 2 ^ 16 % 2 ^ 8
 
 abbrev pub baseIn : Packed → ℕ
-baseIn k = k .status / 1099511627776
+baseIn k = k .status / 2 ^ 40
+
+-- the bits of a status that nothing uses are zero: 3-0 of its first byte; 3, 6 and 7 of its second
+abbrev pub statusIs : ℕ → Bool
+statusIs s = eqb (s % 2 ^ 4) 0 && eqb (s / 2 ^ 11 % 2) 0 && eqb (s / 2 ^ 14 % 2 ^ 2) 0
 
 -- ---- numbers that are a state's: every field is as wide as the code's types and a real address make it
+
+-- a number is a word's
+pub record WordIs (w : Word) (n : ℕ) : Type 0 where
+  pub number-is : n ≡ numberOf w
+  pub wide : WordWide w
+
+-- a number is a begun command's, with nothing above its marks
+abbrev pub BegunIs : Begun → ℕ → Type 0
+BegunIs b n = WordIs (begunWord b 0 0 0) n
 
 pub record CuIs (c : Cu) (tag n : ℕ) : Type 0 where
   pub tag-is : tag ≡ cuTag c
@@ -79,8 +95,8 @@ pub record RuIs (u : Ru) (tag n rest : ℕ) : Type 0 where
   pub filling : FillingWide u
 
 pub record UnitsWide (u : Units) : Type 0 where
-  pub scb-wide : u .scb .0 < 65536
-  pub base-wide : u .base .0 < 16777216
+  pub scb-wide : u .scb .0 < 2 ^ 16
+  pub base-wide : u .base .0 < 2 ^ 24
   pub cu-wide : WordWide (cuWord (u .cu))
   pub ru-wide : WordWide (ruWord (u .ru))
   pub filling-wide : FillingWide (u .ru)

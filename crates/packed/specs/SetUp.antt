@@ -1,24 +1,53 @@
 -- What the commands set up, as the record keeps it and a call is lent it: 104 bytes. Assumes nothing.
 use mathlib.Core.Path.{_≡_}
 use mathlib.Core.List.{List, _∷_, _++_}
-use Prim.Native.Nat.{ℕ, _+_, _*_, _<_}
+use Prim.Native.Nat.{ℕ, _+_, _*_, _/_, _<_, _^_}
 use lib.ListN.{length}
 use Rattle.scb.specs.Words.{one}
 use Rattle.device.specs.Limits.{addressLength, listedSize}
 use Rattle.device.specs.declared.Settings.{Settings}
 use Rattle.actions.specs.Setup.{Setup}
 
--- bit 0 save bad, bit 1 promiscuous, bit 2 broadcast disabled
+-- the byte of settings: bit 0 save bad, bit 1 promiscuous, bit 2 broadcast disabled; the two last are its modes
+abbrev pub joinedSettings : (savebad modes : ℕ) → ℕ
+joinedSettings savebad modes = savebad + 2 * modes
+
+abbrev pub modesOf : Settings → ℕ
+modesOf s = one (s .promiscuous) + 2 * one (s .nobroadcast)
+
 abbrev pub settingsByte : Settings → ℕ
-settingsByte s = one (s .savebad) + 2 * one (s .promiscuous) + 4 * one (s .nobroadcast)
+settingsByte s = joinedSettings (one (s .savebad)) (modesOf s)
+
+abbrev pub modesIn : ℕ → ℕ
+modesIn b = b / 2
+
+-- it has three bits
+abbrev pub settingsEnd : ℕ
+settingsEnd = 2 ^ 3
 
 -- one byte of settings, one of the minimum length, six of the own address, ninety-six of the listed addresses
 unfoldable pub setupBytes : Setup → List ℕ
 setupBytes s = settingsByte (s .settings) ∷ (s .settings .minimum ∷ (s .own ++ s .listed))
 
+-- where each of them stands, and all of them
+abbrev pub settingsAt : ℕ
+settingsAt = 0
+
+abbrev pub minimumAt : ℕ
+minimumAt = 1
+
+abbrev pub ownAt : ℕ
+ownAt = 2
+
+abbrev pub listedAt : ℕ
+listedAt = ownAt + addressLength
+
+abbrev pub setupSize : ℕ
+setupSize = listedAt + listedSize
+
 -- bytes that are a setup's
 pub record SetIs (s : Setup) (b : List ℕ) : Type 0 where
   pub bytes-are : b ≡ setupBytes s
-  pub minimum-wide : s .settings .minimum < 256
+  pub minimum-wide : s .settings .minimum < 2 ^ 8
   pub own-wide : length (s .own) ≡ addressLength
   pub listed-wide : length (s .listed) ≡ listedSize

@@ -1,19 +1,27 @@
-// The units' state as four numbers: how the record keeps it, and how a call carries it from end to end without taking it apart.
-// It reads a field where one is needed and puts a unit back; specs/Packed.antt says which numbers are a state's.
+// The record's layout, for all of the code: the units' state as four numbers, which a call carries from end to end without taking it apart, and what
+// the commands set up. It reads a field where one is needed and puts a unit back; specs/Packed.antt says which numbers are a state's, specs/SetUp.antt
+// which bytes a setup's. The units' tags and words are in `cu` and `ru`, a setup's places in `setup`, the record's in `record`.
+pub mod cu;
+pub mod record;
+pub mod ru;
+pub mod setup;
+
 use memory::Offset;
 use memory::RealAddress;
 ghost use mathlib.Core.Path.{_≡_};
-ghost use Prim.Native.Nat.{_/_, _%_, _<_};
+ghost use Prim.Native.Nat.{_/_, _%_, _<_, _^_};
 ghost use Rattle.scb.specs.Words as words;
 ghost use Rattle.scb.specs.declared.Events.{Events};
 ghost use Rattle.device.specs.Change as change;
 ghost use Rattle.device.specs.declared.Cu.{Cu};
 ghost use Rattle.device.specs.declared.Ru.{Ru};
 ghost use Rattle.device.specs.declared.Units.{Units};
-ghost use Rattle.phases.specs.Phases.{odd};
+ghost use Rattle.phases.specs.Fields as fields;
+ghost use Rattle.phases.specs.Fields.{odd};
+ghost use Rattle.phases.specs.Phases as phases;
 ghost use Rattle.packed.specs.Packed as kept;
 
-// The status: events, flags, the units' tags, the SCB's offset, the base. Then the command unit's word, and the receive unit's two.
+// The status: events, marks, the units' tags, the SCB's offset, the base. Then the command unit's word, and the receive unit's two.
 pub struct Packed {
     pub status: u64,
     pub cu: u64,
@@ -21,78 +29,171 @@ pub struct Packed {
     pub rest: u64,
 }
 
-// ---- what is read of the status
+// ---- the status
+
+// From the lowest bit on: four that are zero, the events, the command unit's tag and a zero, the marks and two zeros, the receive unit's tag, the
+// SCB's offset, the base.
+pub const EVENTS: u64 = 1 << 4;
+
+const CU: u64 = 1 << 8;
+
+const MARKS: u64 = 1 << 12;
+
+const RU: u64 = 1 << 16;
+
+pub const SCB: u64 = 1 << 24;
+
+pub const BASE: u64 = 1 << 40;
+
+// Among the marks.
+pub const INITIALISED: u64 = 1 << 0;
+
+pub const RU_LAST: u64 = 1 << 1;
+
+// How many numbers a field holds.
+const EVENT_SETS: u64 = 1 << 4;
+
+const CU_TAGS: u64 = 1 << 3;
+
+pub const MARK_SETS: u64 = 1 << 2;
+
+const MARK_BITS: u64 = 1 << 8;
+
+const RU_TAGS: u64 = 1 << 8;
+
+const OFFSETS: u64 = 1 << 16;
+
+const BASES: u64 = 1 << 24;
 
 pub fn base(k: Packed) -> RealAddress
     ensures { λ r. ⌜ r .0 ≡ kept.baseIn k ⌝ }
 {
-    memory::recalled((k.status / 1099511627776) as u32)
+    memory::recalled((k.status / BASE) as u32)
 }
 
 pub fn scb(k: Packed) -> Offset
     ensures { λ r. ⌜ r .0 ≡ kept.scbIn k ⌝ }
 {
-    Offset((k.status / 16777216 % 65536) as u16)
+    Offset((k.status / SCB % OFFSETS) as u16)
 }
 
-// Bit 0 initialised, bit 1 RU served last, bits 7 to 4 the events.
-pub fn flags(k: Packed) -> u64
-    ensures { λ r. ⌜ r ≡ kept.flagsIn k ⌝ }
+// The marks: bit 0 initialised, bit 1 RU served last; and above them, in bits 7 to 4, the events.
+pub fn marks(k: Packed) -> u64
+    ensures { λ r. ⌜ r ≡ kept.marksIn k ⌝ }
 {
-    k.status / 4096 % 4 + 16 * (k.status / 16 % 16)
+    k.status / MARKS % MARK_SETS + EVENTS * (k.status / EVENTS % EVENT_SETS)
 }
 
 // The events as a number below 16.
 pub fn events(k: Packed) -> u64
-    ensures { λ r. ⌜ r ≡ kept.flagsIn k / 16 ⌝ }
+    ensures { λ r. ⌜ r ≡ kept.marksIn k / 2 ^ 4 ⌝ }
 {
-    k.status / 16 % 16
+    k.status / EVENTS % EVENT_SETS
+}
+
+// Whether the first attention was.
+pub fn initialised(k: Packed) -> bool
+    ensures { λ r. ⌜ r ≡ odd (kept.marksIn k) ⌝ }
+{
+    marks(k) / INITIALISED % 2 == 1
+}
+
+// Whether RU was served at the last working turn.
+pub fn ru_last(k: Packed) -> bool
+    ensures { λ r. ⌜ r ≡ odd (kept.marksIn k / 2) ⌝ }
+{
+    marks(k) / RU_LAST % 2 == 1
 }
 
 pub fn cu_tag(k: Packed) -> u64
     ensures { λ r. ⌜ r ≡ kept.cuTagIn k ⌝ }
 {
-    k.status / 256 % 8
+    k.status / CU % CU_TAGS
 }
 
 pub fn ru_tag(k: Packed) -> u64
     ensures { λ r. ⌜ r ≡ kept.ruTagIn k ⌝ }
 {
-    k.status / 65536 % 256
+    k.status / RU % RU_TAGS
 }
 
-// ---- what is read of a unit's word
+// Where a bit and two bits stand that nothing uses: above the command unit's tag and above the marks.
+const CU_END: u64 = CU * CU_TAGS;
 
-// Whether the bit is set whose value is `at`.
-pub fn flag(n: u64, at: u64) -> bool
-    requires { ⌜ 0 < at ⌝ }
-    ensures { λ r. ⌜ r ≡ odd (n / at) ⌝ }
+const MARKS_END: u64 = MARKS * MARK_SETS;
+
+// Whether the bits of a status that nothing uses are zero.
+pub fn status_is(s: u64) -> bool
+    ensures { λ r. ⌜ r ≡ kept.statusIs s ⌝ }
 {
-    n / at % 2 == 1
+    (s % EVENTS == 0) & (s / CU_END % 2 == 0) & (s / MARKS_END % 4 == 0)
+}
+
+// ---- a unit's word
+
+// From the lowest byte on: two of an offset, one of flags, one of kind, two of size, two of the next offset. A begun command is below its kind; the
+// units' flags are the modules' to say.
+pub const FLAGS: u64 = 1 << 16;
+
+const KIND: u64 = 1 << 24;
+
+const SIZE: u64 = 1 << 32;
+
+const NEXT: u64 = 1 << 48;
+
+const FLAG_SETS: u64 = 1 << 8;
+
+const KINDS: u64 = 1 << 8;
+
+const SIZES: u64 = 1 << 16;
+
+// The largest word with an offset alone, and with all but the next offset.
+pub const OFFSET_MOST: u64 = FLAGS - 1;
+
+pub const SIZED_MOST: u64 = NEXT - 1;
+
+// A flag as a number.
+pub fn bit(b: bool) -> u64
+    ensures { λ r. ⌜ (r ≡ words.one b) × (r < 2) ⌝ }
+{
+    if b { 1 } else { 0 }
 }
 
 pub fn at_of(n: u64) -> Offset
-    ensures { λ r. ⌜ r .0 ≡ n % 65536 ⌝ }
+    ensures { λ r. ⌜ r .0 ≡ fields.offsetIn n ⌝ }
 {
-    Offset((n % 65536) as u16)
+    Offset((n % OFFSETS) as u16)
+}
+
+pub fn flags_of(n: u64) -> u64
+    ensures { λ r. ⌜ r ≡ fields.flagsIn n ⌝ }
+{
+    n / FLAGS % FLAG_SETS
 }
 
 pub fn kind_of(n: u64) -> u64
-    ensures { λ r. ⌜ r ≡ n / 16777216 % 256 ⌝ }
+    ensures { λ r. ⌜ r ≡ fields.kindIn n ⌝ }
 {
-    n / 16777216 % 256
+    n / KIND % KINDS
 }
 
 pub fn size_of(n: u64) -> u64
-    ensures { λ r. ⌜ r ≡ n / 4294967296 % 65536 ⌝ }
+    ensures { λ r. ⌜ r ≡ fields.sizeIn n ⌝ }
 {
-    n / 4294967296 % 65536
+    n / SIZE % SIZES
 }
 
 pub fn next_of(n: u64) -> Offset
-    ensures { λ r. ⌜ r .0 ≡ n / 281474976710656 ⌝ }
+    ensures { λ r. ⌜ r .0 ≡ fields.nextIn n ⌝ }
 {
-    Offset((n / 281474976710656) as u16)
+    Offset((n / NEXT) as u16)
+}
+
+// The word of an offset alone.
+pub fn plain(o: Offset) -> u64
+    ensures { λ r. ⌜ kept.WordIs (phases.plain (o .0)) r ⌝ }
+{
+    o.0 as u64
 }
 
 // ---- a state put together
@@ -106,30 +207,24 @@ pub fn raise(events: u64, raised: u64) -> u64
 }
 
 // The status of its parts. What would not fit into its field is cut, though no caller has such a number.
-pub fn status_of(scb: u64, flags: u64, cu: u64, ru: u64, base: u64) -> u64
-    ensures { λ r. ⌜ r ≡ kept.statusBy (scb % 65536) (flags % 256) (cu % 8) (ru % 256) (base % 16777216) ⌝ }
+pub fn status_of(scb: u64, marks: u64, cu: u64, ru: u64, base: u64) -> u64
+    ensures { λ r. ⌜ r ≡ kept.statusBy (scb % 2 ^ 16) (marks % 2 ^ 8) (cu % 2 ^ 3) (ru % 2 ^ 8) (base % 2 ^ 24) ⌝ }
 {
-    16 * (flags % 256 / 16)
-        + 256 * (cu % 8)
-        + 4096 * (flags % 256 % 4)
-        + 65536 * (ru % 256)
-        + 16777216 * (scb % 65536)
-        + 1099511627776 * (base % 16777216)
+    EVENTS * (marks % MARK_BITS / EVENTS)
+        + CU * (cu % CU_TAGS)
+        + MARKS * (marks % MARK_BITS % MARK_SETS)
+        + RU * (ru % RU_TAGS)
+        + SCB * (scb % OFFSETS)
+        + BASE * (base % BASES)
 }
 
 // The command unit was served: it is what its tag and word say, and events came up.
 pub fn after_cu(k: Packed, tag: u64, word: u64, raised: u64) -> Packed
     ensures { λ r. ⌜ ((u : Units) (c : Cu) (by : Events) → kept.PackedIs u k → kept.CuIs c tag word → raised ≡ words.eventBits by → kept.PackedIs (kept.cuServed u c by) r) ⌝ }
 {
-    let flags = flags(k) % 2 + 16 * raise(events(k), raised % 16);
+    let marks = marks(k) % RU_LAST + EVENTS * raise(events(k), raised % EVENT_SETS);
     Packed {
-        status: status_of(
-            k.status / 16777216,
-            flags,
-            tag,
-            ru_tag(k),
-            k.status / 1099511627776,
-        ),
+        status: status_of(k.status / SCB, marks, tag, ru_tag(k), k.status / BASE),
         cu: word,
         ru: k.ru,
         rest: k.rest,
@@ -140,15 +235,9 @@ pub fn after_cu(k: Packed, tag: u64, word: u64, raised: u64) -> Packed
 pub fn after_ru(k: Packed, tag: u64, word: u64, rest: u64, raised: u64) -> Packed
     ensures { λ r. ⌜ ((u : Units) (v : Ru) (by : Events) → kept.PackedIs u k → kept.RuIs v tag word rest → raised ≡ words.eventBits by → kept.PackedIs (kept.ruServed u v by) r) ⌝ }
 {
-    let flags = flags(k) % 2 + 2 + 16 * raise(events(k), raised % 16);
+    let marks = marks(k) % RU_LAST + RU_LAST + EVENTS * raise(events(k), raised % EVENT_SETS);
     Packed {
-        status: status_of(
-            k.status / 16777216,
-            flags,
-            cu_tag(k),
-            tag,
-            k.status / 1099511627776,
-        ),
+        status: status_of(k.status / SCB, marks, cu_tag(k), tag, k.status / BASE),
         cu: k.cu,
         ru: word,
         rest: rest,
@@ -160,13 +249,7 @@ pub fn with_ru(k: Packed, tag: u64, word: u64, rest: u64) -> Packed
     ensures { λ r. ⌜ ((u : Units) (v : Ru) → kept.PackedIs u k → kept.RuIs v tag word rest → kept.PackedIs (change.withRu u v) r) ⌝ }
 {
     Packed {
-        status: status_of(
-            k.status / 16777216,
-            flags(k),
-            cu_tag(k),
-            tag,
-            k.status / 1099511627776,
-        ),
+        status: status_of(k.status / SCB, marks(k), cu_tag(k), tag, k.status / BASE),
         cu: k.cu,
         ru: word,
         rest: rest,

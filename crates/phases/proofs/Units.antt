@@ -23,7 +23,8 @@ use Rattle.device.specs.declared.Storing.{Storing}
 use Rattle.device.specs.declared.Verdict.{Verdict}
 use Rattle.device.specs.declared.Verdict.the-variants as verdict
 use Rattle.device.proofs.Laws.{action-back, verdict-back}
-use Rattle.phases.specs.Phases.{flagsOf, odd, flagBits, numberOf, wordOf, plain, begunWord, cuTag, cuWord, cuOf, cuMost, cuKind, cuShaped, frameWord, storingWord, ruTag, ruWord, filledNumber, ruRest, ruOf, ruMost, ruFlags, restMost, ruShaped, WordWide, FillingWide}
+use Rattle.phases.specs.Fields.{flagsOf, odd}
+use Rattle.phases.specs.Phases.{flagBits, numberOf, wordOf, plain, begunWord, cuTag, cuWord, cuOf, cuMost, cuKind, cuShaped, frameWord, storingWord, ruTag, ruWord, filledNumber, ruRest, ruOf, ruMost, ruFlags, restMost, ruShaped, WordWide, FillingWide}
 use Rattle.phases.specs.declared.Word.{Word}
 
 -- ---- tests
@@ -41,7 +42,7 @@ pub one-below : (b : Bool) → one b < 2
 one-below true = omega arith
 one-below false = omega arith
 
-one-back : (b : Bool) → eqb (one b) 1 ≡ b
+pub one-back : (b : Bool) → eqb (one b) 1 ≡ b
 one-back true = refl
 one-back false = refl
 
@@ -250,7 +251,7 @@ kind-tag t k e =
     (λ (h : 7 ≤ t). absurd (never (rw (ne-eqb t 3 (λ z. omega arith), ne-eqb t 5 (λ z. omega arith), le-ltb t 7 h) at e)))
     (below-or-not t 7)
 
-action-number : (k : ℕ) → k < 8 → not (eqb k 4) ≡ true → actionNumber (actionOf k) ≡ k
+pub action-number : (k : ℕ) → k < 8 → not (eqb k 4) ≡ true → actionNumber (actionOf k) ≡ k
 unfolding actionOf
 action-number zero h e = refl
 action-number (suc zero) h e = refl
@@ -329,7 +330,7 @@ unfolding ruShaped
 ru-ok t n rest b p q k m =
     rw (lt-ltb t 8 b, le-leb n (ruMost t) p, lt-ltb (n / 65536 % 256) (ruFlags t) q, lt-ltb (n / 16777216 % 256) 3 k, le-leb rest (restMost t) m)
 
-verdict-small : (v : Verdict) → verdictNumber v < 3
+pub verdict-small : (v : Verdict) → verdictNumber v < 3
 verdict-small verdict.Good = omega arith
 verdict-small verdict.Crc = omega arith
 verdict-small verdict.Misaligned = omega arith
@@ -402,7 +403,7 @@ ru-back (ru.Lacking s) h = rw (verdict-back (s .frame .verdict))
 
 -- ---- and back
 
-verdict-number : (k : ℕ) → k < 3 → verdictNumber (verdictOf k) ≡ k
+pub verdict-number : (k : ℕ) → k < 3 → verdictNumber (verdictOf k) ≡ k
 unfolding verdictOf
 verdict-number zero h = refl
 verdict-number (suc zero) h = refl

@@ -1,2 +1,3 @@
 -- A unit's words, for the definitions of the crates above.
+pub mod Fields
 pub mod Phases

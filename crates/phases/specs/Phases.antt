@@ -1,9 +1,8 @@
--- Flags in a byte, and a unit as a tag and words of eight bytes: what a phase uses stands below what it does not use, which is zero. Assumes nothing.
+-- A unit as a tag and words of eight bytes: what a phase uses stands below what it does not use, which is zero. Assumes nothing.
 use mathlib.Core.Bool.{Bool, false, not, cond, _&&_}
-use Prim.Native.Nat.{ℕ, _+_, _*_, _/_, _%_, _<_}
+use Prim.Native.Nat.{ℕ, _-_, _<_, _^_}
 use lib.Dec.{eqb, leb, ltb}
 use Rattle.memory.specs.declared.Offset.{Offset}
-use Rattle.scb.specs.Words.{one}
 use Rattle.device.specs.Numbers.{actionNumber, actionOf, verdictNumber, verdictOf}
 use Rattle.device.specs.declared.Action.{Action}
 use Rattle.device.specs.declared.Begun.{Begun}
@@ -14,23 +13,16 @@ use Rattle.device.specs.declared.Ru.{Ru}
 use Rattle.device.specs.declared.Ru.the-variants as ru
 use Rattle.device.specs.declared.Storing.{Storing}
 use Rattle.device.specs.declared.Walk.{Walk}
+use Rattle.phases.specs.Fields.{flagsOf, odd, flagAt, wordBy, offsetIn, flagsIn, kindIn, sizeIn, nextIn, offsetMost, sizedMost, wordMost, restBy, filledIn, usedIn, filledMost}
 use Rattle.phases.specs.declared.Word.{Word}
 
--- ---- flags and numbers
+-- ---- a word and its number
 
--- six flags as a number, the first in bit 0; and whether a number's bit 0 is set
-abbrev pub flagsOf : Bool → Bool → Bool → Bool → Bool → Bool → ℕ
-flagsOf a b c d e f = one a + 2 * one b + 4 * one c + 8 * one d + 16 * one e + 32 * one f
-
-abbrev pub odd : ℕ → Bool
-odd n = eqb (n % 2) 1
-
--- a word's eight bytes as a number: two of an offset, one of flags, one of kind, two of size, two of the other offset
 abbrev pub flagBits : Word → ℕ
 flagBits w = flagsOf (w .first) (w .second) (w .third) (w .fourth) (w .fifth) (w .sixth)
 
 unfoldable pub numberOf : Word → ℕ
-numberOf w = w .at + 65536 * flagBits w + 16777216 * w .kind + 4294967296 * w .size + 281474976710656 * w .next
+numberOf w = wordBy (w .at) (flagBits w) (w .kind) (w .size) (w .next)
 
 -- and the word of a number
 abbrev pub flagged : ℕ → ℕ → ℕ → ℕ → ℕ → Word
@@ -38,18 +30,18 @@ flagged at f kind size next =
     record {
       at = at;
       first = odd f;
-      second = odd (f / 2);
-      third = odd (f / 4);
-      fourth = odd (f / 8);
-      fifth = odd (f / 16);
-      sixth = odd (f / 32);
+      second = flagAt 1 f;
+      third = flagAt 2 f;
+      fourth = flagAt 3 f;
+      fifth = flagAt 4 f;
+      sixth = flagAt 5 f;
       kind = kind;
       size = size;
       next = next;
     }
 
 unfoldable pub wordOf : ℕ → Word
-wordOf n = flagged (n % 65536) (n / 65536 % 256) (n / 16777216 % 256) (n / 4294967296 % 65536) (n / 281474976710656)
+wordOf n = flagged (offsetIn n) (flagsIn n) (kindIn n) (sizeIn n) (nextIn n)
 
 -- a word with an offset alone
 abbrev pub plain : ℕ → Word
@@ -77,6 +69,10 @@ begunWord b kind size next =
 -- one whose end is next: its number
 abbrev pub actingWord : Begun → Action → Word
 actingWord b a = begunWord b (actionNumber a) 0 0
+
+-- what a command word holds to the end, in the order of its bits 13 to 15; no SUSPEND waits yet
+abbrev pub begunWith : Offset → (flags : ℕ) → Begun
+begunWith o flags = record { block = o; el = flagAt 2 flags; suspend = flagAt 1 flags; interrupt = odd flags; pausing = false }
 
 -- the tag of a phase
 abbrev pub cuTag : Cu → ℕ
@@ -118,22 +114,32 @@ cuOf t w =
     (cond (eqb t 4) (cu.Sending (begunOf w) (sendingOf w))
     (cond (eqb t 5) (cu.Ending (begunOf w) (w .size)) (cu.Failing (begunOf w)))))))
 
+-- a begun command has four flags; the largest that has nothing above them, and the largest with a command below 8
+abbrev pub begunFlags : ℕ
+begunFlags = 2 ^ 4
+
+abbrev pub begunMost : ℕ
+begunMost = 2 ^ 20 - 1
+
+abbrev pub actingMost : ℕ
+actingMost = 2 ^ 27 - 1
+
 -- a tag's largest number, and its kinds: the action of 3 is no Transmit, and 5 has no kind, though its size stands above it
 unfoldable pub cuMost : ℕ → ℕ
 cuMost t =
     cond (eqb t 0) 0
-    (cond (eqb t 1) 0xFFFF
-    (cond (eqb t 2) 0xFFFF
-    (cond (eqb t 3) 0x7FFFFFF
-    (cond (eqb t 4) 0xFFFFFFFFFFFFFFFF
-    (cond (eqb t 5) 0xFFFFFFFFFFFF 0xFFFFF)))))
+    (cond (eqb t 1) offsetMost
+    (cond (eqb t 2) offsetMost
+    (cond (eqb t 3) actingMost
+    (cond (eqb t 4) wordMost
+    (cond (eqb t 5) sizedMost begunMost)))))
 
 unfoldable pub cuKind : ℕ → ℕ → Bool
 cuKind t kind = cond (eqb t 3) (not (eqb kind 4)) (cond (eqb t 5) (eqb kind 0) (ltb t 7))
 
 -- a tag and a number are those of a unit
 unfoldable pub cuShaped : ℕ → ℕ → Bool
-cuShaped t n = leb n (cuMost t) && ltb (n / 65536 % 256) 16 && cuKind t (n / 16777216 % 256)
+cuShaped t n = leb n (cuMost t) && ltb (flagsIn n) begunFlags && cuKind t (kindIn n)
 
 -- ---- the receive unit
 
@@ -153,7 +159,15 @@ frameWord o f pausing =
       next = 0;
     }
 
--- one begun: besides, the flags S, EL, in the order of bits 14 and 15 of the descriptor's word, whether the last buffer had EL, and an offset
+-- as it was judged, before it is known which descriptor it goes to, as a number
+abbrev pub frameNumber : Frame → ℕ
+frameNumber f = numberOf (frameWord (record { 0 = 0 }) f false)
+
+-- a held frame that is begun, by the flags S, EL in the order of bits 14 and 15 of the descriptor's word
+abbrev pub storingWith : Offset → Frame → Bool → (flags : ℕ) → Storing
+storingWith o f pausing flags = record { fd = o; el = flagAt 1 flags; suspend = odd flags; pausing = pausing; frame = f }
+
+-- one begun: besides, the flags S, EL, whether the last buffer had EL, and an offset
 abbrev pub storingWord : Storing → ℕ → Bool → Word
 storingWord s next full =
     record {
@@ -193,7 +207,7 @@ ruWord (ru.Lacking s) = storingWord s 0 false
 
 -- the second word: how far a frame is stored, and in how many buffers
 abbrev pub filledNumber : Walk → ℕ
-filledNumber w = w .filled + 65536 * w .used
+filledNumber w = restBy (w .filled) (w .used)
 
 unfoldable pub ruRest : Ru → ℕ
 ruRest ru.Idle = 0
@@ -213,7 +227,7 @@ abbrev pub storingOf : Word → Storing
 storingOf w = record { fd = record { 0 = w .at }; el = w .fifth; suspend = w .fourth; pausing = w .first; frame = frameOf w }
 
 abbrev pub fillingOf : Word → ℕ → Walk
-fillingOf w rest = record { next = record { 0 = w .next }; used = rest / 65536 % 256; filled = rest % 65536 }
+fillingOf w rest = record { next = record { 0 = w .next }; used = usedIn rest; filled = filledIn rest }
 
 -- the unit of a tag and its words
 unfoldable pub ruOf : ℕ → Word → ℕ → Ru
@@ -226,33 +240,43 @@ ruOf t w rest =
     (cond (eqb t 5) (ru.Filling (storingOf w) (fillingOf w rest))
     (cond (eqb t 6) (ru.Closing (storingOf w) (record { 0 = w .next }) (w .sixth)) (ru.Lacking (storingOf w))))))))
 
+-- a held frame has three flags, a begun one five, and six once all is stored
+abbrev pub heldFlags : ℕ
+heldFlags = 2 ^ 3
+
+abbrev pub storingFlags : ℕ
+storingFlags = 2 ^ 5
+
+abbrev pub closingFlags : ℕ
+closingFlags = 2 ^ 6
+
 -- a tag's largest number, its flags, and the largest second word
 unfoldable pub ruMost : ℕ → ℕ
 ruMost t =
     cond (eqb t 0) 0
-    (cond (eqb t 1) 0xFFFF
+    (cond (eqb t 1) offsetMost
     (cond (eqb t 2) 0
-    (cond (eqb t 3) 0xFFFF
-    (cond (eqb t 5) 0xFFFFFFFFFFFFFFFF
-    (cond (eqb t 6) 0xFFFFFFFFFFFFFFFF 0xFFFFFFFFFFFF)))))
+    (cond (eqb t 3) offsetMost
+    (cond (eqb t 5) wordMost
+    (cond (eqb t 6) wordMost sizedMost)))))
 
 unfoldable pub ruFlags : ℕ → ℕ
-ruFlags t = cond (eqb t 4) 8 (cond (eqb t 6) 64 32)
+ruFlags t = cond (eqb t 4) heldFlags (cond (eqb t 6) closingFlags storingFlags)
 
 unfoldable pub restMost : ℕ → ℕ
-restMost t = cond (eqb t 5) 0xFFFFFF 0
+restMost t = cond (eqb t 5) filledMost 0
 
 -- a tag and two numbers are those of a unit
 unfoldable pub ruShaped : ℕ → ℕ → ℕ → Bool
-ruShaped t n rest = ltb t 8 && leb n (ruMost t) && ltb (n / 65536 % 256) (ruFlags t) && ltb (n / 16777216 % 256) 3 && leb rest (restMost t)
+ruShaped t n rest = ltb t 8 && leb n (ruMost t) && ltb (flagsIn n) (ruFlags t) && ltb (kindIn n) 3 && leb rest (restMost t)
 
 -- ---- the widths, which the types of the code say of every word
 
 pub record WordWide (w : Word) : Type 0 where
-  pub at : w .at < 65536
-  pub kind : w .kind < 256
-  pub size : w .size < 65536
-  pub next : w .next < 65536
+  pub at : w .at < 2 ^ 16
+  pub kind : w .kind < 2 ^ 8
+  pub size : w .size < 2 ^ 16
+  pub next : w .next < 2 ^ 16
 
 -- what is stored of a frame being filled has two bytes, and the buffers one
 abbrev pub FillingWide : Ru → Type 0
@@ -261,6 +285,6 @@ FillingWide ru.NoResources = Unit {0}
 FillingWide (ru.Suspended o) = Unit {0}
 FillingWide (ru.Ready o) = Unit {0}
 FillingWide (ru.Held o f p) = Unit {0}
-FillingWide (ru.Filling s w) = (w .filled < 65536) × (w .used < 256)
+FillingWide (ru.Filling s w) = (w .filled < 2 ^ 16) × (w .used < 2 ^ 8)
 FillingWide (ru.Closing s o full) = Unit {0}
 FillingWide (ru.Lacking s) = Unit {0}

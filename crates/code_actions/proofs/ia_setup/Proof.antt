@@ -3,7 +3,7 @@ use mathlib.Core.Path.{refl}
 use Rattle.memory.specs.Memory.{bytesAt}
 use Rattle.memory.specs.Address.{place}
 use Rattle.memory.proofs.Laws.{length-bytesAt}
-use Rattle.code_actions.proofs.Laws.{own-set}
+use Rattle.packed.proofs.SetUps.{own-set}
 use borrow.Author.Needs.{needs}
 use Rattle.code_actions.proofs.ia_setup.Statement.{statement}
 use Rattle.code_actions.proofs.ia_setup.Tie as tie

@@ -5,7 +5,7 @@ use borrow.Author.Tests.{le-leb, lt-leb}
 use Rattle.memory.specs.Memory.{bytesAt}
 use Rattle.memory.specs.Address.{place}
 use Rattle.actions.specs.Actions.{groups, listing}
-use Rattle.code_actions.proofs.Laws.{listing-set}
+use Rattle.packed.proofs.SetUps.{listing-set}
 use borrow.Author.Needs.{needs}
 use Rattle.code_actions.proofs.mc_setup.Statement.{statement}
 use Rattle.code_actions.proofs.mc_setup.Tie as tie

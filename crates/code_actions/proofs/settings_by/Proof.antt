@@ -1,5 +1,5 @@
 -- `code_actions::settings_by` meets its contract. Assumes nothing.
-use Prim.Native.Nat.{_<_}
+use Prim.Native.Nat.{_<_, _^_}
 use borrow.Author.Tests.{lt-ltb, le-ltb}
 use Rattle.actions.specs.Actions.{byteOf}
 use Rattle.code_actions.proofs.Laws.{settings-taken, settings-kept}
@@ -13,16 +13,20 @@ settings-by-spec =
     (tie.spec
     (λ c κs. search needs)
     (λ c κs. search needs)
-    (λ c. search needs)
-    (λ c. search needs)
-    (λ c. λ s e. let t : tie.Start = search needs in
+    (λ c κs. search needs)
+    (λ c s e. let t : tie.Start = search needs in
     let b = byteOf (t .args .base) (t .args .block) (t .args .memory .now) in
-    let g : b 2 < 256 = rw (← c .before .before .byte-of .ensures) (search needs) in
-    let l : b 8 < 256 = rw (← c .byte-of2 .ensures) (search needs) in
-    rw (c .before .before .byte-of .ensures, c .byte-of2 .ensures) (settings-taken (t .args .count) b s g (lt-ltb _ _ (c .before .if1 .taken)) l))
-    (λ c. search needs)
-    (λ c. search needs)
-    (λ c. λ s e. let t : tie.Start = search needs in
+    let byte-of2 = c .before in
+    let if1 = byte-of2 .before in
+    let byte-of = if1 .before in
+    let g : b 2 < 2 ^ 8 = rw (← byte-of .byte-of .ensures) (search needs) in
+    rw (c .settings .ensures, byte-of .byte-of .ensures, byte-of2 .byte-of2 .ensures) (settings-taken (t .args .count) b s g (lt-ltb _ _ (if1 .if1 .taken))))
+    (λ c κs. search needs)
+    (λ c κs. search needs)
+    (λ c s e. let t : tie.Start = search needs in
     let b = byteOf (t .args .base) (t .args .block) (t .args .memory .now) in
-    let g : b 2 < 256 = rw (← c .before .byte-of .ensures) (search needs) in
-    rw (c .before .byte-of .ensures) (settings-kept (t .args .count) b s g (le-ltb _ _ (c .if1 .left)) (t .args .kept) e)))
+    let modes = c .before in
+    let if1 = modes .before in
+    let byte-of = if1 .before in
+    let g : b 2 < 2 ^ 8 = rw (← byte-of .byte-of .ensures) (search needs) in
+    rw (c .settings2 .ensures, byte-of .byte-of .ensures, modes .modes .ensures .0) (settings-kept (t .args .count) b s g (le-ltb _ _ (if1 .if1 .left)) (t .args .kept) e)))

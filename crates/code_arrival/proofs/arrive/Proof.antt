@@ -30,15 +30,16 @@ arrive-spec =
     (λ c. search needs)
     (λ c. search needs)
     (λ c u s h hs e.
-    let put-run = c .before .before .before .before in
-    let if1 = put-run .before .before in
-    let is-held = if1 .before in
-    let count = is-held .before .before .before in
-    let counter-for = count .before in
-    let scb = counter-for .before in
-    let base = scb .before in
-    let ru-tag = base .before .before in
-    let judge = ru-tag .before in
+    let held : tie.After-held = search needs in
+    let put-run : tie.After-put-run = search needs in
+    let if1 : tie.Then1 = search needs in
+    let is-held : tie.After-is-held = search needs in
+    let count : tie.After-count = search needs in
+    let counter-for : tie.After-counter-for = search needs in
+    let scb : tie.After-scb = search needs in
+    let base : tie.After-base = search needs in
+    let ru-tag : tie.After-ru-tag = search needs in
+    let judge : tie.After-judge = search needs in
     let start = judge .before .before .before .before .before in
     let k = start .args .k in
     let j = judged (u .settings) (start .args .frame .now) (start .args .verdict) in
@@ -50,19 +51,19 @@ arrive-spec =
     let p = rw b at (counter-for .counter-for .ensures (u .ru) t) in
     rw (le-ltb _ 14 (start .pre .1))
     (record {
-      units = rw q (c .with-ru .ensures u (holding (u .ru) j) h (rw n (held-unit (u .ru) _ _ _ j r q (judged-below _ _ _))));
+      units = rw q (c .with-ru .ensures u (holding (u .ru) j) h (held-unit (u .ru) _ _ _ j r q _ (λ o w. held .held .ensures o j n (judged-below _ _ _) w)));
       memory = rw (← real-same _ (u .base) (base .base .ensures ∙ base-is u k h), ← offset-same _ (u .scb) (scb .scb .ensures ∙ scb-is u k h)) (count .count .ensures _ p);
       holding = rw q (put-run .put-run .ensures);
     }))
     (λ c. search needs)
     (λ c u s h hs e.
-    let is-held = c .before in
-    let count = is-held .before .before .before in
-    let counter-for = count .before in
-    let scb = counter-for .before in
-    let base = scb .before in
-    let ru-tag = base .before .before in
-    let judge = ru-tag .before in
+    let is-held : tie.After-is-held = search needs in
+    let count : tie.After-count = search needs in
+    let counter-for : tie.After-counter-for = search needs in
+    let scb : tie.After-scb = search needs in
+    let base : tie.After-base = search needs in
+    let ru-tag : tie.After-ru-tag = search needs in
+    let judge : tie.After-judge = search needs in
     let start = judge .before .before .before .before .before in
     let k = start .args .k in
     let j = judged (u .settings) (start .args .frame .now) (start .args .verdict) in

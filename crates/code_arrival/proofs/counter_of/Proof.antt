@@ -2,7 +2,6 @@
 use borrow.Author.Tests.{ne-eqb}
 use Rattle.device.specs.Numbers.{verdictOf}
 use Rattle.phases.specs.Phases.{wordOf}
-use Rattle.code_arrival.proofs.Laws.{second-in}
 use borrow.Author.Needs.{needs}
 use Rattle.code_arrival.proofs.counter_of.Statement.{statement}
 use Rattle.code_arrival.proofs.counter_of.Tie as tie
@@ -13,23 +12,20 @@ counter-of-spec =
     tie.close
     (tie.spec
     (λ c κs. search needs)
-    (λ c. rw (← second-in (c .before .before .args .f), ← c .before .flag .ensures, c .if1 .taken))
+    (λ c. rw (← c .before .short .ensures, c .if1 .taken))
     (λ c κs. search needs)
     (λ c.
     let kind-of = c .before in
     let if1 = kind-of .before in
-    let flag = if1 .before in
-    let start = flag .before in
-    rw (← second-in (start .args .f), ← flag .flag .ensures, if1 .if1 .left, ← kind-of .kind-of .ensures, c .match .keys1))
+    let short = if1 .before in
+    rw (← short .short .ensures, if1 .if1 .left, ← kind-of .kind-of .ensures, c .match .keys1))
     (λ c.
     let kind-of = c .before in
     let if1 = kind-of .before in
-    let flag = if1 .before in
-    let start = flag .before in
-    rw (← second-in (start .args .f), ← flag .flag .ensures, if1 .if1 .left, ← kind-of .kind-of .ensures, c .match .keys2))
+    let short = if1 .before in
+    rw (← short .short .ensures, if1 .if1 .left, ← kind-of .kind-of .ensures, c .match .keys2))
     (λ c.
     let kind-of = c .before in
     let if1 = kind-of .before in
-    let flag = if1 .before in
-    let start = flag .before in
-    rw (← second-in (start .args .f), ← flag .flag .ensures, if1 .if1 .left, ← kind-of .kind-of .ensures) (simp (ne-eqb _ _ (c .match .rest .1), ne-eqb _ _ (c .match .rest .0 .1)))))
+    let short = if1 .before in
+    rw (← short .short .ensures, if1 .if1 .left, ← kind-of .kind-of .ensures) (simp (ne-eqb _ _ (c .match .rest .1), ne-eqb _ _ (c .match .rest .0 .1)))))

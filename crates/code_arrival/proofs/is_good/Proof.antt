@@ -1,7 +1,7 @@
 -- `code_arrival::is_good` meets its contract. Assumes nothing.
-use Prim.Native.Nat.{_/_, _%_}
+use Rattle.phases.specs.Fields.{kindIn}
 use Rattle.phases.specs.Phases.{wordOf}
-use Rattle.code_arrival.proofs.Laws.{second-in, good-is}
+use Rattle.code_arrival.proofs.Laws.{good-is}
 use borrow.Author.Needs.{needs}
 use Rattle.code_arrival.proofs.is_good.Statement.{statement}
 use Rattle.code_arrival.proofs.is_good.Tie as tie
@@ -13,4 +13,4 @@ is-good-spec =
     (tie.spec
     (λ c κs. search needs)
     (λ c κs. search needs)
-    (λ c. rw (c .before .flag .ensures, c .kind-of .ensures, second-in (c .before .before .args .f)) (good-is (wordOf (c .before .before .args .f) .second) (c .before .before .args .f / 16777216 % 256))))
+    (λ c. rw (c .before .short .ensures, c .kind-of .ensures) (good-is (wordOf (c .before .before .args .f) .second) (kindIn (c .before .before .args .f)))))

@@ -3,9 +3,9 @@ use mathlib.Core.Path.{_≡_, _∙_}
 use Prim.Native.Nat.{_+_, _*_, _%_}
 use native.Mathlib.Omega.{arith}
 use Rattle.scb.specs.Words.{eventBits, raise}
-use Rattle.packed.specs.Packed.{flagsIn, flagsBy}
+use Rattle.packed.specs.Packed.{marksIn, marksBy}
 use Rattle.packed.proofs.Laws.{events-is, together}
-use Rattle.code_attention.proofs.States.{low-flags}
+use Rattle.code_attention.proofs.States.{low-marks}
 use borrow.Author.Needs.{needs}
 use Rattle.code_attention.proofs.after_codes.Statement.{statement}
 use Rattle.code_attention.proofs.after_codes.Tie as tie
@@ -20,4 +20,4 @@ after-codes-spec =
     (λ c. search needs)
     (λ c. search needs)
     (λ c κs. search needs)
-    (λ c. λ u a v by h hc hv e. let k = c .before .before .before .before .before .before .args .k in let x = c .before .before .before .raise .ensures .1 (u .events) by (c .before .before .before .before .events .ensures ∙ events-is u k h) e in let f : flagsIn k % 4 + 16 * eventBits (raise (u .events) by) ≡ flagsBy (u .initialised) (u .rulast) (raise (u .events) by) = omega (arith, low-flags u k h) in rw (c .status-of .ensures, c .before .before .before .before .before .flags .ensures, x) (together u k h a v (u .initialised) (u .rulast) (raise (u .events) by) (flagsIn k % 4 + 16 * eventBits (raise (u .events) by)) (c .before .before .before .before .before .before .args .c .tag) (c .before .before .before .before .before .before .args .c .word) (c .before .before .before .before .before .before .args .r .tag) (c .before .before .before .before .before .before .args .r .word) (c .before .before .before .before .before .before .args .r .rest) f hc hv)))
+    (λ c. λ u a v by h hc hv e. let k = c .before .before .before .before .before .before .args .k in let x = c .before .before .before .raise .ensures .1 (u .events) by (c .before .before .before .before .events .ensures ∙ events-is u k h) e in let f : marksIn k % 4 + 16 * eventBits (raise (u .events) by) ≡ marksBy (u .initialised) (u .rulast) (raise (u .events) by) = omega (arith, low-marks u k h) in rw (c .status-of .ensures, c .before .before .before .before .before .marks .ensures, x) (together u k h a v (u .initialised) (u .rulast) (raise (u .events) by) (marksIn k % 4 + 16 * eventBits (raise (u .events) by)) (c .before .before .before .before .before .before .args .c .tag) (c .before .before .before .before .before .before .args .c .word) (c .before .before .before .before .before .before .args .r .tag) (c .before .before .before .before .before .before .args .r .word) (c .before .before .before .before .before .before .args .r .rest) f hc hv)))

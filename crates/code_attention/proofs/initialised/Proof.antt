@@ -8,4 +8,4 @@ initialised-spec =
     tie.close
     (tie.spec
     (λ c κs. search needs)
-    (λ c. rw (c .flags .ensures)))
+    (λ c. c .initialised .ensures))

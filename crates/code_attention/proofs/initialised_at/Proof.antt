@@ -15,4 +15,4 @@ initialised-at-spec =
     (λ c. search needs)
     (λ c. search needs)
     (λ c κs. search needs)
-    (λ c. λ u b h. rw (c .status-of .ensures, c .before .before .before .flags .ensures) (initialises u (c .before .before .before .before .args .k) h (c .before .before .before .before .args .base) (c .before .before .before .before .args .scb) b (omega (arith, c .before .before .struct-known .given)))))
+    (λ c. λ u b h. rw (c .status-of .ensures, c .before .before .before .marks .ensures) (initialises u (c .before .before .before .before .args .k) h (c .before .before .before .before .args .base) (c .before .before .before .before .args .scb) b (omega (arith, c .before .before .struct-known .given)))))

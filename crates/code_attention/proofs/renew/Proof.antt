@@ -1,4 +1,4 @@
--- `code_attention::renew` meets its contract: a run over all of the setup. Assumes nothing.
+-- `code_attention::renew` meets its contract. A run over all of the setup. Assumes nothing.
 use mathlib.Core.Path.{_∙_}
 use Rattle.device.specs.State as states
 use Rattle.actions.specs.Setup.{setupOf}
@@ -21,6 +21,13 @@ renew-spec =
     (λ c. search needs)
     (λ c. search needs)
     (λ c. search needs)
+    (λ c. search needs)
+    (λ c. search needs)
+    (λ c. search needs)
+    (λ c. search needs)
+    (λ c. search needs)
     (λ c κs. search needs)
     (λ c. search needs)
-    (λ c. λ e. c .before .before .put-run .ensures ∙ run-over (setupBytes (setupOf states.fresh)) (c .before .before .before .before .before .before .args .setup .now) e))
+    (λ c e. let s : tie.Start = search needs in
+    let put-run : tie.After-put-run = search needs in
+    put-run .put-run .ensures ∙ run-over (setupBytes (setupOf states.fresh)) (s .args .setup .now) e))

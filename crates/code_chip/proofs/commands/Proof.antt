@@ -26,8 +26,7 @@ returns-3 c =
     let l : tie.Else1 = search needs in
     let n : tie.After-ru-tag = search needs in
     let m : tie.Else2 = search needs in
-    let f : tie.After-flags = search needs in
-    λ u h. c .flag .ensures ∙ rw (f .flags .ensures) (commands-next u (s .args .k) h (rw (t .cu-tag .ensures) at (l .if1 .left)) (rw (n .ru-tag .ensures) at (m .if2 .left)))
+    λ u h. c .ru-last .ensures ∙ commands-next u (s .args .k) h (rw (t .cu-tag .ensures) at (l .if1 .left)) (rw (n .ru-tag .ensures) at (m .if2 .left))
 
 pub commands-spec : {M : Type 1} → statement M
 commands-spec =
@@ -37,6 +36,5 @@ commands-spec =
     returns
     (λ c κs. search needs)
     returns-2
-    (λ c κs. search needs)
     (λ c κs. search needs)
     returns-3)

@@ -1,13 +1,14 @@
--- `code_command::buffer` meets its contract: what would not fit is not copied. Assumes nothing.
+-- `code_command::buffer` meets its contract. What would not fit is not copied. Assumes nothing.
 use mathlib.Core.Path.{_≡_, refl}
 use mathlib.Core.Bool.{true, false}
-use Prim.Native.Nat.{_+_, _%_, _<_}
+use Prim.Native.Nat.{_+_, _%_, _<_, _^_}
 use native.Mathlib.Omega.{arith}
 use lib.Dec.{leb}
 use borrow.Author.Tests.{le-leb, lt-leb}
 use Rattle.phases.specs.Phases.{begunOf, wordOf}
 use Rattle.command.specs.Buffer.{descriptorAt, buffer}
-use Rattle.code_command.proofs.Laws.{begun-of-is, failing-is, count-is, eof-is}
+use Rattle.packed.proofs.Words.{failing-is}
+use Rattle.code_command.proofs.Laws.{count-is, eof-is}
 use borrow.Author.Needs.{needs}
 use Rattle.code_command.proofs.buffer.Statement.{statement}
 use Rattle.code_command.proofs.buffer.Tie as tie
@@ -21,26 +22,54 @@ buffer-spec =
     (λ c κs. search needs)
     (λ c κs. search needs)
     (λ c κs. search needs)
-    (λ c. search needs)
-    (λ c. search needs)
-    (λ c κs. search needs)
-    (λ c. λ u s. let n = c .before .before .before .before .before .before .before .before .args .n in
-    let w = c .before .before .word-at .result in
-    let e : leb (c .before .before .before .before .size-of .result + w % 16384) 2048 ≡ false = lt-leb (c .before .before .before .before .size-of .result + w % 16384) 2048 (omega arith) in
-    rw (← c .before .before .before .before .before .next-of .ensures, ← c .before .before .before .before .size-of .ensures, ← c .before .before .before .place .ensures, ← c .before .before .word-at .ensures, count-is w, e, c .quiet .ensures)
-    (record { quiet = record { unit = failing-is (begunOf (wordOf n)) (n % 1048576) (begun-of-is n); raised = refl; length = refl }; outgoing = refl }))
-    (λ c κs. search needs)
-    (λ c κs. search needs)
-    (λ c κs. search needs)
-    (λ c κs. search needs)
-    (λ c κs. search needs)
     (λ c κs. search needs)
     (λ c. search needs)
+    (λ c. search needs)
+    (λ c κs. search needs)
+    (λ c u s.
+    let t : tie.Start = search needs in
+    let next-of : tie.After-next-of = search needs in
+    let size-of : tie.After-size-of = search needs in
+    let begun-of : tie.After-begun-of = search needs in
+    let place : tie.After-place = search needs in
+    let word-at : tie.After-word-at = search needs in
+    let then1 : tie.Then1 = search needs in
+    let w = word-at .word-at .result in
+    let k = size-of .size-of .result in
+    let v = begunOf (wordOf (t .args .n)) in
+    let e : leb (k + w % 2 ^ 14) 2048 ≡ false = lt-leb (k + w % 2 ^ 14) 2048 (omega (arith, then1 .if1 .taken)) in
+    rw (← next-of .next-of .ensures, ← size-of .size-of .ensures, ← place .place .ensures, ← word-at .word-at .ensures, count-is w, e, c .quiet .ensures)
+    (record { quiet = record { unit = failing-is _ v (begun-of .begun-of .ensures .1); raised = refl; length = refl }; outgoing = refl }))
+    (λ c κs. search needs)
+    (λ c κs. search needs)
+    (λ c κs. search needs)
+    (λ c κs. search needs)
+    (λ c κs. search needs)
     (λ c κs. search needs)
     (λ c. search needs)
-    (λ c. λ u s. let n = c .before .before .before .before .before .before .before .before .before .before .before .before .before .before .before .before .before .args .n in
-    let w = c .before .before .before .before .before .before .before .before .before .before .before .word-at .result in
-    let l : w < 65536 = search needs in
-    let e : leb (c .before .before .before .before .before .before .before .before .before .before .before .before .before .size-of .result + w % 16384) 2048 ≡ true = le-leb (c .before .before .before .before .before .before .before .before .before .before .before .before .before .size-of .result + w % 16384) 2048 (omega (arith, c .before .before .before .before .before .before .before .before .before .before .if1 .left)) in
-    rw (← c .before .before .before .before .before .before .before .before .before .before .before .before .before .before .next-of .ensures, ← c .before .before .before .before .before .before .before .before .before .before .before .before .before .size-of .ensures, ← c .before .kind-of .ensures, ← c .before .before .before .before .before .before .before .before .before .before .before .before .place .ensures, ← c .before .before .before .before .before .before .before .before .before .place2 .ensures, ← c .before .before .before .before .before .before .before .place3 .ensures, ← c .before .before .before .before .before .before .before .before .before .before .before .word-at .ensures, count-is w, e, ← eof-is w l)
-    (record { quiet = rw (c .before .before .before .before .before .before .before .before .offset-at .ensures) at (c .after-buffer .ensures (begunOf (wordOf n)) (begun-of-is n)); outgoing = rw (c .before .before .before .before .before .before .real-at .ensures) at (c .before .before .before .before .copy-out .ensures) })))
+    (λ c κs. search needs)
+    (λ c. search needs)
+    (λ c u s.
+    let kind-of = c .before in
+    let copy-out = kind-of .before .before .before in
+    let real-at = copy-out .before .before in
+    let place3 = real-at .before in
+    let offset-at = place3 .before in
+    let place2 = offset-at .before in
+    let else1 = place2 .before in
+    let word-at = else1 .before in
+    let place = word-at .before in
+    let begun-of = place .before in
+    let size-of = begun-of .before in
+    let next-of = size-of .before in
+    let t = next-of .before .before .before in
+    let w = word-at .word-at .result in
+    let k = size-of .size-of .result in
+    let v = begunOf (wordOf (t .args .n)) in
+    let l : w < 2 ^ 16 = omega (arith, word-at .word-at .ok) in
+    let e : leb (k + w % 2 ^ 14) 2048 ≡ true = le-leb (k + w % 2 ^ 14) 2048 (omega (arith, else1 .if1 .left)) in
+    rw (← next-of .next-of .ensures, ← size-of .size-of .ensures, ← kind-of .kind-of .ensures, ← place .place .ensures, ← place2 .place2 .ensures, ← place3 .place3 .ensures, ← word-at .word-at .ensures, count-is w, e, ← eof-is w l)
+    (record {
+      quiet = rw (offset-at .offset-at .ensures) at (c .after-buffer .ensures v (begun-of .begun-of .ensures .1));
+      outgoing = rw (real-at .real-at .ensures) at (copy-out .copy-out .ensures);
+    })))

@@ -8,7 +8,7 @@ use Rattle.memory.specs.Memory.{bytesAt}
 use Rattle.memory.proofs.Laws.{length-bytesAt}
 use Rattle.command.specs.Begin.{headerOf}
 use Rattle.command.proofs.Laws.{in-parts}
-use Rattle.code_command.proofs.Laws.{own-is}
+use Rattle.packed.proofs.SetUps.{own-is}
 use borrow.Author.Needs.{needs}
 use Rattle.code_command.proofs.put_header.Statement.{statement}
 use Rattle.code_command.proofs.put_header.Tie as tie

@@ -1,9 +1,7 @@
 -- `code_command::to_first` meets its contract. Assumes nothing.
-use mathlib.Core.Path.{_≡_, refl}
-use Prim.Native.Nat.{_+_, _*_, _<_}
-use native.Mathlib.Omega.{arith}
+use mathlib.Core.Path.{refl}
 use Rattle.code_command.specs.Inner.{walk}
-use Rattle.code_command.proofs.Laws.{sending-is, ending-is}
+use Rattle.packed.proofs.Words.{sending-is, ending-is}
 use borrow.Author.Needs.{needs}
 use Rattle.code_command.proofs.to_first.Statement.{statement}
 use Rattle.code_command.proofs.to_first.Tie as tie
@@ -12,20 +10,17 @@ pub to-first-spec : {M : Type 1} → statement M
 to-first-spec =
     tie.close
     (tie.spec
-    (λ c. search needs)
-    (λ c. search needs)
     (λ c κs. search needs)
-    (λ c. λ v h. let t : tie.Start = search needs in
-    rw (c .before .if1 .taken, c .quiet .ensures) (record { unit = ending-is v (t .args .b) h 14 (omega arith); raised = refl; length = refl }))
-    (λ c. search needs)
-    (λ c. search needs)
-    (λ c. search needs)
-    (λ c. search needs)
-    (λ c. search needs)
     (λ c κs. search needs)
-    (λ c. λ v h. let t : tie.Start = search needs in
-    let b = t .args .b in
-    let o = t .args .first in
-    let l : o .0 < 65536 = search needs in
-    let z : b + 60129542144 + 281474976710656 * o .0 ≡ b + 16777216 * 0 + 4294967296 * 14 + 281474976710656 * o .0 = omega arith in
-    rw (c .before .before .if1 .left, c .quiet2 .ensures, z) (record { unit = sending-is v b h (walk o 0 14) (omega arith) (omega arith) l; raised = refl; length = refl })))
+    (λ c v h.
+    let t : tie.Start = search needs in
+    let ending : tie.After-ending = search needs in
+    let then1 : tie.Then1 = search needs in
+    rw (then1 .if1 .taken, c .quiet .ensures) (record { unit = ending-is _ v 14 (ending .ending .ensures v h); raised = refl; length = refl }))
+    (λ c κs. search needs)
+    (λ c κs. search needs)
+    (λ c v h.
+    let t : tie.Start = search needs in
+    let sending : tie.After-sending = search needs in
+    let else1 : tie.Else1 = search needs in
+    rw (else1 .if1 .left, c .quiet2 .ensures) (record { unit = sending-is _ v (walk (t .args .first) 0 14) (sending .sending .ensures v h); raised = refl; length = refl })))

@@ -21,7 +21,7 @@ begin-spec =
     (λ c κs. search needs)
     (λ c κs. search needs)
     (λ c. search needs)
-    (λ c rest h.
+    (λ c h.
     let put-word = c .before .before .before in
     let place3 = put-word .before in
     let offset-at = place3 .before .before in
@@ -34,7 +34,7 @@ begin-spec =
     let q = rw o at (place2 .place2 .ensures) in
     let z = rw o at (place3 .place3 .ensures) in
     record {
-      unit = rw (← p, ← word-at .word-at .ensures, ← q, ← ap (λ (x : Offset). x .0) (offset-at .offset-at .ensures)) (c .to-first .ensures .1 rest h);
-      raised = c .to-first .ensures .0 ∙ none-raised;
+      unit = rw (← p, ← word-at .word-at .ensures, ← q, ← ap (λ (x : Offset). x .0) (offset-at .offset-at .ensures)) (c .to-first .ensures .unit h);
+      raised = c .to-first .ensures .raised ∙ none-raised;
       memory = rw (← z) (put-word .put-word .ensures);
     }))

@@ -1,7 +1,6 @@
 -- `code_receive::error_bits` meets its contract. Assumes nothing.
 use native.Mathlib.Omega.{arith}
 use Rattle.phases.specs.Phases.{wordOf}
-use Rattle.code_arrival.proofs.Laws.{second-in}
 use borrow.Author.Needs.{needs}
 use Rattle.code_receive.proofs.error_bits.Statement.{statement}
 use Rattle.code_receive.proofs.error_bits.Tie as tie
@@ -19,11 +18,10 @@ error-bits-spec =
     (λ c κs. search needs)
     (λ c. search needs)
     (λ c.
-    let flag = c .before in
-    let bit-if = flag .before in
+    let short = c .before in
+    let bit-if = short .before in
     let verdict-bit = bit-if .before in
-    let kind-of = verdict-bit .before in
-    let start = kind-of .before in (
-      rw (← kind-of .kind-of .ensures, ← second-in (start .args .n), ← flag .flag .ensures, ← verdict-bit .verdict-bit .ensures .0, ← bit-if .bit-if .ensures .0, ← c .bit-if2 .ensures .0),
+    let kind-of = verdict-bit .before in (
+      rw (← kind-of .kind-of .ensures, ← short .short .ensures, ← verdict-bit .verdict-bit .ensures .0, ← bit-if .bit-if .ensures .0, ← c .bit-if2 .ensures .0),
       omega (arith, verdict-bit .verdict-bit .ensures .1, bit-if .bit-if .ensures .1, c .bit-if2 .ensures .1),
     )))

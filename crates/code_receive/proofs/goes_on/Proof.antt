@@ -1,11 +1,9 @@
 -- `code_receive::goes_on` meets its contract. Assumes nothing.
 use mathlib.Core.Path.{_≡_, refl}
 use mathlib.Core.Bool.{true, false, _||_}
-use native.Mathlib.Omega.{arith}
 use Rattle.phases.specs.Phases.{wordOf}
-use Rattle.code_arrival.proofs.Laws.{first-in, fourth-in}
+use Rattle.packed.proofs.Words.{suspended, ready, no-resources}
 use Rattle.code_receive.proofs.Laws.{offset-is, raised-suspended, raised-ready, raised-none}
-use Rattle.code_receive.proofs.Units.{suspended, ready, no-resources}
 use borrow.Author.Needs.{needs}
 use Rattle.code_receive.proofs.goes_on.Statement.{statement}
 use Rattle.code_receive.proofs.goes_on.Tie as tie
@@ -27,14 +25,15 @@ goes-on-spec =
     (λ c κs. search needs)
     (λ c κs. search needs)
     (λ c κs. search needs)
-    (λ c. search needs)
+    (λ c κs. search needs)
     (λ c. search needs)
     (λ c. search needs)
     (λ c f e.
-    let if2 = c .before in
-    let flag2 = if2 .before in
-    let flag = flag2 .before in
-    let put-word = flag .before .before .before in
+    let plain : tie.After-plain = search needs in
+    let if2 = plain .before in
+    let pausing = if2 .before in
+    let suspend = pausing .before in
+    let put-word = suspend .before .before .before in
     let place2 = put-word .before in
     let next-of = place2 .before .before in
     let offset-at = next-of .before in
@@ -44,20 +43,21 @@ goes-on-spec =
     let bit = if1 .before in
     let start = bit .before .before in
     let p = rw (offset-is _ _ (at-of .at-of .ensures)) at (place .place .ensures) in
-    let t : (wordOf (start .args .n) .fourth || wordOf (start .args .n) .first) ≡ true = rw (← fourth-in (start .args .n), ← first-in (start .args .n), ← flag .flag .ensures, ← flag2 .flag2 .ensures) (if2 .if2 .taken) in
+    let t : (wordOf (start .args .n) .fourth || wordOf (start .args .n) .first) ≡ true = rw (← suspend .suspend .ensures, ← pausing .pausing .ensures) (if2 .if2 .taken) in
     rw (if1 .if1 .left, t)
     (record {
-      unit = rw (← p, ← offset-at .offset-at .ensures) (suspended (offset-at .offset-at .result) (omega (arith, offset-at .offset-at .ok)));
+      unit = rw (← p, ← offset-at .offset-at .ensures) (suspended _ (offset-at .offset-at .result) (plain .plain .ensures));
       raised = rw (bit .bit .ensures .0, e) (raised-suspended f (offset-at .offset-at .result));
       memory = rw (← p, ← offset-at .offset-at .ensures, ← place2 .place2 .ensures, ← next-of .next-of .ensures) (put-word .put-word .ensures);
     }))
-    (λ c. search needs)
+    (λ c κs. search needs)
     (λ c. search needs)
     (λ c f e.
-    let if2 = c .before in
-    let flag2 = if2 .before in
-    let flag = flag2 .before in
-    let put-word = flag .before .before .before in
+    let plain : tie.After-plain2 = search needs in
+    let if2 = plain .before in
+    let pausing = if2 .before in
+    let suspend = pausing .before in
+    let put-word = suspend .before .before .before in
     let place2 = put-word .before in
     let next-of = place2 .before .before in
     let offset-at = next-of .before in
@@ -67,10 +67,10 @@ goes-on-spec =
     let bit = if1 .before in
     let start = bit .before .before in
     let p = rw (offset-is _ _ (at-of .at-of .ensures)) at (place .place .ensures) in
-    let t : (wordOf (start .args .n) .fourth || wordOf (start .args .n) .first) ≡ false = rw (← fourth-in (start .args .n), ← first-in (start .args .n), ← flag .flag .ensures, ← flag2 .flag2 .ensures) (if2 .if2 .left) in
+    let t : (wordOf (start .args .n) .fourth || wordOf (start .args .n) .first) ≡ false = rw (← suspend .suspend .ensures, ← pausing .pausing .ensures) (if2 .if2 .left) in
     rw (if1 .if1 .left, t)
     (record {
-      unit = rw (← p, ← offset-at .offset-at .ensures) (ready (offset-at .offset-at .result) (omega (arith, offset-at .offset-at .ok)));
+      unit = rw (← p, ← offset-at .offset-at .ensures) (ready _ (offset-at .offset-at .result) (plain .plain2 .ensures));
       raised = rw (bit .bit .ensures .0, e) (raised-ready f (offset-at .offset-at .result));
       memory = rw (← p, ← offset-at .offset-at .ensures, ← place2 .place2 .ensures, ← next-of .next-of .ensures) (put-word .put-word .ensures);
     })))

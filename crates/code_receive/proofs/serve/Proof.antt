@@ -10,6 +10,7 @@ use Rattle.receive.specs.End.{close, lack}
 use Rattle.receive.specs.Service.{service}
 use Rattle.phases.specs.Phases.{ruTag, ruOf, wordOf}
 use Rattle.packed.proofs.Laws.{ru-of, ru-tag-below}
+use Rattle.packed.proofs.Words.{held-back, filling-back}
 use Rattle.code_receive.proofs.Laws.{none-raised, unserved}
 use borrow.Author.Needs.{needs}
 use Rattle.code_receive.proofs.serve.Statement.{statement}
@@ -31,7 +32,7 @@ serve-spec =
     let if2 = begin .before .before in
     let g = rw (if2 .if2 .taken) at h in
     let v = sym (ru-of u 4 _ _ g) in
-    rw v (begin .begin .ensures _ (rw v at g)))
+    rw v (begin .begin .ensures (held-back 4 _ _ _ _ _ (rw v at g))))
     (λ c κs. search needs)
     (λ c. search needs)
     (λ c u h.
@@ -39,7 +40,7 @@ serve-spec =
     let if3 = buffer .before .before in
     let g = rw (if3 .if3 .taken) at h in
     let v = sym (ru-of u 5 _ _ g) in
-    rw v (buffer .buffer .ensures (rw v at g)))
+    rw v (buffer .buffer .ensures (filling-back 5 _ _ _ _ (rw v at g))))
     (λ c κs. search needs)
     (λ c. search needs)
     (λ c u h.

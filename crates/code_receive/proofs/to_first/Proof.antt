@@ -1,41 +1,62 @@
 -- `code_receive::to_first` meets its contract. Assumes nothing.
 use mathlib.Core.Path.{refl}
-use Rattle.phases.specs.Phases.{wordOf, ruOf}
-use Rattle.code_receive.proofs.Units.{begun-bare, begun-lacking, begun-filling}
+use mathlib.Core.Bool.{false}
+use native.Mathlib.Omega.{arith}
+use Rattle.phases.specs.Phases.{wordOf}
+use Rattle.code_arrival.specs.Arrives.{frameIn}
+use Rattle.code_receive.specs.Receives.{offsetOf, begunIn}
+use Rattle.packed.proofs.Words.{closing, lacking, filling}
+use Rattle.code_receive.proofs.Laws.{begun-by}
 use borrow.Author.Needs.{needs}
 use Rattle.code_receive.proofs.to_first.Statement.{statement}
 use Rattle.code_receive.proofs.to_first.Tie as tie
 
 pub to-first-spec : {M : Type 1} → statement M
-unfolding wordOf ruOf
 to-first-spec =
     tie.close
     (tie.spec
-    (λ c. search needs)
-    (λ c. search needs)
     (λ c κs. search needs)
     (λ c κs. search needs)
     (λ c κs. search needs)
     (λ c.
-    let if1 = c .before in
-    let is-bare = if1 .before in
-    let flagged = is-bare .before in
-    let start = flagged .before in
-    (refl, λ rest h. rw (← is-bare .is-bare .ensures, if1 .if1 .taken, c .with-next .ensures, flagged .flagged .ensures) (begun-bare _ _ _ _ _ (start .args .control) (start .args .first) h (search needs) (search needs))))
+    let t : tie.Start = search needs in
+    let begun : tie.After-begun = search needs in
+    let is-bare : tie.After-is-bare = search needs in
+    let then1 : tie.Then1 = search needs in
+    let n = t .args .n in
+    let v = begunIn n (t .args .control) in
+    record {
+      raised = refl;
+      unit = λ h. rw (← is-bare .is-bare .ensures, then1 .if1 .taken) (closing _ v (t .args .first) false (c .with-next .ensures v false (begun-by (offsetOf n) (frameIn n) (wordOf n .first) (t .args .control) _ (begun .begun .ensures .1 (offsetOf n) (frameIn n) (wordOf n .first) h))));
+    })
     (λ c κs. search needs)
     (λ c.
-    let is-none = c .before in
-    let if1 = is-none .before in
-    let is-bare = if1 .before in
-    let flagged = is-bare .before in
-    let start = flagged .before in
-    (refl, λ rest h. rw (← is-bare .is-bare .ensures, if1 .if1 .left, ← is-none .is-none .ensures, c .if2 .taken, flagged .flagged .ensures) (begun-lacking _ _ _ _ _ (start .args .control) (start .args .first) h (search needs) (search needs))))
+    let t : tie.Start = search needs in
+    let begun : tie.After-begun = search needs in
+    let is-bare : tie.After-is-bare = search needs in
+    let is-none : tie.After-is-none = search needs in
+    let else1 : tie.Else1 = search needs in
+    let n = t .args .n in
+    let v = begunIn n (t .args .control) in
+    record {
+      raised = refl;
+      unit = λ h. rw (← is-bare .is-bare .ensures, else1 .if1 .left, ← is-none .is-none .ensures, c .if2 .taken) (lacking _ v (begun-by (offsetOf n) (frameIn n) (wordOf n .first) (t .args .control) _ (begun .begun .ensures .1 (offsetOf n) (frameIn n) (wordOf n .first) h)));
+    })
+    (λ c κs. search needs)
     (λ c κs. search needs)
     (λ c.
-    let if2 = c .before in
-    let is-none = if2 .before in
-    let if1 = is-none .before in
-    let is-bare = if1 .before in
-    let flagged = is-bare .before in
-    let start = flagged .before in
-    (refl, λ rest h. rw (← is-bare .is-bare .ensures, if1 .if1 .left, ← is-none .is-none .ensures, if2 .if2 .left, c .with-next2 .ensures, flagged .flagged .ensures) (begun-filling _ _ _ _ _ (start .args .control) (start .args .first) h (search needs) (search needs)))))
+    let t : tie.Start = search needs in
+    let begun : tie.After-begun = search needs in
+    let is-bare : tie.After-is-bare = search needs in
+    let is-none : tie.After-is-none = search needs in
+    let with-next2 : tie.After-with-next2 = search needs in
+    let else1 : tie.Else1 = search needs in
+    let else2 : tie.Else2 = search needs in
+    let n = t .args .n in
+    let v = begunIn n (t .args .control) in
+    record {
+      raised = refl;
+      unit = λ h.
+          rw (← is-bare .is-bare .ensures, else1 .if1 .left, ← is-none .is-none .ensures, else2 .if2 .left)
+          (filling _ v (record { next = t .args .first; used = 0; filled = 14 }) _ (c .rest-of .ensures) (omega arith) (omega arith) (with-next2 .with-next2 .ensures v false (begun-by (offsetOf n) (frameIn n) (wordOf n .first) (t .args .control) _ (begun .begun .ensures .1 (offsetOf n) (frameIn n) (wordOf n .first) h))));
+    }))

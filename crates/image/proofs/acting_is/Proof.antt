@@ -11,4 +11,4 @@ acting-is-spec =
     (tie.spec
     (λ c κs. search needs)
     (λ c κs. search needs)
-    (λ c. rw (c .before .flags .ensures, c .kind-of .ensures)))
+    (λ c. rw (c .before .flags-of .ensures, c .kind-of .ensures)))

@@ -12,4 +12,4 @@ ending-is-spec =
     (λ c κs. search needs)
     (λ c κs. search needs)
     (λ c κs. search needs)
-    (λ c. rw (c .before .before .flags .ensures, c .before .kind-of .ensures, c .is-sized .ensures)))
+    (λ c. rw (c .before .before .flags-of .ensures, c .before .kind-of .ensures, c .is-sized .ensures)))

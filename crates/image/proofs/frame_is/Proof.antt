@@ -14,4 +14,4 @@ frame-is-spec =
     (λ c κs. search needs)
     (λ c κs. search needs)
     (λ c κs. search needs)
-    (λ c. rw (c .before .before .before .flags .ensures, c .before .before .before .before .kind-of .ensures, c .before .before .is-sized .ensures, c .before .flag .ensures, c .flag2 .ensures)))
+    (λ c. rw (c .before .before .before .flags-of .ensures, c .before .before .before .before .kind-of .ensures, c .before .before .is-sized .ensures, c .before .save-bad .ensures, c .short .ensures)))

@@ -1,9 +1,13 @@
 -- `image::is_image` meets its contract. Assumes nothing.
-use mathlib.Core.Path.{_≡_, sym, _∙_}
+use mathlib.Core.Path.{_≡_, sym, ap, _∙_}
 use mathlib.Core.Bool.{true, false, _&&_}
-use Prim.Native.Nat.{_<_}
+use Prim.Native.Nat.{_+_, _<_, _^_}
+use native.Mathlib.Omega.{arith}
 use lib.Dec.{ltb}
 use Rattle.numerals.specs.Places.{field}
+use Rattle.packed.specs.Record.{lettersAt, statusAt, setupAt}
+use Rattle.packed.specs.SetUp.{settingsEnd, settingsAt}
+use Rattle.packed.specs.declared.Packed.{Packed}
 use Rattle.image.specs.Image.{packedAt, spareZero}
 use Rattle.image.specs.Numbers.{wordsAre}
 use Rattle.image.proofs.Tests.{image-words, image-spare, image-working, image-fresh}
@@ -12,6 +16,7 @@ use Rattle.image.proofs.is_image.Statement.{statement}
 use Rattle.image.proofs.is_image.Tie as tie
 
 pub is-image-spec : {M : Type 1} → statement M
+unfolding packedAt
 is-image-spec =
     tie.close
     (tie.spec
@@ -21,22 +26,61 @@ is-image-spec =
     (λ c κs. search needs)
     (λ c κs. search needs)
     (λ c κs. search needs)
-    (λ c. let s : tie.Start = search needs in let r = s .args .r .now in
-    let w : field r 5 8 < 18446744073709551616 = rw (← c .before .before .before .before .before .before .before .before .status-at .ensures) (search needs) in
-    let a : wordsAre (field r 0 8) (packedAt r) ≡ true = sym (rw (c .before .before .before .before .before .before .before .front-at .ensures, c .before .before .before .before .before .before .packed-at .ensures) at (c .before .before .before .before .before .words-are .ensures)) ∙ c .before .before .before .before .if1 .taken in
-    let b : (spareZero r && ltb (field r 152 1) 8) ≡ true = rw (← c .before .before .before .spare-zero .ensures, ← c .before .before .read8 .ensures) (c .before .if2 .taken) in
-    image-working r w a b (rw (← c .before .before .before .before .before .before .before .before .status-at .ensures) (c .if3 .taken)))
+    (λ c.
+    let then1 : tie.Then1 = search needs in
+    let then2 : tie.Then2 = search needs in
+    let spare-zero : tie.After-spare-zero = search needs in
+    let read8 : tie.After-read8 = search needs in
+    let initialised : tie.After-initialised = search needs in
+    let t : tie.Start = search needs in
+    let packed-at : tie.After-packed-at = search needs in
+    let front-at : tie.After-front-at = search needs in
+    let words-are : tie.After-words-are = search needs in
+    let r = t .args .r .now in
+    let p = packed-at .packed-at .ensures in
+    let w : field r statusAt 8 < 2 ^ 64 = rw (← ap (λ (k : Packed). k .status) p) (omega (arith, packed-at .packed-at .ok)) in
+    let a : wordsAre (field r lettersAt 8) (packedAt r) ≡ true = sym (rw (front-at .front-at .ensures, p) at (words-are .words-are .ensures)) ∙ then1 .if1 .taken in
+    let b : (spareZero r && ltb (field r (setupAt + settingsAt) 1) settingsEnd) ≡ true = rw (← spare-zero .spare-zero .ensures, ← read8 .read8 .ensures) (then2 .if2 .taken) in
+    image-working r w a b (sym (rw p at (initialised .initialised .ensures)) ∙ c .if3 .taken))
     (λ c κs. search needs)
-    (λ c. let s : tie.Start = search needs in let r = s .args .r .now in
-    let w : field r 5 8 < 18446744073709551616 = rw (← c .before .before .before .before .before .before .before .before .before .status-at .ensures) (search needs) in
-    let a : wordsAre (field r 0 8) (packedAt r) ≡ true = sym (rw (c .before .before .before .before .before .before .before .before .front-at .ensures, c .before .before .before .before .before .before .before .packed-at .ensures) at (c .before .before .before .before .before .before .words-are .ensures)) ∙ c .before .before .before .before .before .if1 .taken in
-    let b : (spareZero r && ltb (field r 152 1) 8) ≡ true = rw (← c .before .before .before .before .spare-zero .ensures, ← c .before .before .before .read8 .ensures) (c .before .before .if2 .taken) in
-    c .is-fresh .ensures ∙ image-fresh r w a b (rw (← c .before .before .before .before .before .before .before .before .before .status-at .ensures) (c .before .if3 .left)))
-    (λ c. let s : tie.Start = search needs in let r = s .args .r .now in
-    let w : field r 5 8 < 18446744073709551616 = rw (← c .before .before .before .before .before .before .before .status-at .ensures) (search needs) in
-    let a : wordsAre (field r 0 8) (packedAt r) ≡ true = sym (rw (c .before .before .before .before .before .before .front-at .ensures, c .before .before .before .before .before .packed-at .ensures) at (c .before .before .before .before .words-are .ensures)) ∙ c .before .before .before .if1 .taken in
-    let b : (spareZero r && ltb (field r 152 1) 8) ≡ false = rw (← c .before .before .spare-zero .ensures, ← c .before .read8 .ensures) (c .if2 .left) in
+    (λ c.
+    let then1 : tie.Then1 = search needs in
+    let then2 : tie.Then2 = search needs in
+    let else3 : tie.Else3 = search needs in
+    let spare-zero : tie.After-spare-zero = search needs in
+    let read8 : tie.After-read8 = search needs in
+    let initialised : tie.After-initialised = search needs in
+    let t : tie.Start = search needs in
+    let packed-at : tie.After-packed-at = search needs in
+    let front-at : tie.After-front-at = search needs in
+    let words-are : tie.After-words-are = search needs in
+    let r = t .args .r .now in
+    let p = packed-at .packed-at .ensures in
+    let w : field r statusAt 8 < 2 ^ 64 = rw (← ap (λ (k : Packed). k .status) p) (omega (arith, packed-at .packed-at .ok)) in
+    let a : wordsAre (field r lettersAt 8) (packedAt r) ≡ true = sym (rw (front-at .front-at .ensures, p) at (words-are .words-are .ensures)) ∙ then1 .if1 .taken in
+    let b : (spareZero r && ltb (field r (setupAt + settingsAt) 1) settingsEnd) ≡ true = rw (← spare-zero .spare-zero .ensures, ← read8 .read8 .ensures) (then2 .if2 .taken) in
+    c .is-fresh .ensures ∙ image-fresh r w a b (sym (rw p at (initialised .initialised .ensures)) ∙ else3 .if3 .left))
+    (λ c.
+    let then1 : tie.Then1 = search needs in
+    let spare-zero : tie.After-spare-zero = search needs in
+    let read8 : tie.After-read8 = search needs in
+    let t : tie.Start = search needs in
+    let packed-at : tie.After-packed-at = search needs in
+    let front-at : tie.After-front-at = search needs in
+    let words-are : tie.After-words-are = search needs in
+    let r = t .args .r .now in
+    let p = packed-at .packed-at .ensures in
+    let w : field r statusAt 8 < 2 ^ 64 = rw (← ap (λ (k : Packed). k .status) p) (omega (arith, packed-at .packed-at .ok)) in
+    let a : wordsAre (field r lettersAt 8) (packedAt r) ≡ true = sym (rw (front-at .front-at .ensures, p) at (words-are .words-are .ensures)) ∙ then1 .if1 .taken in
+    let b : (spareZero r && ltb (field r (setupAt + settingsAt) 1) settingsEnd) ≡ false = rw (← spare-zero .spare-zero .ensures, ← read8 .read8 .ensures) (c .if2 .left) in
     image-spare r w a b)
-    (λ c. let s : tie.Start = search needs in let r = s .args .r .now in
-    let w : field r 5 8 < 18446744073709551616 = rw (← c .before .before .before .before .status-at .ensures) (search needs) in
-    image-words r w (sym (rw (c .before .before .before .front-at .ensures, c .before .before .packed-at .ensures) at (c .before .words-are .ensures)) ∙ c .if1 .left)))
+    (λ c.
+    let t : tie.Start = search needs in
+    let packed-at : tie.After-packed-at = search needs in
+    let front-at : tie.After-front-at = search needs in
+    let words-are : tie.After-words-are = search needs in
+    let r = t .args .r .now in
+    let p = packed-at .packed-at .ensures in
+    let w : field r statusAt 8 < 2 ^ 64 = rw (← ap (λ (k : Packed). k .status) p) (omega (arith, packed-at .packed-at .ok)) in
+    let a : wordsAre (field r lettersAt 8) (packedAt r) ≡ false = sym (rw (front-at .front-at .ensures, p) at (words-are .words-are .ensures)) ∙ c .if1 .left in
+    image-words r w a))

@@ -4,22 +4,22 @@ use mathlib.Core.Bool.{true, false}
 use Prim.Native.Nat.{_+_, _*_, _%_}
 use native.Mathlib.Omega.{arith}
 use Rattle.scb.specs.Words.{one, eventBits, raise}
-use Rattle.packed.specs.Packed.{flagsIn, flagsBy, cuTagIn, ruTagIn}
-use Rattle.packed.proofs.Laws.{events-below, events-is, flags-is, low-flag, cu-is, ru-is, together}
+use Rattle.packed.specs.Packed.{marksIn, marksBy, cuTagIn, ruTagIn}
+use Rattle.packed.proofs.Laws.{events-below, events-is, marks-is, low-mark, cu-is, ru-is, together}
 use borrow.Author.Needs.{needs}
 use Rattle.packed.proofs.after_cu.Statement.{statement}
 use Rattle.packed.proofs.after_cu.Tie as tie
 use Rattle.packed.proofs.after_cu.Reads as reads
 use Rattle.packed.proofs.after_cu.Lts as lts
 use Rattle.packed.proofs.events.Reads as events-reads
-use Rattle.packed.proofs.flags.Reads as flags-reads
+use Rattle.packed.proofs.marks.Reads as marks-reads
 use Rattle.packed.proofs.raise.Reads as raise-reads
 use Rattle.packed.proofs.ru_tag.Reads as ru-tag-reads
 use Rattle.packed.proofs.status_of.Reads as status-of-reads
 
 -- src/lib.rt:123:17
-flags-requires : tie.Need-flags-requires
-flags-requires c κs = search needs
+marks-requires : tie.Need-marks-requires
+marks-requires c κs = search needs
 
 -- src/lib.rt:123:43
 events-requires : tie.Need-events-requires
@@ -30,12 +30,12 @@ raise-requires : tie.Need-raise-requires
 raise-requires c κs = search needs
 
 -- src/lib.rt:123:32
-mul-flags : tie.Need-mul-flags
-mul-flags c = search needs
+mul-marks : tie.Need-mul-marks
+mul-marks c = search needs
 
 -- src/lib.rt:123:17
-add-flags : tie.Need-add-flags
-add-flags c = search needs
+add-marks : tie.Need-add-marks
+add-marks c = search needs
 
 -- src/lib.rt:125:49
 ru-tag-requires : tie.Need-ru-tag-requires
@@ -52,20 +52,20 @@ returns c u v by h hv e =
     let k = s .args .k in
     let m : s .args .raised % 16 ≡ eventBits by = rw e (omega (arith, events-below by)) in
     let x = c .before .before .before .before .raise .ensures .1 (u .events) by (c .before .before .before .before .before .events .ensures ∙ events-is u k h) m in
-    let f : flagsIn k % 2 + 16 * eventBits (raise (u .events) by) ≡ flagsBy (u .initialised) false (raise (u .events) by) = omega (arith, low-flag u k h) in
-    rw (c .status-of .ensures, c .before .before .ru-tag .ensures, c .before .before .before .before .before .before .flags .ensures, x)
-    (together u k h v (u .ru) (u .initialised) false (raise (u .events) by) (flagsIn k % 2 + 16 * eventBits (raise (u .events) by)) (s .args .tag) (s .args .word)
+    let f : marksIn k % 2 + 16 * eventBits (raise (u .events) by) ≡ marksBy (u .initialised) false (raise (u .events) by) = omega (arith, low-mark u k h) in
+    rw (c .status-of .ensures, c .before .before .ru-tag .ensures, c .before .before .before .before .before .before .marks .ensures, x)
+    (together u k h v (u .ru) (u .initialised) false (raise (u .events) by) (marksIn k % 2 + 16 * eventBits (raise (u .events) by)) (s .args .tag) (s .args .word)
     (ruTagIn k) (k .ru) (k .rest) f hv (ru-is u k h))
 
 pub after-cu-spec : {M : Type 1} → statement M
 after-cu-spec =
     tie.close
     (tie.spec
-    flags-requires
+    marks-requires
     events-requires
     raise-requires
-    mul-flags
-    add-flags
+    mul-marks
+    add-marks
     ru-tag-requires
     status-of-requires
     returns)

@@ -1,0 +1,78 @@
+// What the commands set up, as the record keeps it and a call is lent it: a byte of settings, one of the minimum length, the own address, the listed
+// addresses. docs/record.md, bytes 152 to 255. It asks for all of them.
+ghost use mathlib.Core.Path.{_≡_};
+ghost use Prim.Native.Nat.{_<_, _^_};
+ghost use lib.ListN.{length};
+ghost use Rattle.actions.specs.Setup.{Setup};
+ghost use Rattle.packed.specs.SetUp.{setupSize, joinedSettings, modesIn, SetIs};
+
+// Where each stands.
+pub const SETTINGS: usize = 0;
+
+pub const MINIMUM: usize = 1;
+
+pub const OWN: usize = 2;
+
+pub const OWN_END: usize = 8;
+
+pub const LISTED: usize = 8;
+
+pub const LISTED_SIZE: usize = 96;
+
+pub const SIZE: usize = 104;
+
+// The byte of settings: save bad; above it the modes, which are promiscuous and, above that, broadcast disabled.
+const SAVES_BAD: u8 = 1 << 0;
+
+const MODES: u8 = 1 << 1;
+
+const PROMISCUOUS: u8 = MODES;
+
+const NO_BROADCAST: u8 = MODES << 1;
+
+// What the byte is below.
+pub const SETTINGS_END: u8 = 1 << 3;
+
+pub fn saves_bad(setup: &[u8]) -> bool
+    requires { ⌜ length (now setup) ≡ setupSize ⌝ }
+    ensures { λ r. ⌜ ((s : Setup) → SetIs s (now (setup .entry)) → r ≡ s .settings .savebad) ⌝ }
+{
+    setup[SETTINGS] / SAVES_BAD % 2 == 1
+}
+
+pub fn promiscuous(setup: &[u8]) -> bool
+    requires { ⌜ length (now setup) ≡ setupSize ⌝ }
+    ensures { λ r. ⌜ ((s : Setup) → SetIs s (now (setup .entry)) → r ≡ s .settings .promiscuous) ⌝ }
+{
+    setup[SETTINGS] / PROMISCUOUS % 2 == 1
+}
+
+pub fn no_broadcast(setup: &[u8]) -> bool
+    requires { ⌜ length (now setup) ≡ setupSize ⌝ }
+    ensures { λ r. ⌜ ((s : Setup) → SetIs s (now (setup .entry)) → r ≡ s .settings .nobroadcast) ⌝ }
+{
+    setup[SETTINGS] / NO_BROADCAST % 2 == 1
+}
+
+// The minimum frame length.
+pub fn minimum(setup: &[u8]) -> u64
+    requires { ⌜ length (now setup) ≡ setupSize ⌝ }
+    ensures { λ r. ⌜ (r < 2 ^ 8) × ((s : Setup) → SetIs s (now (setup .entry)) → r ≡ s .settings .minimum) ⌝ }
+{
+    setup[MINIMUM] as u64
+}
+
+// The byte of settings: save bad, and the modes.
+pub fn settings(save_bad: u8, modes: u8) -> u8
+    requires { ⌜ («save_bad» < 2) × (modes < 2 ^ 7) ⌝ }
+    ensures { λ r. ⌜ r ≡ joinedSettings «save_bad» modes ⌝ }
+{
+    save_bad + MODES * modes
+}
+
+// The modes of a byte of settings.
+pub fn modes(settings: u8) -> u8
+    ensures { λ r. ⌜ (r ≡ modesIn settings) × (r < 2 ^ 7) ⌝ }
+{
+    settings / MODES
+}
