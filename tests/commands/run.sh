@@ -56,6 +56,8 @@ says "$fault"
 try "a bad list, as standard input" 2 ./replay - <"$bad.list"
 prints "$work/answers"
 says "$fault"
+try "a bad list, and an error stream that is closed" 2 eval "./replay $bad.list 2>&-"
+prints "$work/answers"
 try "an empty list" 0 ./replay "$none"
 prints "$none"
 says ""
@@ -94,6 +96,11 @@ says "replay: there is no list $work/missing"
 try "a list without a name" 2 ./replay ""
 try "a folder" 2 ./replay "$work"
 says "replay: $work is a folder, not a list"
+try "standard input that is closed" 2 eval './replay - <&-'
+says "replay: standard input is closed"
+try "standard input that cannot be read" 2 ./replay - <"$work"
+prints "$none"
+says "the list: Is a directory"
 
 # ---- replay: an output that takes nothing more. The input has no end: it must not be read on.
 closed() {

@@ -62,7 +62,8 @@ for seed in $(seq "$first" $((first + 199))); do
     "$model" bad "$seed" "$work/list" "$work/expect" "$work/fault"
     $replay "$work/list" >"$work/said" 2>"$work/errors" || true
     cmp -s "$work/expect" "$work/said" || differ "$seed (bad line)"
-    cmp -s "$work/fault" "$work/errors" || fail "seed $seed: the fault is $(head -n 1 "$work/fault"), and the replay program said $(head -n 1 "$work/errors")"
+    cmp -s "$work/fault" "$work/errors" ||
+        fail "seed $seed: the fault is \"$(cat "$work/fault")\", and the replay program said \"$(head -n 1 "$work/errors")\""
 done
 
 echo "$made calls and 200 bad lines as in the model"
