@@ -42,6 +42,9 @@
 extern "C" {
 #endif
 
+/* The version of this interface and of the archive: pkg-config's too, which has it from here. The record's is below. */
+#define LQ_VERSION "0.1.0"
+
 /* ---- Sizes. Use these constants and no numbers: the holding area will grow. ---- */
 
 #define LQ_RECORD_SIZE   256

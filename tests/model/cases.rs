@@ -1401,10 +1401,17 @@ fn storing_descriptor_kept() -> Result<(), String> {
 
 // ---- The list's forms ----
 
+/// The answers, and the fault.
+fn both(text: &str) -> (String, String) {
+    let (mut out, mut errors) = (Vec::new(), Vec::new());
+    list::run(text.as_bytes(), &mut out, &mut errors).expect("a vector takes everything");
+    let text = |said| String::from_utf8(said).expect("what is printed is text");
+    (text(out), text(errors))
+}
+
 fn printed(text: &str) -> String {
-    let mut out = Vec::new();
-    list::run(text.as_bytes(), &mut out).expect("a vector takes everything");
-    String::from_utf8(out).expect("what is printed is text")
+    let (out, errors) = both(text);
+    out + &errors
 }
 
 fn list_example() -> Result<(), String> {
@@ -1467,7 +1474,8 @@ fn list_bad_input() -> Result<(), String> {
         ("show outgoing 1 2048", 15, "room in the area"),
         ("look outgoing 1 1024 3", 22, "the end of the line"),
     ] {
-        same!(printed(&format!("interrupt\n{line}\ninterrupt\n")), format!("interrupt low\nline 2, column {column}: expected {expected}\n"));
+        let fault = format!("line 2, column {column}: expected {expected}\n");
+        same!(both(&format!("interrupt\n{line}\ninterrupt\n")), ("interrupt low\n".to_string(), fault));
     }
     Ok(())
 }

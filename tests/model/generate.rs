@@ -134,7 +134,7 @@ pub fn bad(seed: u64) -> Vec<u8> {
         if list.split(|byte| !byte.is_ascii_alphanumeric()).any(|word| word.iter().take_while(|byte| byte.is_ascii_digit()).count() > 7 && word.contains(&b'x')) {
             continue;
         }
-        let ends_badly = crate::list::run(&list, &mut io::sink()).map_or(false, |(bad, _)| bad);
+        let ends_badly = crate::list::run(&list, &mut io::sink(), &mut io::sink()).map_or(false, |(bad, _)| bad);
         if ends_badly {
             return list;
         }

@@ -400,12 +400,13 @@ pub fn find(list: &[u8], wanted: u64, out: &mut dyn Write) -> io::Result<()> {
     Ok(())
 }
 
-/// Runs a whole list; the line that went wrong comes back, if one did, and whether a `record` line was met.
-pub fn run(list: &[u8], out: &mut dyn Write) -> io::Result<(bool, bool)> {
+/// Runs a whole list, its answers to `out` and the fault of a bad line to `errors`. Comes back: whether a line went wrong, and whether a
+/// `record` line was met.
+pub fn run(list: &[u8], out: &mut dyn Write, errors: &mut dyn Write) -> io::Result<(bool, bool)> {
     let mut replay = Replay::new();
     for (i, line) in lines(list).into_iter().enumerate() {
         if let Err(bad) = replay.line(line, out)? {
-            writeln!(out, "line {}, column {}: expected {}", i + 1, bad.column, bad.expected)?;
+            writeln!(errors, "line {}, column {}: expected {}", i + 1, bad.column, bad.expected)?;
             return Ok((true, replay.record));
         }
     }

@@ -12,24 +12,28 @@ use std::io::{self, BufWriter, Read, Write};
 use std::process::ExitCode;
 
 const USAGE: &str = "usage: model list SEED CALLS | expect SEED CALLS | check SEED CALLS LISTFILE EXPECTFILE | replay [FILE]
-       model bad SEED LISTFILE EXPECTFILE | where LISTFILE OUTPUTLINE | coverage SEED CALLS | test";
+       model bad SEED LISTFILE EXPECTFILE FAULTFILE | where LISTFILE OUTPUTLINE | coverage SEED CALLS | test";
+
+/// How a command ends, by README's rule: done; the answer is no; bad usage or input.
+const DONE: u8 = 0;
+const NO: u8 = 1;
+const BAD: u8 = 2;
 
 fn main() -> ExitCode {
     let arguments: Vec<String> = std::env::args().skip(1).collect();
     let words: Vec<&str> = arguments.iter().map(String::as_str).collect();
     match command(&words) {
-        Ok(true) => ExitCode::SUCCESS,
-        Ok(false) => ExitCode::FAILURE,
+        Ok(status) => ExitCode::from(status),
         // Whoever reads the output may stop reading.
         Err(error) if error.kind() == io::ErrorKind::BrokenPipe => ExitCode::SUCCESS,
         Err(error) => {
             eprintln!("model: {error}");
-            ExitCode::FAILURE
+            ExitCode::from(BAD)
         }
     }
 }
 
-fn command(words: &[&str]) -> io::Result<bool> {
+fn command(words: &[&str]) -> io::Result<u8> {
     let mut out = BufWriter::new(io::stdout().lock());
     let mut nowhere = io::sink();
     match words {
@@ -53,32 +57,38 @@ fn command(words: &[&str]) -> io::Result<bool> {
                 Some(file) => File::open(file)?.read_to_end(&mut text)?,
                 None => io::stdin().lock().read_to_end(&mut text)?,
             };
-            let (bad, record) = list::run(&text, &mut out)?;
+            let mut fault = Vec::new();
+            let (bad, record) = list::run(&text, &mut out, &mut fault)?;
             out.flush()?;
+            io::stderr().write_all(&fault)?;
             if record {
                 eprintln!("model: `record` lines were left out, the record's layout is not the model's to say");
             }
-            return Ok(!bad);
+            return Ok(if bad { BAD } else { DONE });
         }
         ["where", file, line] => {
             let mut text = Vec::new();
             File::open(file)?.read_to_end(&mut text)?;
             list::find(&text, number(line)?, &mut out)?;
         }
-        ["bad", seed, list, expect] => {
+        ["bad", seed, list, expect, fault] => {
             let text = generate::bad(number(seed)?);
             std::fs::write(list, &text)?;
-            list::run(&text, &mut BufWriter::new(File::create(expect)?))?;
+            list::run(&text, &mut BufWriter::new(File::create(expect)?), &mut File::create(fault)?)?;
         }
-        ["coverage", seed, calls] => return coverage::coverage(number(seed)?, number(calls)?, &mut out),
-        ["test"] => return cases::run(&mut out),
+        ["coverage", seed, calls] => return coverage::coverage(number(seed)?, number(calls)?, &mut out).map(answer),
+        ["test"] => return cases::run(&mut out).map(answer),
         _ => {
             eprintln!("{USAGE}");
-            return Ok(false);
+            return Ok(BAD);
         }
     }
     out.flush()?;
-    Ok(true)
+    Ok(DONE)
+}
+
+fn answer(yes: bool) -> u8 {
+    if yes { DONE } else { NO }
 }
 
 fn number(text: &str) -> io::Result<u64> {

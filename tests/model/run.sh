@@ -6,13 +6,10 @@
 # LQ_MODEL=PATH takes a model that is compiled already, and needs no rustc.
 set -eu
 
-fail() {
-    echo "tests/model/run.sh: $*" >&2
-    exit 1
-}
-
-[ $# -ge 1 ] || fail "which replay program? run.sh REPLAY [CALLS [SEED]]"
 here=$(cd "$(dirname "$0")" && pwd)
+self=tests/model/run.sh
+. "$here/../command.sh"
+[ $# -ge 1 ] || cannot "which replay program? run.sh REPLAY [CALLS [SEED]]"
 replay=$1
 calls=${2:-50000}
 first=${3:-1}
@@ -21,7 +18,7 @@ portion=2500
 work=$(mktemp -d)
 trap 'rm -rf "$work"' EXIT
 model=${LQ_MODEL:-$work/model}
-[ -n "${LQ_MODEL:-}" ] || "$here/build.sh" "$model" || fail "there is no model"
+[ -n "${LQ_MODEL:-}" ] || "$here/build.sh" "$model" || cannot "there is no model"
 "$model" test || fail "the model fails its own tests"
 
 # Says where the outputs differ, and keeps the files.
@@ -55,17 +52,18 @@ while [ "$made" -lt "$calls" ]; do
     $replay "$work/list" >"$work/said" 2>"$work/errors" || code=$?
     cmp -s "$work/expect" "$work/said" || differ "$seed"
     [ "$code" = 0 ] || fail "seed $seed: all lines are right, but the replay program ended with $code"
+    [ ! -s "$work/errors" ] || fail "seed $seed: all lines are right, but the replay program said $(head -n 1 "$work/errors")"
     made=$((made + count))
     seed=$((seed + 1))
 done
 
-# A bad line's words may stand on either output.
+# A bad line's fault stands on the error stream, and nothing else does.
 for seed in $(seq "$first" $((first + 199))); do
-    "$model" bad "$seed" "$work/list" "$work/expect"
+    "$model" bad "$seed" "$work/list" "$work/expect" "$work/fault"
     $replay "$work/list" >"$work/said" 2>"$work/errors" || true
-    cat "$work/errors" >>"$work/said"
-    : >"$work/errors"
     cmp -s "$work/expect" "$work/said" || differ "$seed (bad line)"
+    cmp -s "$work/fault" "$work/errors" ||
+        fail "seed $seed: the fault is \"$(cat "$work/fault")\", and the replay program said \"$(head -n 1 "$work/errors")\""
 done
 
 echo "$made calls and 200 bad lines as in the model"

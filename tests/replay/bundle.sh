@@ -5,15 +5,17 @@
 # never reset.
 set -eu
 
-[ $# -ge 2 ] || { echo "usage: bundle.sh LIST EXPECTED [NAME ..]" >&2; exit 1; }
 here=$(cd "$(dirname "$0")" && pwd)
+self=tests/replay/bundle.sh
+. "$here/../command.sh"
+[ $# -ge 2 ] || cannot "usage: bundle.sh LIST EXPECTED [NAME ..]"
 list=$1
 expected=$2
 shift 2
 [ $# -gt 0 ] || set -- calls papers control commands transmit arrival storing addresses limits runs record
 
 for name in "$@"; do
-    [ -f "$here/$name.list" ] || { echo "bundle.sh: there is no $here/$name.list" >&2; exit 1; }
+    [ -f "$here/$name.list" ] || cannot "there is no $here/$name.list"
 done
 for name in "$@"; do
     echo "say == $name =="

@@ -5,13 +5,10 @@
 # the bad ones; with names only these. The name bad stands for all the bad ones.
 set -eu
 
-fail() {
-    echo "tests/replay/run.sh: $*" >&2
-    exit 1
-}
-
-[ $# -ge 1 ] || fail "which replay program? run.sh REPLAY [NAME ..]"
 here=$(cd "$(dirname "$0")" && pwd)
+self=tests/replay/run.sh
+. "$here/../command.sh"
+[ $# -ge 1 ] || cannot "which replay program? run.sh REPLAY [NAME ..]"
 replay=$1
 shift
 work=$(mktemp -d)
@@ -38,8 +35,8 @@ compare() { # WHAT EXPECTED SAID
 bad=no
 [ $# -gt 0 ] || bad=yes
 names=()
-for name in "$@"; do
-    if [ "$name" = bad ]; then bad=yes; else names+=("$name"); fi
+for word in "$@"; do
+    if [ "$word" = bad ]; then bad=yes; else names+=("$word"); fi
 done
 
 says=0
@@ -49,16 +46,19 @@ if [ $# = 0 ] || [ ${#names[@]} -gt 0 ]; then
     $replay "$work/list" >"$work/said" 2>"$work/errors" || code=$?
     compare "the bundle" "$work/expected" "$work/said"
     [ "$code" = 0 ] || fail "all lines are right, but the program ended with $code"
+    [ ! -s "$work/errors" ] || fail "all lines are right, but the program said $(head -n 1 "$work/errors")"
     says=$(grep -c '^say ' "$work/list")
 fi
 
-# A bad line's words may stand on either output.
+# A bad list: the last line that is expected is the fault, on the error stream; the others are answers, on standard output.
 lists=0
 if [ "$bad" = yes ]; then
     for list in "$here"/bad/*.list; do
         $replay "$list" >"$work/said" 2>"$work/errors" || true
-        cat "$work/errors" >>"$work/said"
-        compare "bad/$(basename "$list")" "${list%.list}.expected" "$work/said"
+        sed '$d' "${list%.list}.expected" >"$work/answers"
+        tail -n 1 "${list%.list}.expected" >"$work/fault"
+        compare "bad/$(basename "$list"), its answers" "$work/answers" "$work/said"
+        compare "bad/$(basename "$list"), its fault" "$work/fault" "$work/errors"
         lists=$((lists + 1))
     done
 fi

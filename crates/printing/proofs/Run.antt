@@ -82,7 +82,7 @@ fed-quiet st c =
     same-if (st .session .stopped) _ _ _ _ refl
     (same-if (eqb c 10) _ _ _ _ (judged-quiet (st .session) _ (st .memory) (st .holding) (st .outgoing) _ (st .out)) refl)
 
-fed-alike : (st su : State) (c : ℕ) → quietly st ≡ quietly su → quietly (fed st c) ≡ quietly (fed su c)
+pub fed-alike : (st su : State) (c : ℕ) → quietly st ≡ quietly su → quietly (fed st c) ≡ quietly (fed su c)
 fed-alike st su c e = sym (fed-quiet st c) ∙ ap (λ (x : State). quietly (fed x c)) e ∙ fed-quiet su c
 
 char-quiet : (st : State) (c : ℕ) → charText (quietly st) c ≡ charText st c

@@ -113,7 +113,7 @@ emptied-sane st k = record { reading = k .reading; line = k .line }
 ran-room : (st : State) (cs : List ℕ) → length (ran st cs .out) ≡ length (st .out)
 ran-room st cs = ap length (ran-puts st cs .bytes) ∙ length-sets (st .out) (st .session .at) (textOf st cs)
 
-rooms : (st : State) (xss : List (List ℕ)) → Sane st → Cut xss → 1310700 ≤ length (st .out) → Room st xss
+pub rooms : (st : State) (xss : List (List ℕ)) → Sane st → Cut xss → 1310700 ≤ length (st .out) → Room st xss
 rooms st [] k h l = tt
 rooms st (xs ∷ xss) k h l =
     let t : length (textOf st xs) ≤ 1310700 = one-line-fits st xs (h .0) k in

@@ -1,4 +1,5 @@
--- What a line prints, what a run prints, and what every line keeps.
+-- What a line prints, what a run prints and on which stream, and what every line keeps.
 pub mod Line
 pub mod Run
+pub mod Streams
 pub mod Sane

@@ -1,5 +1,6 @@
 // Replays a list of calls and host writes, from the file that its argument names or from standard input, and prints each answer.
-// docs/replay.md has the forms. What is done with the input is `running`'s; here it is run stretch by stretch.
+// docs/replay.md has the forms. What is done with the input is `running`'s; here it is run stretch by stretch, and what each prints is written
+// out. A program has no exit status: if anything went wrong, and only then, the error stream has a line.
 use libc::STDIN_FILENO;
 use session::Session;
 ghost use mathlib.Core.Path.{_≡_};
@@ -20,6 +21,7 @@ fn run_lines(
     while from < input.len() {
         let to = stretches::line_end(input, from);
         t = running::run_stretch(t, memory, holding, outgoing, bytes, &input[from..to], out);
+        t = stretches::write_out(t, out);
         from = to;
     }
     t

@@ -1,6 +1,6 @@
 // A run of the replay program: characters are read, and at each line's end what was read is obeyed. docs/replay.md has the forms. A session
-// goes in and comes out, so a run in stretches is a run of the whole; what a stretch prints is written out. It takes every session, slices of
-// every length, and a stretch in which at most one line ends.
+// goes in and comes out, so a run in stretches is a run of the whole. It takes every session, slices of every length, and a stretch in which
+// at most one line ends.
 use lines::Reader;
 use session::Session;
 ghost use Prim.Native.Nat.{_≤_};
@@ -80,8 +80,8 @@ fn run(
     t
 }
 
-// A stretch of input is run and what it prints is written out. The slice for texts has room for what any one line prints: `one-line-fits` in
-// the room `printing`, where this is a step of `inStretches`.
+// A stretch of input is run, and what it prints stands in the slice for texts, from its beginning on. There is room for what any one line
+// prints: `one-line-fits` in the room `printing`, where this is a step of `inStretches`.
 pub fn run_stretch(
     s: Session,
     memory: &mut [u8],
@@ -94,7 +94,7 @@ pub fn run_stretch(
     requires { ⌜ newlines (now input) ≤ 1 ⌝ }
     ensures { λ r. ⌜ Runs (run.ran (emptiedIn (run.stateOf s (now (memory .entry)) (now (holding .entry)) (now (outgoing .entry)) (now (bytes .entry)) (now (out .entry)))) (now (input .entry))) r (now (memory .exit)) (now (holding .exit)) (now (outgoing .exit)) (now (bytes .exit)) (now (out .exit)) ⌝ }
 {
-    let t = run(
+    run(
         session::emptied(s),
         memory,
         holding,
@@ -102,7 +102,5 @@ pub fn run_stretch(
         bytes,
         input,
         out,
-    );
-    stretches::write_out(t, out);
-    t
+    )
 }

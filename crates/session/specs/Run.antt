@@ -74,6 +74,10 @@ faultOf line r = faultText line (r .fault .column) (expectedOf (r .fault .wrong)
 abbrev pub stoppedAt : Session → Reader → ℕ → Session
 stoppedAt s r at = record { board = s .board; at = at; line = s .line; reader = r; stopped = true }
 
+-- it stops where no line was wrong
+abbrev pub halted : Session → Session
+halted s = stoppedAt s (s .reader) (s .at)
+
 unfoldable pub stoppedBy : Session → Reader → List ℕ → List ℕ → List ℕ → List ℕ → List ℕ → State
 stoppedBy s r m h og by out =
     stateOf (stoppedAt s r (behind (faultOf (s .line) r) (s .at) out)) m h og by (sets out (s .at) (faultOf (s .line) r))

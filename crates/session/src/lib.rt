@@ -12,7 +12,8 @@ ghost use Rattle.lines.specs.Reader as lines;
 ghost use Rattle.session.specs.Run.{Runs};
 ghost use Rattle.session.specs.Run as run;
 
-// The board; where the next text goes; the number of the line that is being read; its reader; whether a line was wrong.
+// The board; where the next text goes; the number of the line that is being read; its reader; whether it has stopped, as it does at a line that
+// is wrong.
 pub struct Session {
     pub board: Board,
     pub at: usize,
@@ -77,6 +78,13 @@ pub fn stop(s: Session, reader: Reader, out: &mut [u8]) -> Session
         stopped: true,
         ..s
     }
+}
+
+// The session stops, and is else as it was: nothing more is read or done.
+pub fn halted(s: Session) -> Session
+    ensures { λ r. ⌜ r ≡ run.halted s ⌝ }
+{
+    Session { stopped: true, ..s }
 }
 
 // The session behind a line that was obeyed.

@@ -1,10 +1,16 @@
 // What the replay program reads and writes, and where it cuts: the input comes in pieces, a stretch ends where a line does, and what a session
-// has put is written out. Nothing is run here.
+// has put is written out, answers to standard output and a fault to the error stream. Nothing is run here. What goes wrong with either is told
+// on the error stream, and ends the run.
+use libc::STDERR_FILENO;
 use libc::STDOUT_FILENO;
 use session::Session;
+ghost use mathlib.Core.Logic.{_⊎_};
+ghost use mathlib.Core.Path.{_≡_};
 ghost use Prim.Native.Nat.{_-_, _<_, _≤_};
 ghost use lib.ListN.{length, take, drop};
+ghost use Rattle.session.specs.Run.{halted};
 ghost use Rattle.printing.specs.Run.{newlines};
+ghost use Rattle.printing.specs.Streams.{descriptor, streamOf};
 
 // The smaller of two numbers.
 fn least(a: usize, b: usize) -> usize
@@ -31,10 +37,27 @@ pub fn line_end(input: &[u8], from: usize) -> usize
     i
 }
 
-// What a session has printed is written out; whether that went well.
-pub fn write_out(s: Session, out: &[u8]) -> bool {
+// The stream that has what a session has put. At most one line ends in a stretch, so where the session has stopped that is the fault alone:
+// `the-streams-have` in the room `printing`.
+fn stream(s: Session) -> i32
+    ensures { λ r. ⌜ r ≡ descriptor (streamOf s) ⌝ }
+{
+    if s.stopped {
+        return STDERR_FILENO;
+    }
+    STDOUT_FILENO
+}
+
+// What a session has put is written out. Where that fails the session stops, and is else as it was.
+pub fn write_out(s: Session, out: &[u8]) -> Session
+    ensures { λ r. ⌜ (r ≡ s) ⊎ (r ≡ halted s) ⌝ }
+{
     let n = least(s.at, out.len());
-    io::write_all(STDOUT_FILENO, &out[..n])
+    if io::write_all(stream(s), &out[..n]) {
+        return s;
+    }
+    os::fail(b"standard output");
+    session::halted(s)
 }
 
 // A piece of input: how many bytes it has, and whether it is the last.
@@ -43,16 +66,23 @@ pub struct Piece {
     pub last: bool,
 }
 
-// How many bytes were read, of those that there is room for: none at the end, nor where it cannot be read, which is told.
-fn read_length(input: &mut [u8], fd: i32) -> usize
-    ensures { λ r. ⌜ r ≤ length (now (input .exit)) ⌝ }
+// What is read next: nothing at the end of the input. Where it cannot be read there is nothing more, and no line's end either: a line that is
+// not there whole is not obeyed.
+fn read_some(input: &mut [u8], fd: i32) -> Piece
+    ensures { λ r. ⌜ r .length ≤ length (now (input .exit)) ⌝ }
 {
     let got = libc::read(fd, input);
     if got < 0 {
-        os::fail(b"read");
-        return 0;
+        os::fail(b"the list");
+        return Piece {
+            length: 0,
+            last: true,
+        };
     }
-    io::count(got, input)
+    Piece {
+        length: io::count(got, input),
+        last: false,
+    }
 }
 
 // The next piece of input. The last line needs no newline: the last piece, behind the end of the input, is one.
@@ -60,12 +90,12 @@ pub fn read_piece(input: &mut [u8], fd: i32) -> Piece
     requires { ⌜ 0 < length (now input) ⌝ }
     ensures { λ r. ⌜ r .length ≤ length (now (input .exit)) ⌝ }
 {
-    let n = read_length(input, fd);
-    if n > 0 {
-        return Piece {
-            length: n,
-            last: false,
-        };
+    let p = read_some(input, fd);
+    if p.last {
+        return p;
+    }
+    if p.length > 0 {
+        return p;
     }
     input[0] = 10;
     Piece {
@@ -74,7 +104,7 @@ pub fn read_piece(input: &mut [u8], fd: i32) -> Piece
     }
 }
 
-// How many turns of a loop over the pieces are left: none behind the last piece, nor behind a line that was wrong.
+// How many turns of a loop over the pieces are left: none behind the last piece, nor where the session has stopped.
 pub fn turns_left(turns: u64, last: bool, stopped: bool) -> u64
     requires { ⌜ 0 < turns ⌝ }
     ensures { λ r. ⌜ r < turns ⌝ }

@@ -9,10 +9,9 @@ run-stretch-spec =
     (tie.spec
     (λ c κs. search needs)
     (λ c κs. search needs)
-    (λ c κs. search needs)
     (λ c. search needs)
     (λ c. search needs)
     (λ c. search needs)
     (λ c. search needs)
     (λ c. search needs)
-    (λ c. rw (c .before .before .before .before .before .before .before .before .before .before .before .before .before .before .before .before .before .before .emptied .ensures) at (c .before .before .before .before .before .before .before .before .before .before .before .before .run .ensures)))
+    (λ c. rw (c .before .before .before .before .before .before .before .before .before .before .before .before .before .before .before .before .emptied .ensures) at (c .before .before .before .before .before .before .before .before .before .before .run .ensures)))

@@ -14,4 +14,6 @@ read-piece-spec =
     (λ c. search needs)
     (λ c. search needs)
     (λ c. search needs)
-    (λ c. rw (length-set _ _ _) (omega (arith, c .before .before .before .read-length .kept, c .before .before .before .before .before .before .pre))))
+    (λ c. search needs)
+    (λ c. search needs)
+    (λ c. rw (length-set _ _ _) (omega (arith, c .before .before .before .before .before .read-some .kept, c .before .before .before .before .before .before .before .before .pre))))
