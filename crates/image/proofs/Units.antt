@@ -10,7 +10,7 @@ use lib.Dec.{eqb, leb, ltb}
 use Rattle.memory.proofs.Laws.{below-or-not}
 use Rattle.device.specs.Numbers.{verdictOf}
 use Rattle.device.specs.State.{goodBy}
-use Rattle.phases.specs.Fields.{flagsIn, kindIn, sizeIn, filledIn, usedIn}
+use Rattle.phases.specs.Fields.{flagsIn, kindIn, sizeIn, filledIn, aboveFilled, usedIn}
 use Rattle.phases.specs.Phases.{wordOf, cuOf, cuMost, cuKind, cuShaped, frameOf, ruOf, ruMost, ruFlags, restMost, ruShaped}
 use Rattle.phases.proofs.Units.{both}
 use Rattle.numerals.proofs.Laws.{or-zero}
@@ -241,19 +241,22 @@ module _ (n rest : ℕ) (h : n < 18446744073709551616) where
       (λ e.
       let v = both _ (ltb (filledIn rest) (sizeIn n)) e in
       let w = both _ (leb 14 (filledIn rest)) (v .0) in
-      let x = both _ (hasNextIn n (usedIn rest)) (w .0) in
+      let x = both _ (hasNextIn n (aboveFilled rest)) (w .0) in
       let y = both (leb rest 0xFFFFFF) (frameIs n 32) (x .0) in
       let f = frame-facts n 32 (y .1) in
       let m : rest ≤ 0xFFFFFF = leb-true _ _ (y .0) in
+      let u : usedIn rest ≡ aboveFilled rest = omega arith in
       ru-true 5 n rest
-      (record { tag = omega arith; most = omega arith; flags = f .0; kind = f .1; second = m; fits = rw (f .2, x .1, w .1, v .1) }))
+      (record { tag = omega arith; most = omega arith; flags = f .0; kind = f .1; second = m; fits = rw (f .2, u, x .1, w .1, v .1) }))
       (λ e.
       let f = ru-facts 5 n rest e in
       let m : rest ≤ 0xFFFFFF = f .second in
+      let u : usedIn rest ≡ aboveFilled rest = omega arith in
       let v = both _ (ltb (filledIn rest) (sizeIn n)) (f .fits) in
       let w = both _ (leb 14 (filledIn rest)) (v .0) in
       let x = both (frameFits (frameOf (wordOf n))) (hasNextIn n (usedIn rest)) (w .0) in
-      rw (le-leb rest 0xFFFFFF m, frame-true n 32 (f .flags) (f .kind) (x .0), x .1, w .1, v .1))
+      let g : hasNextIn n (aboveFilled rest) ≡ true = rw (← u) (x .1) in
+      rw (le-leb rest 0xFFFFFF m, frame-true n 32 (f .flags) (f .kind) (x .0), g, w .1, v .1))
 
   closing-same : closingIs n rest ≡ ruIs 6 n rest
   unfolding closingIs ruMost ruFlags restMost ruFits ruOf wordOf

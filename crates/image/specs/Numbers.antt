@@ -6,8 +6,9 @@ use Prim.Native.Nat.{ℕ, _+_}
 use lib.Dec.{eqb, leb, ltb}
 use Rattle.numerals.specs.Places.{field}
 use Rattle.device.specs.Limits.{addressLength, listedSize}
-use Rattle.phases.specs.Fields.{odd, flagsIn, kindIn, sizeIn, nextIn, sizedMost, filledIn, usedIn, filledMost}
-use Rattle.phases.specs.Phases.{wordOf, begunFlags, begunMost, actingMost, cuOf, cuShaped, heldFlags, storingFlags, closingFlags, frameOf, ruOf, ruShaped}
+use Rattle.phases.specs.Fields.{odd, flagsIn, kindIn, sizeIn, nextIn, sizedMost, filledIn, aboveFilled, filledMost}
+use Rattle.phases.specs.Phases.{wordOf, actingTag, sendingTag, endingTag, failingTag, begunFlags, begunMost, actingMost, cuOf, cuShaped}
+use Rattle.phases.specs.Phases.{heldTag, fillingTag, closingTag, lackingTag, heldFlags, storingFlags, closingFlags, frameOf, ruOf, ruShaped}
 use Rattle.packed.specs.Packed.{statusIs, marksIn, cuTagIn, ruTagIn}
 use Rattle.packed.specs.SetUp.{settingsEnd, settingsAt, minimumAt, ownAt, listedAt}
 use Rattle.packed.specs.Record.{lettersAt, statusAt, setupAt}
@@ -38,7 +39,10 @@ endingIs n = leb n sizedMost && ltb (flagsIn n) begunFlags && eqb (kindIn n) 0 &
 
 unfoldable pub begunIs : ℕ → ℕ → Bool
 begunIs t n =
-    cond (eqb t 3) (actingIs n) (cond (eqb t 4) (sendingIs n) (cond (eqb t 5) (endingIs n) (cond (eqb t 6) (leb n begunMost) false)))
+    cond (eqb t actingTag) (actingIs n)
+    (cond (eqb t sendingTag) (sendingIs n)
+    (cond (eqb t endingTag) (endingIs n)
+    (cond (eqb t failingTag) (leb n begunMost) false)))
 
 -- ---- the receive unit, by its tag
 
@@ -57,7 +61,7 @@ unfoldable pub fillingIs : ℕ → ℕ → Bool
 fillingIs n rest =
     leb rest filledMost
     && frameIs n storingFlags
-    && hasNextIn n (usedIn rest)
+    && hasNextIn n (aboveFilled rest)
     && leb 14 (filledIn rest)
     && ltb (filledIn rest) (sizeIn n)
 
@@ -69,10 +73,10 @@ lackingIs n rest = leb n sizedMost && eqb rest 0 && frameIs n storingFlags && lt
 
 unfoldable pub holdingIs : ℕ → ℕ → ℕ → Bool
 holdingIs t n rest =
-    cond (eqb t 4) (heldIs n rest)
-    (cond (eqb t 5) (fillingIs n rest)
-    (cond (eqb t 6) (closingIs n rest)
-    (cond (eqb t 7) (lackingIs n rest) false)))
+    cond (eqb t heldTag) (heldIs n rest)
+    (cond (eqb t fillingTag) (fillingIs n rest)
+    (cond (eqb t closingTag) (closingIs n rest)
+    (cond (eqb t lackingTag) (lackingIs n rest) false)))
 
 -- ---- a record
 

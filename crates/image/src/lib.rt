@@ -132,7 +132,7 @@ fn filling_is(n: u64, rest: u64) -> bool
 {
     (rest <= ru::FILLED_MOST)
         & frame_is(n, ru::STORING_FLAGS)
-        & goes_on(n, ru::used(rest))
+        & goes_on(n, ru::above_filled(rest))
         & (14 <= ru::filled(rest))
         & (ru::filled(rest) < packed::size_of(n))
 }

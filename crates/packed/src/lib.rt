@@ -19,7 +19,7 @@ ghost use Rattle.device.specs.declared.Units.{Units};
 ghost use Rattle.phases.specs.Fields as fields;
 ghost use Rattle.phases.specs.Fields.{odd};
 ghost use Rattle.phases.specs.Phases as phases;
-ghost use Rattle.packed.specs.Packed as kept;
+ghost use Rattle.packed.specs.Packed as packed;
 
 // The status: events, marks, the units' tags, the SCB's offset, the base. Then the command unit's word, and the receive unit's two.
 pub struct Packed {
@@ -66,53 +66,53 @@ const OFFSETS: u64 = 1 << 16;
 const BASES: u64 = 1 << 24;
 
 pub fn base(k: Packed) -> RealAddress
-    ensures { λ r. ⌜ r .0 ≡ kept.baseIn k ⌝ }
+    ensures { λ r. ⌜ r .0 ≡ packed.baseIn k ⌝ }
 {
     memory::recalled((k.status / BASE) as u32)
 }
 
 pub fn scb(k: Packed) -> Offset
-    ensures { λ r. ⌜ r .0 ≡ kept.scbIn k ⌝ }
+    ensures { λ r. ⌜ r .0 ≡ packed.scbIn k ⌝ }
 {
     Offset((k.status / SCB % OFFSETS) as u16)
 }
 
 // The marks: bit 0 initialised, bit 1 RU served last; and above them, in bits 7 to 4, the events.
 pub fn marks(k: Packed) -> u64
-    ensures { λ r. ⌜ r ≡ kept.marksIn k ⌝ }
+    ensures { λ r. ⌜ r ≡ packed.marksIn k ⌝ }
 {
     k.status / MARKS % MARK_SETS + EVENTS * (k.status / EVENTS % EVENT_SETS)
 }
 
 // The events as a number below 16.
 pub fn events(k: Packed) -> u64
-    ensures { λ r. ⌜ r ≡ kept.marksIn k / 2 ^ 4 ⌝ }
+    ensures { λ r. ⌜ r ≡ packed.marksIn k / 2 ^ 4 ⌝ }
 {
     k.status / EVENTS % EVENT_SETS
 }
 
 // Whether the first attention was.
 pub fn initialised(k: Packed) -> bool
-    ensures { λ r. ⌜ r ≡ odd (kept.marksIn k) ⌝ }
+    ensures { λ r. ⌜ r ≡ odd (packed.marksIn k) ⌝ }
 {
     marks(k) / INITIALISED % 2 == 1
 }
 
 // Whether RU was served at the last working turn.
 pub fn ru_last(k: Packed) -> bool
-    ensures { λ r. ⌜ r ≡ odd (kept.marksIn k / 2) ⌝ }
+    ensures { λ r. ⌜ r ≡ odd (packed.marksIn k / 2) ⌝ }
 {
     marks(k) / RU_LAST % 2 == 1
 }
 
 pub fn cu_tag(k: Packed) -> u64
-    ensures { λ r. ⌜ r ≡ kept.cuTagIn k ⌝ }
+    ensures { λ r. ⌜ r ≡ packed.cuTagIn k ⌝ }
 {
     k.status / CU % CU_TAGS
 }
 
 pub fn ru_tag(k: Packed) -> u64
-    ensures { λ r. ⌜ r ≡ kept.ruTagIn k ⌝ }
+    ensures { λ r. ⌜ r ≡ packed.ruTagIn k ⌝ }
 {
     k.status / RU % RU_TAGS
 }
@@ -124,7 +124,7 @@ const MARKS_END: u64 = MARKS * MARK_SETS;
 
 // Whether the bits of a status that nothing uses are zero.
 pub fn status_is(s: u64) -> bool
-    ensures { λ r. ⌜ r ≡ kept.statusIs s ⌝ }
+    ensures { λ r. ⌜ r ≡ packed.statusIs s ⌝ }
 {
     (s % EVENTS == 0) & (s / CU_END % 2 == 0) & (s / MARKS_END % 4 == 0)
 }
@@ -191,7 +191,7 @@ pub fn next_of(n: u64) -> Offset
 
 // The word of an offset alone.
 pub fn plain(o: Offset) -> u64
-    ensures { λ r. ⌜ kept.WordIs (phases.plain (o .0)) r ⌝ }
+    ensures { λ r. ⌜ packed.WordIs (phases.plain (o .0)) r ⌝ }
 {
     o.0 as u64
 }
@@ -208,7 +208,7 @@ pub fn raise(events: u64, raised: u64) -> u64
 
 // The status of its parts. What would not fit into its field is cut, though no caller has such a number.
 pub fn status_of(scb: u64, marks: u64, cu: u64, ru: u64, base: u64) -> u64
-    ensures { λ r. ⌜ r ≡ kept.statusBy (scb % 2 ^ 16) (marks % 2 ^ 8) (cu % 2 ^ 3) (ru % 2 ^ 8) (base % 2 ^ 24) ⌝ }
+    ensures { λ r. ⌜ r ≡ packed.statusBy (scb % 2 ^ 16) (marks % 2 ^ 8) (cu % 2 ^ 3) (ru % 2 ^ 8) (base % 2 ^ 24) ⌝ }
 {
     EVENTS * (marks % MARK_BITS / EVENTS)
         + CU * (cu % CU_TAGS)
@@ -220,7 +220,7 @@ pub fn status_of(scb: u64, marks: u64, cu: u64, ru: u64, base: u64) -> u64
 
 // The command unit was served: it is what its tag and word say, and events came up.
 pub fn after_cu(k: Packed, tag: u64, word: u64, raised: u64) -> Packed
-    ensures { λ r. ⌜ ((u : Units) (c : Cu) (by : Events) → kept.PackedIs u k → kept.CuIs c tag word → raised ≡ words.eventBits by → kept.PackedIs (kept.cuServed u c by) r) ⌝ }
+    ensures { λ r. ⌜ ((u : Units) (c : Cu) (by : Events) → packed.PackedIs u k → packed.CuIs c tag word → raised ≡ words.eventBits by → packed.PackedIs (packed.cuServed u c by) r) ⌝ }
 {
     let marks = marks(k) % RU_LAST + EVENTS * raise(events(k), raised % EVENT_SETS);
     Packed {
@@ -233,7 +233,7 @@ pub fn after_cu(k: Packed, tag: u64, word: u64, raised: u64) -> Packed
 
 // The receive unit was served: it is what its tag and words say, and events came up.
 pub fn after_ru(k: Packed, tag: u64, word: u64, rest: u64, raised: u64) -> Packed
-    ensures { λ r. ⌜ ((u : Units) (v : Ru) (by : Events) → kept.PackedIs u k → kept.RuIs v tag word rest → raised ≡ words.eventBits by → kept.PackedIs (kept.ruServed u v by) r) ⌝ }
+    ensures { λ r. ⌜ ((u : Units) (v : Ru) (by : Events) → packed.PackedIs u k → packed.RuIs v tag word rest → raised ≡ words.eventBits by → packed.PackedIs (packed.ruServed u v by) r) ⌝ }
 {
     let marks = marks(k) % RU_LAST + RU_LAST + EVENTS * raise(events(k), raised % EVENT_SETS);
     Packed {
@@ -246,7 +246,7 @@ pub fn after_ru(k: Packed, tag: u64, word: u64, rest: u64, raised: u64) -> Packe
 
 // The receive unit is what its tag and words say, and nothing else changed.
 pub fn with_ru(k: Packed, tag: u64, word: u64, rest: u64) -> Packed
-    ensures { λ r. ⌜ ((u : Units) (v : Ru) → kept.PackedIs u k → kept.RuIs v tag word rest → kept.PackedIs (change.withRu u v) r) ⌝ }
+    ensures { λ r. ⌜ ((u : Units) (v : Ru) → packed.PackedIs u k → packed.RuIs v tag word rest → packed.PackedIs (change.withRu u v) r) ⌝ }
 {
     Packed {
         status: status_of(k.status / SCB, marks(k), cu_tag(k), tag, k.status / BASE),

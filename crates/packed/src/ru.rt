@@ -7,7 +7,7 @@ ghost use Rattle.memory.specs.declared.Offset.{Offset};
 ghost use Rattle.device.specs.Numbers.{verdictOf};
 ghost use Rattle.device.specs.declared.Frame.{Frame};
 ghost use Rattle.device.specs.declared.Storing.{Storing};
-ghost use Rattle.phases.specs.Fields.{restBy, filledIn, usedIn};
+ghost use Rattle.phases.specs.Fields.{restBy, filledIn, aboveFilled, usedIn};
 ghost use Rattle.phases.specs.Phases.{wordOf, plain, frameOf, storingOf, frameNumber, frameWord, storingWith, storingWord};
 ghost use Rattle.packed.specs.Packed.{WordIs};
 
@@ -157,6 +157,13 @@ pub fn filled(rest: u64) -> u64
     ensures { λ r. ⌜ r ≡ filledIn rest ⌝ }
 {
     rest % USED
+}
+
+// The buffers used, in a word that is no larger than it may be.
+pub fn above_filled(rest: u64) -> u64
+    ensures { λ r. ⌜ r ≡ aboveFilled rest ⌝ }
+{
+    rest / USED
 }
 
 pub fn used(rest: u64) -> u64

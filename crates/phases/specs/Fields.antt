@@ -61,8 +61,11 @@ restBy filled used = filled + 2 ^ 16 * used
 abbrev pub filledIn : ℕ → ℕ
 filledIn rest = rest % 2 ^ 16
 
+abbrev pub aboveFilled : ℕ → ℕ
+aboveFilled rest = rest / 2 ^ 16
+
 abbrev pub usedIn : ℕ → ℕ
-usedIn rest = rest / 2 ^ 16 % 2 ^ 8
+usedIn rest = aboveFilled rest % 2 ^ 8
 
 -- the largest
 abbrev pub filledMost : ℕ

@@ -74,15 +74,28 @@ actingWord b a = begunWord b (actionNumber a) 0 0
 abbrev pub begunWith : Offset → (flags : ℕ) → Begun
 begunWith o flags = record { block = o; el = flagAt 2 flags; suspend = flagAt 1 flags; interrupt = odd flags; pausing = false }
 
+-- the tags of the phases in which a command is begun
+abbrev pub actingTag : ℕ
+actingTag = 3
+
+abbrev pub sendingTag : ℕ
+sendingTag = 4
+
+abbrev pub endingTag : ℕ
+endingTag = 5
+
+abbrev pub failingTag : ℕ
+failingTag = 6
+
 -- the tag of a phase
 abbrev pub cuTag : Cu → ℕ
 cuTag cu.Idle = 0
 cuTag (cu.Suspended o) = 1
 cuTag (cu.Waiting o) = 2
-cuTag (cu.Acting b a) = 3
-cuTag (cu.Sending b w) = 4
-cuTag (cu.Ending b n) = 5
-cuTag (cu.Failing b) = 6
+cuTag (cu.Acting b a) = actingTag
+cuTag (cu.Sending b w) = sendingTag
+cuTag (cu.Ending b n) = endingTag
+cuTag (cu.Failing b) = failingTag
 
 -- its word; a Transmit has the descriptors used, the bytes in the outgoing area and the next descriptor
 unfoldable pub cuWord : Cu → Word
@@ -110,9 +123,9 @@ cuOf t w =
     cond (eqb t 0) cu.Idle
     (cond (eqb t 1) (cu.Suspended (record { 0 = w .at }))
     (cond (eqb t 2) (cu.Waiting (record { 0 = w .at }))
-    (cond (eqb t 3) (cu.Acting (begunOf w) (actionAt w))
-    (cond (eqb t 4) (cu.Sending (begunOf w) (sendingOf w))
-    (cond (eqb t 5) (cu.Ending (begunOf w) (w .size)) (cu.Failing (begunOf w)))))))
+    (cond (eqb t actingTag) (cu.Acting (begunOf w) (actionAt w))
+    (cond (eqb t sendingTag) (cu.Sending (begunOf w) (sendingOf w))
+    (cond (eqb t endingTag) (cu.Ending (begunOf w) (w .size)) (cu.Failing (begunOf w)))))))
 
 -- a begun command has four flags; the largest that has nothing above them, and the largest with a command below 8
 abbrev pub begunFlags : ℕ
@@ -124,18 +137,18 @@ begunMost = 2 ^ 20 - 1
 abbrev pub actingMost : ℕ
 actingMost = 2 ^ 27 - 1
 
--- a tag's largest number, and its kinds: the action of 3 is no Transmit, and 5 has no kind, though its size stands above it
+-- a tag's largest number, and its kinds: an action is no Transmit, and Ending has no kind, though its size stands above it
 unfoldable pub cuMost : ℕ → ℕ
 cuMost t =
     cond (eqb t 0) 0
     (cond (eqb t 1) offsetMost
     (cond (eqb t 2) offsetMost
-    (cond (eqb t 3) actingMost
-    (cond (eqb t 4) wordMost
-    (cond (eqb t 5) sizedMost begunMost)))))
+    (cond (eqb t actingTag) actingMost
+    (cond (eqb t sendingTag) wordMost
+    (cond (eqb t endingTag) sizedMost begunMost)))))
 
 unfoldable pub cuKind : ℕ → ℕ → Bool
-cuKind t kind = cond (eqb t 3) (not (eqb kind 4)) (cond (eqb t 5) (eqb kind 0) (ltb t 7))
+cuKind t kind = cond (eqb t actingTag) (not (eqb kind 4)) (cond (eqb t endingTag) (eqb kind 0) (ltb t 7))
 
 -- a tag and a number are those of a unit
 unfoldable pub cuShaped : ℕ → ℕ → Bool
@@ -183,16 +196,29 @@ storingWord s next full =
       next = next;
     }
 
+-- the tags of the phases in which a frame is held
+abbrev pub heldTag : ℕ
+heldTag = 4
+
+abbrev pub fillingTag : ℕ
+fillingTag = 5
+
+abbrev pub closingTag : ℕ
+closingTag = 6
+
+abbrev pub lackingTag : ℕ
+lackingTag = 7
+
 -- the tag of a phase
 abbrev pub ruTag : Ru → ℕ
 ruTag ru.Idle = 0
 ruTag (ru.Suspended o) = 1
 ruTag ru.NoResources = 2
 ruTag (ru.Ready o) = 3
-ruTag (ru.Held o f p) = 4
-ruTag (ru.Filling s w) = 5
-ruTag (ru.Closing s o full) = 6
-ruTag (ru.Lacking s) = 7
+ruTag (ru.Held o f p) = heldTag
+ruTag (ru.Filling s w) = fillingTag
+ruTag (ru.Closing s o full) = closingTag
+ruTag (ru.Lacking s) = lackingTag
 
 -- its word
 unfoldable pub ruWord : Ru → Word
@@ -236,9 +262,9 @@ ruOf t w rest =
     (cond (eqb t 1) (ru.Suspended (record { 0 = w .at }))
     (cond (eqb t 2) ru.NoResources
     (cond (eqb t 3) (ru.Ready (record { 0 = w .at }))
-    (cond (eqb t 4) (ru.Held (record { 0 = w .at }) (frameOf w) (w .first))
-    (cond (eqb t 5) (ru.Filling (storingOf w) (fillingOf w rest))
-    (cond (eqb t 6) (ru.Closing (storingOf w) (record { 0 = w .next }) (w .sixth)) (ru.Lacking (storingOf w))))))))
+    (cond (eqb t heldTag) (ru.Held (record { 0 = w .at }) (frameOf w) (w .first))
+    (cond (eqb t fillingTag) (ru.Filling (storingOf w) (fillingOf w rest))
+    (cond (eqb t closingTag) (ru.Closing (storingOf w) (record { 0 = w .next }) (w .sixth)) (ru.Lacking (storingOf w))))))))
 
 -- a held frame has three flags, a begun one five, and six once all is stored
 abbrev pub heldFlags : ℕ
@@ -257,14 +283,14 @@ ruMost t =
     (cond (eqb t 1) offsetMost
     (cond (eqb t 2) 0
     (cond (eqb t 3) offsetMost
-    (cond (eqb t 5) wordMost
-    (cond (eqb t 6) wordMost sizedMost)))))
+    (cond (eqb t fillingTag) wordMost
+    (cond (eqb t closingTag) wordMost sizedMost)))))
 
 unfoldable pub ruFlags : ℕ → ℕ
-ruFlags t = cond (eqb t 4) heldFlags (cond (eqb t 6) closingFlags storingFlags)
+ruFlags t = cond (eqb t heldTag) heldFlags (cond (eqb t closingTag) closingFlags storingFlags)
 
 unfoldable pub restMost : ℕ → ℕ
-restMost t = cond (eqb t 5) filledMost 0
+restMost t = cond (eqb t fillingTag) filledMost 0
 
 -- a tag and two numbers are those of a unit
 unfoldable pub ruShaped : ℕ → ℕ → ℕ → Bool

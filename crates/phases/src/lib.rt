@@ -1,5 +1,5 @@
 // No code but the type below: the definitions of a unit as a tag and words of eight bytes, and back, in which what a phase uses stands below
-// what it does not use, which is zero. The rooms kept and image rest on them.
+// what it does not use, which is zero. The rooms packed and image rest on them.
 
 // A unit's eight bytes: an offset, six flags, a small number, a size, and another offset.
 pub struct Word {
