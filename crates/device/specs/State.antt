@@ -69,6 +69,13 @@ isHolding (ru.Filling s w) = true
 isHolding (ru.Closing s o e) = true
 isHolding (ru.Lacking s) = true
 
+-- 01, "Turns": RU has work while a frame is held, CU while Active
+abbrev pub ruWorks : Ru → Bool
+ruWorks u = isHolding u
+
+abbrev pub cuWorks : Cu → Bool
+cuWorks u = isActive (cuState u)
+
 -- 01, "Arrival and storing": neither short nor with a bad verdict
 abbrev pub goodBy : Bool → Verdict → Bool
 goodBy true v = false

@@ -21,7 +21,7 @@ use Rattle.receive.specs.Buffer.{buffer}
 use Rattle.receive.specs.End.{fateOf, settles, proceeds, close, lack}
 use Rattle.receive.specs.Service.{serviceBy, service}
 use Rattle.chip.specs.World.{World}
-use Rattle.chip.specs.Turn.{statusBy, raisedIn, concluded, receiveUnits, receiveTurn, turnOf}
+use Rattle.chip.specs.Turn.{changes, statusBy, raisedIn, concluded, receiveUnits, receiveTurn, turnOf}
 use Rattle.traces.specs.Event.{Event, step}
 use Rattle.progress.specs.Holder.{run}
 use Rattle.closure.specs.Driven.{Lending}
@@ -88,7 +88,8 @@ received f w e φ =
     let s = serviceBy (u .ru) p (w .memory) in
     let x = ends (u .ru) p (w .memory) φ in
     let g : x .storing .frame ≡ f = Option·some-injective (x .storing .frame) f (sym (x .own) ∙ e) in
-    let status = statusBy (anyOf (s .raised)) (raisedIn (receiveUnits (w .device) s) (s .raised)) in
+    let after = receiveUnits (w .device) s in
+    let status = statusBy (anyOf (s .raised) || changes u after) (raisedIn after (s .raised)) in
     record {
       storing = x .storing;
       own = g;
