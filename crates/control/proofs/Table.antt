@@ -50,7 +50,7 @@ suspend-leads (cu.Sending b w) h = absurd (true≢false h)
 suspend-leads (cu.Ending b n) h = absurd (true≢false h)
 suspend-leads (cu.Failing b) h = absurd (true≢false h)
 
-pub cu-abort-leads : (u : Cu) → cuState cu.Idle ≡ cuNext abort (cuState u)
+cu-abort-leads : (u : Cu) → cuState cu.Idle ≡ cuNext abort (cuState u)
 cu-abort-leads cu.Idle = refl
 cu-abort-leads (cu.Suspended o) = refl
 cu-abort-leads (cu.Waiting o) = refl
