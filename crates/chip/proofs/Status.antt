@@ -210,12 +210,12 @@ receive-due d m holding =
     (λ h. unchanged (d .units) (receiveUnits d s) refl (ru-stays (d .units .ru) (receive.partOf (d .units) holding) m refl h))
 
 -- the writes of a working turn, as the code makes them: the status where an event is raised
-abbrev pub told : List Write → Events → Units → List Write
-told writes raised after = writes ++ statusBy (anyOf raised) (raisedIn after raised)
+abbrev pub writtenIfRaised : List Write → Events → Units → List Write
+writtenIfRaised writes raised after = writes ++ statusBy (anyOf raised) (raisedIn after raised)
 
 pub command-memory : (w : World) (report : ℕ)
     → let s = command-service.service (command.partOf (w .device) (w .outgoing)) (w .memory) report in
-    commandTurn w report .memory ≡ apply (told (s .writes) (s .raised) (commandUnits (w .device) s)) (w .memory)
+    commandTurn w report .memory ≡ apply (writtenIfRaised (s .writes) (s .raised) (commandUnits (w .device) s)) (w .memory)
 unfolding commandTurn
 command-memory w report =
     let s = command-service.service (command.partOf (w .device) (w .outgoing)) (w .memory) report in
@@ -224,7 +224,7 @@ command-memory w report =
 
 pub receive-memory : (w : World)
     → let s = receive-service.service (receive.partOf (w .device .units) (w .holding)) (w .memory) in
-    receiveTurn w .memory ≡ apply (told (s .writes) (s .raised) (receiveUnits (w .device) s)) (w .memory)
+    receiveTurn w .memory ≡ apply (writtenIfRaised (s .writes) (s .raised) (receiveUnits (w .device) s)) (w .memory)
 unfolding receiveTurn
 receive-memory w =
     let s = receive-service.service (receive.partOf (w .device .units) (w .holding)) (w .memory) in
