@@ -25,6 +25,7 @@ use Rattle.control.specs.Obey.{obeyCuc}
 use Rattle.attention.specs.Attention.{settledWrites}
 use Rattle.chip.specs.Call.{Call, reset, attention, arrive, turn, ran}
 use Rattle.chip.specs.World.{World, Ran}
+use Rattle.chip.specs.Turn.{servedOf, isReceive}
 use Rattle.frames.specs.Arrival.{inScb, unitOf}
 
 -- a fate of a held frame, not of an arriving one
@@ -76,17 +77,11 @@ endIsNext (ru.Filling s w) = false
 endIsNext (ru.Closing s free full) = true
 endIsNext (ru.Lacking s) = true
 
--- RU has work while a frame is held, CU while Active. If both have, the unit not served at the last working turn is served
-abbrev pub servedRu : (cuWorks ruWorks rulast : Bool) → Bool
-servedRu cuWorks false rulast = false
-servedRu false true rulast = true
-servedRu true true rulast = not rulast
-
 abbrev pub ends : Call → World → Bool
 ends reset w = false
 ends attention w = false
 ends (arrive f v) w = false
-ends (turn report) w = servedRu (isActive (cuState (w .device .units .cu))) (isHolding (unitOf w)) (w .device .units .rulast) && endIsNext (unitOf w)
+ends (turn report) w = isReceive (servedOf (w .device .units)) && endIsNext (unitOf w)
 
 -- ---- it stays held
 
