@@ -1,6 +1,6 @@
 -- What the control codes do to a unit, over its phases: 01, "The SCB". The paper's table stands here row by row, a definition for each code and
 -- unit. Assumes nothing.
-use mathlib.Core.Bool.{Bool, true, false}
+use mathlib.Core.Bool.{true}
 use mathlib.Core.List.{List, [], _∷_, map}
 use Rattle.memory.specs.Memory.{Write, wordTo}
 use Rattle.memory.specs.Address.{place}

@@ -7,7 +7,6 @@ use mathlib.Core.Logic.{_⊎_, inl, inr}
 use Prim.Native.Nat.{ℕ, suc}
 use lib.Dec.{eqb, ltb}
 use lib.ListN.{length}
-use Rattle.memory.specs.Memory.{apply}
 use Rattle.memory.specs.declared.Offset.{Offset}
 use Rattle.scb.specs.Control.{Code, codeOf, start, resume, suspend, abort, other}
 use Rattle.scb.specs.Words.{resets, ruc, cuNumber, ruNumber, eventBits}
@@ -36,7 +35,7 @@ use Rattle.chip.specs.Turn.{servedBy, turnBy, turnOf, commandTurn, receiveTurn,
 use Rattle.chip.specs.World.{World, Ran, resetOf}
 use Rattle.filter.specs.Match.{matches}
 use Rattle.frames.specs.Arrival.{unitOf, settingsOf}
-use Rattle.frames.specs.Held.{ofHeld, chosen, heldFates, forEach, FatesOfHeld, commandOf, loses, Lost, by-resetting, by-abort, GoodFate, BadFate}
+use Rattle.frames.specs.Held.{ofHeld, chosen, heldFates, FatesOfHeld, commandOf, loses, Lost, by-resetting, by-abort, GoodFate, BadFate}
 use Rattle.frames.specs.Held as held
 use Rattle.frames.proofs.Held.{none≢one, or-left, or-right, held-saved, held-fate, good-of, bad-of, goes-on, attended, obeyed, obeyedRuc, to-attend, served-as}
 

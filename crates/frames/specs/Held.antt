@@ -1,7 +1,7 @@
 -- What a call can make of a held frame: 01, "Arrival and storing" and "The SCB". A fate is read from the outcome that also gives the call's writes:
 -- each statement ties the outcome's fates to memory and record as the call leaves them. Assumes nothing.
 use mathlib.Core.Path.{_≡_}
-use mathlib.Core.Bool.{Bool, true, false, not, _&&_, _||_}
+use mathlib.Core.Bool.{Bool, true, false, _&&_, _||_}
 use mathlib.Core.List.{List, [], _∷_, _++_, map}
 use Prim.Native.Nat.{ℕ}
 use lib.Dec.{eqb}
@@ -11,7 +11,7 @@ use Rattle.memory.specs.Memory.{Write, bytesTo, wordTo, wordAt, countTo, apply}
 use Rattle.memory.specs.declared.Offset.{Offset}
 use Rattle.scb.specs.Words.{bit, scbStatusAt, scbCommandAt, statusWord, resets, ruc}
 use Rattle.device.specs.Limits.{header}
-use Rattle.device.specs.State.{cuState, ruState, isActive, isHolding, heldIn, fresh}
+use Rattle.device.specs.State.{cuState, ruState, heldIn, fresh}
 use Rattle.device.specs.declared.Fate.{Fate}
 use Rattle.device.specs.declared.Fate.the-variants as fate
 use Rattle.device.specs.declared.Frame.{Frame}
