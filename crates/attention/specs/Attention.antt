@@ -60,25 +60,30 @@ leaving cu ru = record { cx = false; fr = false; cna = cu; rnr = ru }
 abbrev pub settledWrites : Units → List Write
 settledWrites u = statusTo u ∷ wordTo (ofScb u scbCommandAt) 0x0000 ∷ []
 
--- an attention, in order: read command; if RESET, write command 0 and become as after reset, nothing else; clear acknowledged events; obey CUC;
--- obey RUC, on memory as CUC left it; write status; write command 0. An edge is reported when it leaves any event set
+-- an attention, in order, its command being read; an edge is reported when it leaves any event set
 unfoldable pub attendBy : (reset : Bool) → Device → (command : ℕ) → List ℕ → Attended
 attendBy true d command m =
+    -- if RESET, write command 0 and become as after reset, nothing else
     record {
       outcome = outcomeOf fresh (answered 0 false) (lostBy fate.Reset (isHolding (d .units .ru)) false);
       writes = wordTo (ofScb (d .units) scbCommandAt) 0x0000 ∷ [];
     }
 attendBy false d command m =
+    -- clear acknowledged events
     let cleared = acknowledged (d .units .events) command in
+    -- obey CUC; obey RUC, on memory as CUC left it
     let c = obeyCuc (d .units) command m in
     let r = obeyRuc (d .units) command (apply (c .writes) m) in
+    -- the units after that, and what an abort lost
     let after = withEvents (withRu (withCu (d .units) (c .unit)) (r .unit)) (raise cleared (leaving (c .left) (r .left))) in
     let lost = lostBy fate.Aborted (isHolding (d .units .ru)) (isHolding (r .unit)) in
+    -- write status; write command 0
     record {
       outcome = outcomeOf (withUnits d after) (answered 0 (anyOf (after .events))) lost;
       writes = c .writes ++ r .writes ++ settledWrites after;
     }
 
+-- read command; if RESET ..
 unfoldable pub attend : Device → List ℕ → Attended
 attend d m =
     let command = wordAt m (ofScb (d .units) scbCommandAt) in attendBy (resets command) d command m

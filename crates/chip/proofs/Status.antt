@@ -1,6 +1,6 @@
 -- 01, "The SCB": status is written at every turn that raises an event or changes a unit's state. The second adds nothing to the first: a turn that
 -- raises nothing leaves both units' states as they were. So the code writes it where an event is raised. Assumes nothing.
-use mathlib.Core.Path.{_≡_, refl, sym, ap, _∙_}
+use mathlib.Core.Path.{_≡_, refl, ap}
 use mathlib.Core.Bool.{Bool, true, false, not, _||_, true≢false, false≢true}
 use mathlib.Core.List.{List, [], _∷_, _++_}
 use Prim.Native.Nat.{ℕ}
@@ -15,7 +15,7 @@ use Rattle.scb.specs.declared.CuState.the-variants as cus
 use Rattle.scb.specs.declared.RuState.{RuState}
 use Rattle.scb.specs.declared.RuState.the-variants as rus
 use Rattle.device.specs.Answers.{isStored}
-use Rattle.device.specs.State.{cuState, ruState, isActive, isReady, isHolding}
+use Rattle.device.specs.State.{cuState, ruState, isActive, isReady}
 use Rattle.device.specs.declared.Begun.{Begun}
 use Rattle.device.specs.declared.Cu.{Cu}
 use Rattle.device.specs.declared.Cu.the-variants as cu

@@ -5,7 +5,7 @@ use mathlib.Core.List.{List, [], _++_}
 use Prim.Native.Nat.{ℕ, _<_}
 use native.Mathlib.Omega.{arith}
 use borrow.Author.Tests.{lt-ltb, ltb-true}
-use lib.Dec.{eqb, ltb}
+use lib.Dec.{ltb}
 use Rattle.memory.specs.Address.{beyond, offsetAt}
 use Rattle.memory.specs.Memory.{wordAt, apply}
 use Rattle.memory.specs.declared.Offset.{Offset}
@@ -13,8 +13,7 @@ use Rattle.memory.specs.declared.RealAddress.{RealAddress}
 use Rattle.memory.proofs.Bytes.{Bytes, AllBytes, all-append, apply-bytes, field-bound, digits-bytes, bytes-cons, bytes-nil}
 use Rattle.scb.specs.Words.{cblAt, rfaAt, scbCommandAt, cuc, ruc, resets}
 use Rattle.scb.specs.Control.{Code, codeOf, start, resume, suspend, abort, other}
-use Rattle.device.specs.Change.{withUnits, pausingBegun, pausingStoring}
-use Rattle.device.specs.State.{cuState, ruState}
+use Rattle.device.specs.Change.{pausingBegun, pausingStoring}
 use Rattle.device.specs.declared.Cu.{Cu}
 use Rattle.device.specs.declared.Cu.the-variants as cu
 use Rattle.device.specs.declared.Device.{Device}

@@ -7,7 +7,6 @@ use mathlib.Core.Logic.{_⊎_, inl, inr}
 use Prim.Native.Nat.{ℕ}
 use lib.Dec.{eqb, ltb}
 use lib.ListN.{length}
-use Rattle.memory.specs.Memory.{apply}
 use Rattle.memory.specs.declared.Offset.{Offset}
 use Rattle.scb.specs.Control.{Code, codeOf, start, resume, suspend, abort, other}
 use Rattle.scb.specs.Words.{resets, ruc, cuNumber, ruNumber, eventBits}

@@ -12,10 +12,8 @@ use Rattle.memory.specs.declared.RealAddress.{RealAddress}
 use Rattle.memory.proofs.Fields.{Apart, AllApart}
 use Rattle.memory.proofs.Laws.{length-apply}
 use Rattle.scb.specs.Control.{Code, codeOf, start, resume, suspend, abort, other}
-use Rattle.scb.specs.Words.{cuc, ruc, resets, scbCommandAt, cblAt}
-use Rattle.scb.specs.declared.RuState.{RuState}
-use Rattle.scb.specs.declared.RuState.the-variants as rus
-use Rattle.device.specs.State.{cuState, ruState, isActive, isHolding}
+use Rattle.scb.specs.Words.{ruc, resets, scbCommandAt, cblAt}
+use Rattle.device.specs.State.{cuState, isActive, isHolding}
 use Rattle.device.specs.Numbers.{actionNumber}
 use Rattle.device.specs.declared.Action.the-variants as action
 use Rattle.device.specs.declared.Cu.{Cu}

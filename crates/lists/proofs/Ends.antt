@@ -10,7 +10,6 @@ use Rattle.memory.specs.Memory.{wordAt, Write, wordTo, apply}
 use Rattle.memory.specs.Address.{place}
 use Rattle.memory.specs.declared.Offset.{Offset}
 use Rattle.memory.specs.declared.RealAddress.{RealAddress}
-use Rattle.memory.proofs.Laws.{apply-append}
 use Rattle.scb.specs.Words.{bit}
 use Rattle.device.specs.Numbers.{actionOf, actionNumber}
 use Rattle.device.specs.State.{cuState, isActive}

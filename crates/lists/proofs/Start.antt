@@ -10,7 +10,7 @@ use Rattle.memory.specs.Address.{offsetAt}
 use Rattle.memory.specs.declared.Offset.{Offset}
 use Rattle.memory.proofs.Laws.{length-apply}
 use Rattle.scb.specs.Control.{codeOf}
-use Rattle.scb.specs.Words.{scbCommandAt, cblAt, cuc, resets}
+use Rattle.scb.specs.Words.{scbCommandAt, cblAt, cuc}
 use Rattle.device.specs.State.{cuState, isActive}
 use Rattle.device.specs.declared.Cu.{Cu}
 use Rattle.device.specs.declared.Cu.the-variants as cu
