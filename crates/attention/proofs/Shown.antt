@@ -7,7 +7,7 @@ use lib.Dec.{T, eqb}
 use lib.ListN.{replicate, getD}
 use Rattle.memory.specs.Address.{place, beyond}
 use Rattle.memory.specs.Memory.{byteAt, putByte, bytesAt, putBytes, value, digits, fieldAt, wordAt, Write, wordTo, apply}
-use Rattle.scb.specs.Control.{cuNext, ruNext}
+use Rattle.scb.specs.Control.{codeOf}
 use Rattle.scb.specs.Words.{bitsAt, joined, acknowledged, anyOf, eventBits, statusWord}
 use Rattle.scb.specs.declared.Events.{Events}
 use Rattle.device.specs.Change.{initialisedAt, withUnits, withAddresses, withCu}
@@ -19,9 +19,9 @@ use Rattle.device.specs.declared.Device.{Device}
 use Rattle.device.specs.declared.Ru.{Ru}
 use Rattle.device.specs.declared.Ru.the-variants as ru
 use Rattle.device.specs.declared.Units.{Units}
-use Rattle.control.specs.Obey.{cuFirst, obeyCuc, ruFirst, obeyRuc}
+use Rattle.control.specs.Obey.{obeyCuc, obeyRuc}
 use Rattle.attention.specs.Status.{statusTo}
-use Rattle.attention.specs.Attention.{Attended, iscpOf, initialise, resetBy, unitsAfter, obey, attend, attention}
+use Rattle.attention.specs.Attention.{Attended, iscpOf, initialise, attendBy, attend, attention}
 
 abbrev given : List Write → List ℕ
 given ws = apply ws (replicate 256 0)
@@ -72,12 +72,12 @@ pub resetsAlone : T (eqb (wordAt (left (events true false false false) acting 0x
     && eqb (wordAt (left (events true false false false) acting 0x8480) 0x36) 0
     && not (attended (events true false false false) acting 0x8480 .outcome .answer .edge)
     && eqb (getD (attended (events true false false false) acting 0x8480 .outcome .device .own) 0 0) 255)
-unfolding byteAt putByte bytesAt putBytes value digits fieldAt place bitsAt resetBy attend attention
+unfolding byteAt putByte bytesAt putBytes value digits fieldAt place bitsAt attendBy attend attention
 resetsAlone = tt
 
 -- clear acknowledged events; obey CUC: a CNA that the ABORT raises stays, though CNA was acknowledged
 pub acknowledgedBefore : T (eqb (wordAt (left (events false false true true) acting 0x2400) 0x30) 0x3000)
-unfolding byteAt putByte bytesAt putBytes value digits fieldAt place cuNext ruNext bitsAt joined acknowledged eventBits statusWord cuFirst obeyCuc ruFirst obeyRuc statusTo unitsAfter obey attend attention
+unfolding byteAt putByte bytesAt putBytes value digits fieldAt place codeOf bitsAt joined acknowledged eventBits statusWord obeyCuc obeyRuc statusTo attendBy attend attention
 acknowledgedBefore = tt
 
 -- an edge is reported when an attention leaves any event set, raised before or now; with all acknowledged none is
@@ -85,7 +85,7 @@ abbrev edge : Cu → (command : ℕ) → Bool
 edge c command = attended (events true false false false) c command .outcome .answer .edge
 
 pub edgeWhileSet : T (edge cu.Idle 0 && not (edge cu.Idle 0x8000) && edge acting 0x8400)
-unfolding byteAt putByte bytesAt putBytes value digits fieldAt place cuNext ruNext bitsAt joined acknowledged anyOf eventBits statusWord cuFirst obeyCuc ruFirst obeyRuc statusTo unitsAfter obey attend attention
+unfolding byteAt putByte bytesAt putBytes value digits fieldAt place codeOf bitsAt joined acknowledged anyOf eventBits statusWord obeyCuc obeyRuc statusTo attendBy attend attention
 edgeWhileSet = tt
 
 -- obey CUC; obey RUC: a START finds as RFA offset what the abort before it wrote there
@@ -100,5 +100,5 @@ readyAt (ru.Closing s free full) = 0
 readyAt (ru.Lacking s) = 0
 
 pub cucBeforeRuc : T (eqb (readyAt (attended (events false false false false) acting 0x0410 .outcome .device .units .ru)) 0x9000)
-unfolding byteAt putByte bytesAt putBytes value digits fieldAt place cuNext ruNext bitsAt acknowledged cuFirst obeyCuc ruFirst obeyRuc unitsAfter obey attend attention
+unfolding byteAt putByte bytesAt putBytes value digits fieldAt place codeOf bitsAt acknowledged obeyCuc obeyRuc attendBy attend attention
 cucBeforeRuc = tt

@@ -6,14 +6,14 @@ use lib.Dec.{T, eqb}
 use lib.ListN.{replicate}
 use Rattle.memory.specs.Address.{place}
 use Rattle.memory.specs.Memory.{byteAt, putByte, bytesAt, putBytes, value, digits, fieldAt, wordAt, wordTo, apply}
-use Rattle.scb.specs.Control.{cuNext, ruNext}
+use Rattle.scb.specs.Control.{codeOf}
 use Rattle.scb.specs.Words.{bitsAt, joined, acknowledged, eventBits, statusWord, noEvents}
 use Rattle.device.specs.Change.{initialisedAt, withUnits}
 use Rattle.device.specs.State.{fresh, freshUnits}
 use Rattle.device.specs.declared.Device.{Device}
-use Rattle.control.specs.Obey.{cuFirst, obeyCuc, ruFirst, obeyRuc}
+use Rattle.control.specs.Obey.{obeyCuc, obeyRuc}
 use Rattle.attention.specs.Status.{statusTo}
-use Rattle.attention.specs.Attention.{unitsAfter, obey, attend, attention}
+use Rattle.attention.specs.Attention.{attendBy, attend, attention}
 
 -- an SCB at 30h with base 0, both units Idle
 abbrev ready : Device
@@ -31,5 +31,5 @@ left = apply (attention ready given .writes) given
 
 -- Clearing a counter at START: all four are as they were, both units go on
 pub startClearsNothing : T (eqb (wordAt left 0x30) 0x0240 && eqb (wordAt left 0x38) 5 && eqb (wordAt left 0x3A) 5 && eqb (wordAt left 0x3C) 5 && eqb (wordAt left 0x3E) 5)
-unfolding byteAt putByte bytesAt putBytes value digits fieldAt place cuNext ruNext bitsAt joined acknowledged eventBits statusWord cuFirst obeyCuc ruFirst obeyRuc statusTo unitsAfter obey attend attention
+unfolding byteAt putByte bytesAt putBytes value digits fieldAt place codeOf bitsAt joined acknowledged eventBits statusWord obeyCuc obeyRuc statusTo attendBy attend attention
 startClearsNothing = tt

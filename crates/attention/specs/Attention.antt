@@ -11,14 +11,11 @@ use Rattle.scb.specs.declared.Events.{Events}
 use Rattle.device.specs.Answers.{answered, Outcome, outcomeOf}
 use Rattle.device.specs.Change.{withCu, withRu, withEvents, withUnits, initialisedAt}
 use Rattle.device.specs.State.{heldIn, fresh}
-use Rattle.device.specs.declared.Cu.{Cu}
 use Rattle.device.specs.declared.Device.{Device}
-use Rattle.device.specs.declared.Fate.{Fate}
 use Rattle.device.specs.declared.Fate.the-variants as fate
-use Rattle.device.specs.declared.Ru.{Ru}
 use Rattle.device.specs.declared.Units.{Units}
 use Rattle.control.specs.Control.{lostBy}
-use Rattle.control.specs.Obey.{ofScb, Obeyed, obeyCuc, obeyRuc}
+use Rattle.control.specs.Obey.{ofScb, obeyCuc, obeyRuc}
 use Rattle.attention.specs.Status.{statusTo}
 
 -- what an attention comes to: its outcome, and the writes in their order
@@ -41,60 +38,51 @@ abbrev pub initialWrites : RealAddress → RealAddress → Offset → List Write
 initialWrites iscp base scb =
     bytesTo (beyond iscp 0) (0 ∷ []) ∷ wordTo (place base scb scbStatusAt) 0xA000 ∷ wordTo (place base scb scbCommandAt) 0x0000 ∷ []
 
-abbrev pub initialisedBy : Device → RealAddress → RealAddress → Offset → Attended
-initialisedBy d iscp base scb =
+-- ISCP: BUSY byte +0, SCB offset +2, SCB base (real) +4. It doesn't obey the command word
+unfoldable pub initialise : Device → List ℕ → Attended
+initialise d m =
+    let iscp = iscpOf m in
+    let scb = offsetAt m (beyond iscp 2) in
+    let base = addressAt m (beyond iscp 4) in
     record {
       outcome = outcomeOf (withUnits d (initialisedAt (d .units) base scb initialEvents)) (answered 0 true) [];
       writes = initialWrites iscp base scb;
     }
 
--- ISCP: BUSY byte +0, SCB offset +2, SCB base (real) +4. It doesn't obey the command word
-unfoldable pub initialise : Device → List ℕ → Attended
-initialise d m =
-    let iscp = iscpOf m in initialisedBy d iscp (addressAt m (beyond iscp 4)) (offsetAt m (beyond iscp 2))
-
 -- ---- every other attention
-
--- if RESET, write command 0 and become as after reset, nothing else
-unfoldable pub resetBy : Device → Attended
-resetBy d =
-    record {
-      outcome = outcomeOf fresh (answered 0 false) (lostBy fate.Reset (heldIn (d .units .ru)) []);
-      writes = wordTo (ofScb (d .units) scbCommandAt) 0x0000 ∷ [];
-    }
 
 -- leaving Active raises CNA, leaving Ready raises RNR
 abbrev pub leaving : (cu ru : Bool) → Events
 leaving cu ru = record { cx = false; fr = false; cna = cu; rnr = ru }
 
--- the units after the codes; acknowledged events were cleared before anything was raised
-unfoldable pub unitsAfter : Units → ℕ → Cu → Bool → Ru → Bool → Units
-unitsAfter u command c cleft r rleft =
-    withEvents (withRu (withCu u c) r) (raise (acknowledged (u .events) command) (leaving cleft rleft))
-
--- write status; write command 0. An edge is reported when an attention leaves any event set
+-- write status; write command 0
 abbrev pub settledWrites : Units → List Write
 settledWrites u = statusTo u ∷ wordTo (ofScb u scbCommandAt) 0x0000 ∷ []
 
-abbrev pub settledBy : Device → Units → List Write → List Fate → Attended
-settledBy d u writes fs =
-    record { outcome = outcomeOf (withUnits d u) (answered 0 (anyOf (u .events))) fs; writes = writes ++ settledWrites u }
+-- an attention, in order, its command being read; an edge is reported when it leaves any event set
+unfoldable pub attendBy : (reset : Bool) → Device → (command : ℕ) → List ℕ → Attended
+attendBy true d command m =
+    -- if RESET, write command 0 and become as after reset, nothing else
+    record {
+      outcome = outcomeOf fresh (answered 0 false) (lostBy fate.Reset (heldIn (d .units .ru)) []);
+      writes = wordTo (ofScb (d .units) scbCommandAt) 0x0000 ∷ [];
+    }
+attendBy false d command m =
+    -- clear acknowledged events
+    let cleared = acknowledged (d .units .events) command in
+    -- obey CUC; obey RUC, on memory as CUC left it
+    let c = obeyCuc (d .units) command m in
+    let r = obeyRuc (d .units) command (apply (c .writes) m) in
+    -- the units after that, and what an abort lost
+    let after = withEvents (withRu (withCu (d .units) (c .unit)) (r .unit)) (raise cleared (leaving (c .left) (r .left))) in
+    let lost = lostBy fate.Aborted (heldIn (d .units .ru)) (heldIn (r .unit)) in
+    -- write status; write command 0
+    record {
+      outcome = outcomeOf (withUnits d after) (answered 0 (anyOf (after .events))) lost;
+      writes = c .writes ++ r .writes ++ settledWrites after;
+    }
 
-abbrev pub obeyedBy : Device → ℕ → Obeyed Cu → Obeyed Ru → Attended
-obeyedBy d command c r =
-    settledBy d (unitsAfter (d .units) command (c .unit) (c .left) (r .unit) (r .left)) (c .writes ++ r .writes)
-    (lostBy fate.Aborted (heldIn (d .units .ru)) (heldIn (r .unit)))
-
--- clear acknowledged events; obey CUC; obey RUC, on memory as CUC left it; write status; write command 0
-unfoldable pub obey : Device → ℕ → List ℕ → Attended
-obey d command m =
-    let c = obeyCuc (d .units) command m in obeyedBy d command c (obeyRuc (d .units) command (apply (c .writes) m))
-
-abbrev pub attendBy : (reset : Bool) → Device → ℕ → List ℕ → Attended
-attendBy true d command m = resetBy d
-attendBy false d command m = obey d command m
-
--- an attention, in order: read command; if RESET ..
+-- read command; if RESET ..
 unfoldable pub attend : Device → List ℕ → Attended
 attend d m =
     let command = wordAt m (ofScb (d .units) scbCommandAt) in attendBy (resets command) d command m

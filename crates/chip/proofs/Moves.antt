@@ -10,7 +10,7 @@ use Rattle.memory.specs.Memory.{Write, wordAt}
 use Rattle.memory.specs.declared.Offset.{Offset}
 use Rattle.device.specs.Limits.{mostBuffers}
 use Rattle.device.specs.Numbers.{transmit}
-use Rattle.device.specs.State.{cuState, isActive, isHolding}
+use Rattle.device.specs.State.{cuState, isActive, isHolding, cuWorks, ruWorks}
 use Rattle.device.specs.declared.Begun.{Begun}
 use Rattle.device.specs.declared.Cu.{Cu}
 use Rattle.device.specs.declared.Cu.the-variants as cu
@@ -165,7 +165,7 @@ receive-moves w a e =
     ru-moves (w .device .units .ru) (receive.partOf (w .device .units) (w .holding)) (w .memory) a
     (ap (λ (d : Device). ru-mark (d .units .ru)) e)
 
-stops-by : (c r l : Bool) (w : World) (report : ℕ) → isActive (cuState (w .device .units .cu)) ≡ c → isHolding (w .device .units .ru) ≡ r
+stops-by : (c r l : Bool) (w : World) (report : ℕ) → cuWorks (w .device .units .cu) ≡ c → ruWorks (w .device .units .ru) ≡ r
     → turnBy (servedBy c r l) w report .outcome .device ≡ w .device
     → stops (servedBy c r l) (turnBy (servedBy c r l) w report .outcome .answer) ≡ true
 unfolding stops
@@ -179,4 +179,4 @@ stops-by true true false w report a b e = absurd (receive-moves w b e)
 pub unchanged-stops : (w : World) (report : ℕ) → turnOf w report .outcome .device ≡ w .device → stopsAt w report ≡ true
 unfolding turnOf
 unchanged-stops w report e =
-    stops-by (isActive (cuState (w .device .units .cu))) (isHolding (w .device .units .ru)) (w .device .units .rulast) w report refl refl e
+    stops-by (cuWorks (w .device .units .cu)) (ruWorks (w .device .units .ru)) (w .device .units .rulast) w report refl refl e

@@ -11,7 +11,7 @@ use Rattle.memory.specs.Memory.{Write}
 use Rattle.memory.specs.declared.Offset.{Offset}
 use Rattle.scb.specs.Words.{anyOf}
 use Rattle.device.specs.Answers.{answered, isStored}
-use Rattle.device.specs.State.{cuState, isActive, isHolding}
+use Rattle.device.specs.State.{isHolding, cuWorks, ruWorks}
 use Rattle.device.specs.declared.Answer.{Answer}
 use Rattle.device.specs.declared.Fate.the-variants as fate
 use Rattle.device.specs.declared.Ru.{Ru}
@@ -23,7 +23,9 @@ use Rattle.receive.specs.Buffer as receive-buffer
 use Rattle.receive.specs.End as endings
 use Rattle.receive.specs.Service as receive-service
 use Rattle.chip.specs.World.{World, Ran, afterwards}
-use Rattle.chip.specs.Turn.{servedBy, concluded, commandTurn, receiveTurn, turnBy, turnOf}
+use Rattle.chip.specs.declared.Served.{Served}
+use Rattle.chip.specs.declared.Served.the-variants as served
+use Rattle.chip.specs.Turn.{servedBy, servedOf, concluded, commandTurn, receiveTurn, turnBy, turnOf}
 use Rattle.chip.specs.Run.{tells, stops, stopsAt, Run, noTurn, lastTurn, oneMore, continued, runOf, runFrom}
 
 -- ---- which turns end a run
@@ -38,20 +40,17 @@ quiet n e h =
     let z : n ≡ 0 = eqb-true n 0 (not-false (eqb n 0) (b .0)) in
     rw (z, b .1)
 
-going-by : (c r l : Bool) (w : World) (report : ℕ) → stops (servedBy c r l) (turnBy (servedBy c r l) w report .outcome .answer) ≡ false
-    → turnBy (servedBy c r l) w report .outcome .answer ≡ answered 0 false
+going-by : (s : Served) (w : World) (report : ℕ) → stops s (turnBy s w report .outcome .answer) ≡ false
+    → turnBy s w report .outcome .answer ≡ answered 0 false
 unfolding stops commandTurn receiveTurn concluded
-going-by false false l w report s = refl
-going-by true false l w report s = quiet _ _ s
-going-by false true l w report s = quiet _ _ s
-going-by true true true w report s = quiet _ _ s
-going-by true true false w report s = quiet _ _ s
+going-by served.Neither w report h = refl
+going-by served.CommandUnit w report h = quiet _ _ h
+going-by served.ReceiveUnit w report h = quiet _ _ h
 
 -- a turn that does not end a run has nothing to tell: number 0, length 0, no edge
 pub going-quiet : (w : World) (report : ℕ) → stopsAt w report ≡ false → turnOf w report .outcome .answer ≡ answered 0 false
 unfolding turnOf
-going-quiet w report s =
-    going-by (isActive (cuState (w .device .units .cu))) (isHolding (w .device .units .ru)) (w .device .units .rulast) w report s
+going-quiet w report s = going-by (servedOf (w .device .units)) w report s
 
 -- nor does it make anything of a held frame: an end raises FR, or RNR, and so reports an edge
 goes-raises : (x : Bool) (p : receive.Part) (s : Storing) (free : Offset) (ws : List Write) (m : List ℕ)
@@ -96,7 +95,7 @@ fate-by true true false w report a s = receive-fate w a s
 pub going-fate : (w : World) (report : ℕ) → stopsAt w report ≡ false → turnOf w report .outcome .fates ≡ []
 unfolding turnOf
 going-fate w report s =
-    fate-by (isActive (cuState (w .device .units .cu))) (isHolding (w .device .units .ru)) (w .device .units .rulast) w report refl s
+    fate-by (cuWorks (w .device .units .cu)) (ruWorks (w .device .units .ru)) (w .device .units .rulast) w report refl s
 
 told-by : (s : Bool) (w : World) (report : ℕ) → stopsAt w report ≡ s → (turnOf w report .outcome .answer ≡ answered 0 false → ⊥) → s ≡ true
 told-by true w report e t = refl
@@ -124,19 +123,15 @@ told-cause true false w r a b h = absurd (false≢true h)
 tells-cause : (w : World) (r : Ran) → tells (r .outcome .answer) ≡ true → Cause w r
 tells-cause w r h = told-cause (eqb (r .outcome .answer .length) 0) (r .outcome .answer .edge) w r refl refl h
 
-cause-by : (c r l : Bool) (w : World) (report : ℕ) → stops (servedBy c r l) (turnBy (servedBy c r l) w report .outcome .answer) ≡ true
-    → Cause w (turnBy (servedBy c r l) w report)
+cause-by : (s : Served) (w : World) (report : ℕ) → stops s (turnBy s w report .outcome .answer) ≡ true → Cause w (turnBy s w report)
 unfolding stops
-cause-by false false l w report s = workless refl
-cause-by true false l w report s = tells-cause w (commandTurn w report) s
-cause-by false true l w report s = tells-cause w (receiveTurn w) s
-cause-by true true true w report s = tells-cause w (commandTurn w report) s
-cause-by true true false w report s = tells-cause w (receiveTurn w) s
+cause-by served.Neither w report h = workless refl
+cause-by served.CommandUnit w report h = tells-cause w (commandTurn w report) h
+cause-by served.ReceiveUnit w report h = tells-cause w (receiveTurn w) h
 
 pub stops-cause : (w : World) (report : ℕ) → stopsAt w report ≡ true → Cause w (turnOf w report)
 unfolding turnOf
-stops-cause w report s =
-    cause-by (isActive (cuState (w .device .units .cu))) (isHolding (w .device .units .ru)) (w .device .units .rulast) w report s
+stops-cause w report s = cause-by (servedOf (w .device .units)) w report s
 
 -- ---- turn by turn, from the front
 

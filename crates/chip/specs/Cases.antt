@@ -7,7 +7,7 @@ use lib.Dec.{eqb}
 use lib.ListN.{replicate}
 use Rattle.memory.specs.Memory.{byteAt, putByte, bytesAt, putBytes, value, digits, fieldAt, wordAt, wordTo, apply}
 use Rattle.memory.specs.Address.{place, beyond}
-use Rattle.scb.specs.Control.{cuNext, ruNext}
+use Rattle.scb.specs.Control.{codeOf}
 use Rattle.scb.specs.Words.{bitsAt, joined, acknowledged, anyOf, eventBits, statusWord}
 use Rattle.device.specs.Answers.{counts}
 use Rattle.device.specs.Limits.{areaSize}
@@ -28,7 +28,7 @@ use Rattle.receive.specs.Service as receive-service
 use Rattle.attention.specs.Status.{statusTo}
 use Rattle.attention.specs.Attention as attentions
 use Rattle.chip.specs.World.{World, Ran, afterwards, resetOf}
-use Rattle.control.specs.Obey.{cuFirst, obeyCuc, ruFirst, obeyRuc}
+use Rattle.control.specs.Obey.{obeyCuc, obeyRuc}
 use Rattle.chip.specs.Attention.{attentionOf}
 use Rattle.chip.specs.Arrival as arrivals
 use Rattle.chip.specs.Call.{Call, ran}
@@ -129,7 +129,13 @@ walk (s ∷ ss) w =
     let r = ran (s .call) (altered w s) in stepPasses s r && walk ss (afterwards r)
 
 unfoldable pub passes : Case → Bool
-unfolding byteAt putByte bytesAt putBytes value digits fieldAt place beyond cuNext ruNext bitsAt joined acknowledged anyOf eventBits statusWord counts actionOf verdictOf agree isListed matches command-begin.begunBy command-begin.headerOf command-begin.begin command-buffer.descriptorAt command-buffer.buffer settingsBy listing act reported isSent sent nextAfter end command-service.service lengthOf judged fateOf arrival receive-begin.begunBy receive-begin.begin receive-buffer.descriptorAt receive-buffer.buffer frameStatus settles close lack receive-service.service statusTo resetOf attentions.iscpOf attentions.initialise attentions.resetBy cuFirst obeyCuc ruFirst obeyRuc attentions.unitsAfter attentions.obey attentions.attend attentions.attention attentionOf arrivals.arrival arrivals.arrivalOf concluded commandTurn receiveTurn turnOf
+unfolding byteAt putByte bytesAt putBytes value digits fieldAt place beyond
+    codeOf bitsAt joined acknowledged anyOf eventBits statusWord counts actionOf verdictOf agree isListed matches
+    command-begin.begunBy command-begin.headerOf command-begin.begin command-buffer.descriptorAt command-buffer.buffer
+    settingsBy listing act reported isSent sent nextAfter end command-service.service lengthOf judged fateOf arrival
+    receive-begin.begunBy receive-begin.begin receive-buffer.descriptorAt receive-buffer.buffer frameStatus settles close lack
+    receive-service.service statusTo resetOf attentions.iscpOf attentions.initialise obeyCuc obeyRuc attentions.attendBy attentions.attend
+    attentions.attention attentionOf arrivals.arrival arrivals.arrivalOf concluded commandTurn receiveTurn turnOf
 passes c = walk (c .steps) (start (c .given))
 
 abbrev pub allPass : List Case → Bool

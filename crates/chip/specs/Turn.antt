@@ -1,13 +1,14 @@
 -- A turn: 01, "Turns". Assumes nothing.
-use mathlib.Core.Bool.{Bool, true, false}
+use mathlib.Core.Bool.{Bool, true, false, not, _&&_, _||_}
 use mathlib.Core.List.{List, [], _∷_, _++_}
 use Prim.Native.Nat.{ℕ}
+use lib.Dec.{eqb}
 use Rattle.memory.specs.Memory.{Write, apply}
-use Rattle.scb.specs.Words.{raise, anyOf}
+use Rattle.scb.specs.Words.{raise, anyOf, cuNumber, ruNumber}
 use Rattle.scb.specs.declared.Events.{Events}
 use Rattle.device.specs.Answers.{answered, Outcome, outcomeOf}
 use Rattle.device.specs.Change.{withRu, withEvents, servedRu, withUnits}
-use Rattle.device.specs.State.{cuState, isActive, isHolding}
+use Rattle.device.specs.State.{cuState, ruState, cuWorks, ruWorks}
 use Rattle.device.specs.declared.Device.{Device}
 use Rattle.device.specs.declared.Fate.{Fate}
 use Rattle.device.specs.declared.Units.{Units}
@@ -32,7 +33,18 @@ servedBy true true false = served.ReceiveUnit
 
 -- RU has work while a frame is held, CU while Active
 abbrev pub servedOf : Units → Served
-servedOf u = servedBy (isActive (cuState (u .cu))) (isHolding (u .ru)) (u .rulast)
+servedOf u = servedBy (cuWorks (u .cu)) (ruWorks (u .ru)) (u .rulast)
+
+-- the command unit is the one served; the receive unit is
+abbrev pub isCommand : Served → Bool
+isCommand served.Neither = false
+isCommand served.CommandUnit = true
+isCommand served.ReceiveUnit = false
+
+abbrev pub isReceive : Served → Bool
+isReceive served.Neither = false
+isReceive served.CommandUnit = false
+isReceive served.ReceiveUnit = true
 
 -- ---- what every working turn does with a service
 
@@ -40,13 +52,18 @@ servedOf u = servedBy (isActive (cuState (u .cu))) (isHolding (u .ru)) (u .rulas
 abbrev pub raisedIn : Units → Events → Units
 raisedIn u raised = withEvents u (raise (u .events) raised)
 
--- the status is, as the last write, written at every turn that raises an event; a unit changes its state at no other turn
-abbrev pub statusBy : (raises : Bool) → Units → List Write
+-- a unit's state, CUS or RUS, is another than before
+abbrev pub changes : (before after : Units) → Bool
+changes before after =
+    not (eqb (cuNumber (cuState (before .cu))) (cuNumber (cuState (after .cu))) && eqb (ruNumber (ruState (before .ru))) (ruNumber (ruState (after .ru))))
+
+-- status is, as the last write, written at every turn that raises an event or changes a unit's state
+abbrev pub statusBy : (due : Bool) → Units → List Write
 statusBy true u = statusTo u ∷ []
 statusBy false u = []
 
-abbrev pub written : List Write → Events → Units → List Write
-written writes raised u = writes ++ statusBy (anyOf raised) (raisedIn u raised)
+abbrev pub written : (before : Units) → List Write → Events → (after : Units) → List Write
+written before writes raised after = writes ++ statusBy (anyOf raised || changes before after) (raisedIn after raised)
 
 -- the outcome of a working turn: an edge is reported when an event is raised, again included
 unfoldable pub concluded : Device → Units → Events → ℕ → List Fate → Outcome
@@ -62,7 +79,7 @@ commandTurn w report =
     let s = command-service.service (command.partOf (w .device) (w .outgoing)) (w .memory) report in
     record {
       outcome = concluded (command.withPart (w .device) (s .part)) (commandUnits (w .device) s) (s .raised) (s .length) [];
-      memory = apply (written (s .writes) (s .raised) (commandUnits (w .device) s)) (w .memory);
+      memory = apply (written (w .device .units) (s .writes) (s .raised) (commandUnits (w .device) s)) (w .memory);
       holding = w .holding;
       outgoing = s .part .outgoing;
     }
@@ -75,7 +92,7 @@ receiveUnits d s = servedRu (withRu (d .units) (s .unit)) true
 unfoldable pub receiveTurn : World → Ran
 receiveTurn w =
     let s = receive-service.service (receive.partOf (w .device .units) (w .holding)) (w .memory) in
-    writing w (written (s .writes) (s .raised) (receiveUnits (w .device) s))
+    writing w (written (w .device .units) (s .writes) (s .raised) (receiveUnits (w .device) s))
     (concluded (w .device) (receiveUnits (w .device) s) (s .raised) 0 (s .fates))
 
 -- ---- a turn

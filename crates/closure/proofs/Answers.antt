@@ -27,7 +27,7 @@ record Silent (a : Answer) : Type 0 where
   length : a .length ≡ 0
 
 attend-silent-by : (r : Bool) (d : Device) (command : ℕ) (m : List ℕ) → Silent (attending.attendBy r d command m .outcome .answer)
-unfolding attending.resetBy attending.obey
+unfolding attending.attendBy
 attend-silent-by true d command m = record { number = refl; length = refl }
 attend-silent-by false d command m = record { number = refl; length = refl }
 

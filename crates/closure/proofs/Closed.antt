@@ -1,7 +1,7 @@
 -- Closure: every state that a call leaves is in range, and all elements of the areas stay bytes. 01, "Calls, lent areas, refusals", refusal 4: docs/'
 -- ranges hold every state a call can leave. Assumes nothing.
 use mathlib.Core.Path.{_≡_, refl, ap}
-use mathlib.Core.Bool.{Bool, true, false}
+use mathlib.Core.Bool.{Bool, true, false, _||_}
 use mathlib.Core.List.{List, []}
 use Prim.Native.Nat.{ℕ}
 use lib.ListN.{length}
@@ -28,7 +28,7 @@ use Rattle.attention.specs.Attention as attending
 use Rattle.chip.specs.World.{World, worldOf, afterwards, resetOf}
 use Rattle.chip.specs.Attention.{attentionOf}
 use Rattle.chip.specs.Arrival.{arrival, arrivalOf}
-use Rattle.chip.specs.Turn.{servedBy, raisedIn, statusBy, written, concluded, commandUnits, commandTurn, receiveUnits, receiveTurn, turnBy, turnOf}
+use Rattle.chip.specs.Turn.{servedBy, raisedIn, changes, statusBy, written, concluded, commandUnits, commandTurn, receiveUnits, receiveTurn, turnBy, turnOf}
 use Rattle.chip.specs.Call.{Call, reset, attention, arrive, turn, ran}
 use Rattle.image.specs.Ranges.{inRange, Wide}
 use Rattle.image.proofs.Exact.{fresh-range, fresh-wide, one-fresh}
@@ -129,9 +129,10 @@ status-by-bytes : (raises : Bool) (u : Units) → AllBytes (statusBy raises u)
 status-by-bytes true u = (status-bytes u, tt)
 status-by-bytes false u = tt
 
-written-bytes : (ws : List Write) (raised : Events) (u : Units) → AllBytes ws → AllBytes (written ws raised u)
-written-bytes ws raised u h =
-    all-append ws (statusBy (anyOf raised) (raisedIn u raised)) h (status-by-bytes (anyOf raised) (raisedIn u raised))
+written-bytes : (v : Units) (ws : List Write) (raised : Events) (u : Units) → AllBytes ws → AllBytes (written v ws raised u)
+written-bytes v ws raised u h =
+    let due = anyOf raised || changes v u in
+    all-append ws (statusBy due (raisedIn u raised)) h (status-by-bytes due (raisedIn u raised))
 
 command-running : (d : Device) (s : command.Service) (length : ℕ) (fs : List Fate) → Running d → CommandGood s
     → Running (concluded (command.withPart d (s .part)) (commandUnits d s) (s .raised) length fs .device)
@@ -159,8 +160,8 @@ command-closed w report h p q r =
     let s = command-service.service (command.partOf (w .device) (w .outgoing)) (w .memory) report in
     let g = served-good (w .device) (w .memory) (w .outgoing) report (h .cu) (h .setup) p r in
     running-sound _ _ _ _ (command-running (w .device) s (s .length) [] h g)
-    (apply-bytes (written (s .writes) (s .raised) (commandUnits (w .device) s)) (w .memory)
-    (written-bytes (s .writes) (s .raised) (commandUnits (w .device) s) (g .writes)) p) q (g .part .outgoing)
+    (apply-bytes (written (w .device .units) (s .writes) (s .raised) (commandUnits (w .device) s)) (w .memory)
+    (written-bytes (w .device .units) (s .writes) (s .raised) (commandUnits (w .device) s) (g .writes)) p) q (g .part .outgoing)
 
 receive-running : (d : Device) (s : receive.Service) → Running d → ReceiveGood s
     → Running (concluded d (receiveUnits d s) (s .raised) 0 (s .fates) .device)
@@ -185,8 +186,8 @@ receive-closed w h p q r =
     let s = receive-service.service (receive.partOf (w .device .units) (w .holding)) (w .memory) in
     let g = received-good (w .device .units) (w .memory) (w .holding) (h .ru) p q in
     running-sound _ _ _ _ (receive-running (w .device) s h g)
-    (apply-bytes (written (s .writes) (s .raised) (receiveUnits (w .device) s)) (w .memory)
-    (written-bytes (s .writes) (s .raised) (receiveUnits (w .device) s) (g .writes)) p) q r
+    (apply-bytes (written (w .device .units) (s .writes) (s .raised) (receiveUnits (w .device) s)) (w .memory)
+    (written-bytes (w .device .units) (s .writes) (s .raised) (receiveUnits (w .device) s) (g .writes)) p) q r
 
 turn-closed-by : (c r l : Bool) (w : World) (report : ℕ) → Running (w .device) → Bytes (w .memory) → Bytes (w .holding) → Bytes (w .outgoing)
     → Sound (afterwards (turnBy (servedBy c r l) w report))

@@ -242,24 +242,23 @@ ended-good true suspends link h = cu-idle
 ended-good false true link h = cu-suspended link h
 ended-good false false link h = cu-waiting link h
 
-next-good : (base : RealAddress) (b : Begun) (status : ℕ) (m : List ℕ) → Bytes m → CuGood (nextAfter base b status m)
+next-good : (base : RealAddress) (b : Begun) (m : List ℕ) → Bytes m → CuGood (nextAfter base b m)
 unfolding nextAfter
-next-good base b status m h =
-    ended-good (b .el) (b .suspend || b .pausing) _
-    (field-bound (apply (statusTo base b status ∷ []) m) (place base (b .block) blockLinkAt) 2
-    (apply-bytes (statusTo base b status ∷ []) m (digits-bytes 2 status, tt) h))
+next-good base b m h = ended-good (b .el) (b .suspend || b .pausing) _ (field-bound m (place base (b .block) blockLinkAt) 2 h)
 
 end-good : (p : Part) (b : Begun) (a : Acted) (m : List ℕ) → ActedGood a → Bytes (p .outgoing) → Bytes m → ServiceGood (end p b a m)
 unfolding end
 end-good p b a m h o mb =
+    let results = a .writes ++ (statusTo (p .base) b (a .status) ∷ []) in
+    let v = all-append (a .writes) (statusTo (p .base) b (a .status) ∷ []) (h .writes) (digits-bytes 2 (a .status), tt) in
     record {
       part =
           record {
-            unit = next-good (p .base) b (a .status) (apply (a .writes) m) (apply-bytes (a .writes) m (h .writes) mb);
+            unit = next-good (p .base) b (apply results m) (apply-bytes results m v mb);
             setup = h .setup;
             outgoing = o;
           };
-      writes = all-append (a .writes) (statusTo (p .base) b (a .status) ∷ []) (h .writes) (digits-bytes 2 (a .status), tt);
+      writes = v;
       length = h .length;
     }
 

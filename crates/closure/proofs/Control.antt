@@ -1,24 +1,19 @@
 -- An attention leaves a state in range, and writes bytes. Assumes nothing.
 use mathlib.Core.Path.{_≡_, refl}
-use mathlib.Core.Bool.{Bool, true, false, cond, _&&_}
+use mathlib.Core.Bool.{Bool, true, false, _&&_}
 use mathlib.Core.List.{List, [], _++_}
 use Prim.Native.Nat.{ℕ, _<_}
 use native.Mathlib.Omega.{arith}
 use borrow.Author.Tests.{lt-ltb, ltb-true}
-use lib.Dec.{eqb, ltb}
-use Rattle.memory.specs.Address.{beyond}
+use lib.Dec.{ltb}
+use Rattle.memory.specs.Address.{beyond, offsetAt}
 use Rattle.memory.specs.Memory.{wordAt, apply}
 use Rattle.memory.specs.declared.Offset.{Offset}
 use Rattle.memory.specs.declared.RealAddress.{RealAddress}
 use Rattle.memory.proofs.Bytes.{Bytes, AllBytes, all-append, apply-bytes, field-bound, digits-bytes, bytes-cons, bytes-nil}
 use Rattle.scb.specs.Words.{cblAt, rfaAt, scbCommandAt, cuc, ruc, resets}
-use Rattle.scb.specs.Control.{cuNext, ruNext}
-use Rattle.scb.specs.declared.CuState.{CuState}
-use Rattle.scb.specs.declared.CuState.the-variants as cus
-use Rattle.scb.specs.declared.RuState.{RuState}
-use Rattle.scb.specs.declared.RuState.the-variants as rus
-use Rattle.device.specs.Change.{withUnits, pausingBegun, pausingStoring}
-use Rattle.device.specs.State.{cuState, ruState}
+use Rattle.scb.specs.Control.{Code, codeOf, start, resume, suspend, abort, other}
+use Rattle.device.specs.Change.{pausingBegun, pausingStoring}
 use Rattle.device.specs.declared.Cu.{Cu}
 use Rattle.device.specs.declared.Cu.the-variants as cu
 use Rattle.device.specs.declared.Device.{Device}
@@ -27,10 +22,10 @@ use Rattle.device.specs.declared.Ru.the-variants as ru
 use Rattle.device.specs.declared.Storing.{Storing}
 use Rattle.device.specs.declared.Units.{Units}
 use Rattle.actions.specs.Setup.{setupOf}
-use Rattle.control.specs.Control.{cuActive, cuSuspended, cuGoes, resumesAt, abortedCu, cuWrites, ruReady, ruSuspended, ruGoes, readyAt, abortedRu, ruWrites}
-use Rattle.control.specs.Obey.{ofScb, Obeyed, cuFirst, obeyCuc, ruFirst, obeyRuc}
+use Rattle.control.specs.Control.{cuStart, cuResume, cuSuspend, cuBy, abortedCu, cuWrites, ruStart, ruResume, ruSuspend, ruBy, abortedRu, ruWrites}
+use Rattle.control.specs.Obey.{ofScb, obeyCuc, obeyRuc}
 use Rattle.attention.specs.Status.{statusTo}
-use Rattle.attention.specs.Attention.{Attended, iscpOf, initialise, resetBy, unitsAfter, settledWrites, obeyedBy, obey, attendBy, attend, attentionBy, attention}
+use Rattle.attention.specs.Attention.{Attended, iscpOf, initialise, settledWrites, attendBy, attend, attentionBy, attention}
 use Rattle.image.specs.Ranges.{cuFits, ruFits, unitsFit, initialisedOrFresh, inRange, Wide}
 use Rattle.image.proofs.Exact.{fresh-range, fresh-wide}
 use Rattle.phases.proofs.Units.{both}
@@ -99,45 +94,39 @@ running-of d e h i =
 
 -- ---- the command unit obeys
 
-active-good : (first : Offset) (u : Cu) → first .0 < 65536 → CuGood u → CuGood (cuActive first u)
-active-good first cu.Idle f h = cu-waiting first f
-active-good first (cu.Suspended o) f h = cu-waiting first f
-active-good first (cu.Waiting o) f h = h
-active-good first (cu.Acting b a) f h = h
-active-good first (cu.Sending b w) f h = h
-active-good first (cu.Ending b n) f h = h
-active-good first (cu.Failing b) f h = h
+start-good : (cbl : Offset) (u : Cu) → cbl .0 < 65536 → CuGood u → CuGood (cuStart cbl u)
+start-good cbl cu.Idle f h = cu-waiting cbl f
+start-good cbl (cu.Suspended o) f h = cu-waiting cbl f
+start-good cbl (cu.Waiting o) f h = h
+start-good cbl (cu.Acting b a) f h = h
+start-good cbl (cu.Sending b w) f h = h
+start-good cbl (cu.Ending b n) f h = h
+start-good cbl (cu.Failing b) f h = h
 
-suspended-good : (u : Cu) → CuGood u → CuGood (cuSuspended u)
-suspended-good cu.Idle h = h
-suspended-good (cu.Suspended o) h = h
-suspended-good (cu.Waiting o) h = cu-suspended o (at-waiting o h)
-suspended-good (cu.Acting b a) h = cu-acting (pausingBegun b) a (at-acting b a h)
-suspended-good (cu.Sending b w) h = cu-sending (pausingBegun b) w (at-sending b w h) (sending-walk b w h)
-suspended-good (cu.Ending b n) h = let z = ending-size b n h in cu-ending (pausingBegun b) n (at-ending b n h) (z .0) (z .1)
-suspended-good (cu.Failing b) h = cu-failing (pausingBegun b) (at-failing b h)
+resume-good : (u : Cu) → CuGood u → CuGood (cuResume u)
+resume-good cu.Idle h = h
+resume-good (cu.Suspended o) h = cu-waiting o (at-suspended o h)
+resume-good (cu.Waiting o) h = h
+resume-good (cu.Acting b a) h = h
+resume-good (cu.Sending b w) h = h
+resume-good (cu.Ending b n) h = h
+resume-good (cu.Failing b) h = h
 
-cu-goes-good : (s : CuState) (first : Offset) (u : Cu) → first .0 < 65536 → CuGood u → CuGood (cuGoes s first u)
-cu-goes-good cus.Idle first u f h = cu-idle
-cu-goes-good cus.Suspended first u f h = suspended-good u h
-cu-goes-good cus.Active first u f h = active-good first u f h
+suspend-good : (u : Cu) → CuGood u → CuGood (cuSuspend u)
+suspend-good cu.Idle h = h
+suspend-good (cu.Suspended o) h = h
+suspend-good (cu.Waiting o) h = cu-suspended o (at-waiting o h)
+suspend-good (cu.Acting b a) h = cu-acting (pausingBegun b) a (at-acting b a h)
+suspend-good (cu.Sending b w) h = cu-sending (pausingBegun b) w (at-sending b w h) (sending-walk b w h)
+suspend-good (cu.Ending b n) h = let z = ending-size b n h in cu-ending (pausingBegun b) n (at-ending b n h) (z .0) (z .1)
+suspend-good (cu.Failing b) h = cu-failing (pausingBegun b) (at-failing b h)
 
-resumes-below : (u : Cu) → CuGood u → resumesAt u .0 < 65536
-resumes-below cu.Idle h = omega arith
-resumes-below (cu.Suspended o) h = at-suspended o h
-resumes-below (cu.Waiting o) h = at-waiting o h
-resumes-below (cu.Acting b a) h = at-acting b a h
-resumes-below (cu.Sending b w) h = at-sending b w h
-resumes-below (cu.Ending b n) h = at-ending b n h
-resumes-below (cu.Failing b) h = at-failing b h
-
-either-below : (t : Bool) (x y : Offset) → x .0 < 65536 → y .0 < 65536 → cond t x y .0 < 65536
-either-below true x y p q = p
-either-below false x y p q = q
-
-cu-first-below : (u : Units) (command : ℕ) (m : List ℕ) → CuGood (u .cu) → Bytes m → cuFirst u command m .0 < 65536
-unfolding cuFirst
-cu-first-below u command m h b = either-below (eqb (cuc command) 1) _ _ (field-bound m (ofScb u cblAt) 2 b) (resumes-below (u .cu) h)
+cu-by-good : (code : Code) (cbl : Offset) (u : Cu) → cbl .0 < 65536 → CuGood u → CuGood (cuBy code cbl u)
+cu-by-good start cbl u f h = start-good cbl u f h
+cu-by-good resume cbl u f h = resume-good u h
+cu-by-good suspend cbl u f h = suspend-good u h
+cu-by-good abort cbl u f h = cu-idle
+cu-by-good other cbl u f h = h
 
 aborted-cu-bytes : (base : RealAddress) (u : Cu) → AllBytes (abortedCu base u)
 aborted-cu-bytes base cu.Idle = tt
@@ -148,66 +137,64 @@ aborted-cu-bytes base (cu.Sending b w) = (digits-bytes 2 0x9000, tt)
 aborted-cu-bytes base (cu.Ending b n) = (digits-bytes 2 0x9000, tt)
 aborted-cu-bytes base (cu.Failing b) = (digits-bytes 2 0x9000, tt)
 
-cu-writes-bytes : (s : CuState) (base : RealAddress) (u : Cu) → AllBytes (cuWrites s base u)
-cu-writes-bytes cus.Idle base u = aborted-cu-bytes base u
-cu-writes-bytes cus.Suspended base u = tt
-cu-writes-bytes cus.Active base u = tt
+cu-writes-bytes : (code : Code) (base : RealAddress) (u : Cu) → AllBytes (cuWrites code base u)
+cu-writes-bytes start base u = tt
+cu-writes-bytes resume base u = tt
+cu-writes-bytes suspend base u = tt
+cu-writes-bytes abort base u = aborted-cu-bytes base u
+cu-writes-bytes other base u = tt
 
 cuc-good : (u : Units) (command : ℕ) (m : List ℕ) → CuGood (u .cu) → Bytes m → CuGood (obeyCuc u command m .unit)
 unfolding obeyCuc
-cuc-good u command m h b =
-    cu-goes-good (cuNext (cuc command) (cuState (u .cu))) (cuFirst u command m) (u .cu) (cu-first-below u command m h b) h
+cuc-good u command m h b = cu-by-good (codeOf (cuc command)) (offsetAt m (ofScb u cblAt)) (u .cu) (field-bound m (ofScb u cblAt) 2 b) h
 
 cuc-bytes : (u : Units) (command : ℕ) (m : List ℕ) → AllBytes (obeyCuc u command m .writes)
 unfolding obeyCuc
-cuc-bytes u command m = cu-writes-bytes (cuNext (cuc command) (cuState (u .cu))) (u .base) (u .cu)
+cuc-bytes u command m = cu-writes-bytes (codeOf (cuc command)) (u .base) (u .cu)
 
 -- ---- the receive unit obeys
 
-ready-good : (first : Offset) (u : Ru) → first .0 < 65536 → RuGood u → RuGood (ruReady first u)
-ready-good first ru.Idle f h = ru-ready first f
-ready-good first ru.NoResources f h = ru-ready first f
-ready-good first (ru.Suspended o) f h = ru-ready first f
-ready-good first (ru.Ready o) f h = h
-ready-good first (ru.Held o g p) f h = h
-ready-good first (ru.Filling s w) f h = h
-ready-good first (ru.Closing s o full) f h = h
-ready-good first (ru.Lacking s) f h = h
+ru-start-good : (rfa : Offset) (u : Ru) → rfa .0 < 65536 → RuGood u → RuGood (ruStart rfa u)
+ru-start-good rfa ru.Idle f h = ru-ready rfa f
+ru-start-good rfa ru.NoResources f h = ru-ready rfa f
+ru-start-good rfa (ru.Suspended o) f h = ru-ready rfa f
+ru-start-good rfa (ru.Ready o) f h = h
+ru-start-good rfa (ru.Held o g p) f h = h
+ru-start-good rfa (ru.Filling s w) f h = h
+ru-start-good rfa (ru.Closing s o full) f h = h
+ru-start-good rfa (ru.Lacking s) f h = h
+
+ru-resume-good : (u : Ru) → RuGood u → RuGood (ruResume u)
+ru-resume-good ru.Idle h = h
+ru-resume-good ru.NoResources h = h
+ru-resume-good (ru.Suspended o) h = ru-ready o (fd-suspended o h)
+ru-resume-good (ru.Ready o) h = h
+ru-resume-good (ru.Held o g p) h = h
+ru-resume-good (ru.Filling s w) h = h
+ru-resume-good (ru.Closing s o full) h = h
+ru-resume-good (ru.Lacking s) h = h
 
 pausing-good : (s : Storing) → StoringGood s → StoringGood (pausingStoring s)
 pausing-good s h = record { fd = h .fd; frame = h .frame }
 
-ru-suspends-good : (u : Ru) → RuGood u → RuGood (ruSuspended u)
-ru-suspends-good ru.Idle h = h
-ru-suspends-good ru.NoResources h = h
-ru-suspends-good (ru.Suspended o) h = h
-ru-suspends-good (ru.Ready o) h = ru-suspended o (fd-ready o h)
-ru-suspends-good (ru.Held o f p) h = ru-held o f true (fd-held o f p h) (held-frame o f p h)
-ru-suspends-good (ru.Filling s w) h =
+ru-suspend-good : (u : Ru) → RuGood u → RuGood (ruSuspend u)
+ru-suspend-good ru.Idle h = h
+ru-suspend-good ru.NoResources h = h
+ru-suspend-good (ru.Suspended o) h = h
+ru-suspend-good (ru.Ready o) h = ru-suspended o (fd-ready o h)
+ru-suspend-good (ru.Held o f p) h = ru-held o f true (fd-held o f p h) (held-frame o f p h)
+ru-suspend-good (ru.Filling s w) h =
     ru-filling (pausingStoring s) w (pausing-good s (filling-storing s w h)) (filling-walk s w h) (filling-left s w h)
-ru-suspends-good (ru.Closing s o full) h =
+ru-suspend-good (ru.Closing s o full) h =
     ru-closing (pausingStoring s) o full (pausing-good s (closing-storing s o full h)) (closing-free s o full h) (closing-full s o full h)
-ru-suspends-good (ru.Lacking s) h = ru-lacking (pausingStoring s) (pausing-good s (lacking-storing s h)) (lacking-left s h)
+ru-suspend-good (ru.Lacking s) h = ru-lacking (pausingStoring s) (pausing-good s (lacking-storing s h)) (lacking-left s h)
 
-ru-goes-good : (s : RuState) (first : Offset) (u : Ru) → first .0 < 65536 → RuGood u → RuGood (ruGoes s first u)
-ru-goes-good rus.Idle first u f h = ru-idle
-ru-goes-good rus.Suspended first u f h = ru-suspends-good u h
-ru-goes-good rus.NoResources first u f h = h
-ru-goes-good rus.Ready first u f h = ready-good first u f h
-
-ready-below : (u : Ru) → RuGood u → readyAt u .0 < 65536
-ready-below ru.Idle h = omega arith
-ready-below ru.NoResources h = omega arith
-ready-below (ru.Suspended o) h = fd-suspended o h
-ready-below (ru.Ready o) h = fd-ready o h
-ready-below (ru.Held o f p) h = fd-held o f p h
-ready-below (ru.Filling s w) h = filling-storing s w h .fd
-ready-below (ru.Closing s o full) h = closing-storing s o full h .fd
-ready-below (ru.Lacking s) h = lacking-storing s h .fd
-
-ru-first-below : (u : Units) (command : ℕ) (m : List ℕ) → RuGood (u .ru) → Bytes m → ruFirst u command m .0 < 65536
-unfolding ruFirst
-ru-first-below u command m h b = either-below (eqb (ruc command) 1) _ _ (field-bound m (ofScb u rfaAt) 2 b) (ready-below (u .ru) h)
+ru-by-good : (code : Code) (rfa : Offset) (u : Ru) → rfa .0 < 65536 → RuGood u → RuGood (ruBy code rfa u)
+ru-by-good start rfa u f h = ru-start-good rfa u f h
+ru-by-good resume rfa u f h = ru-resume-good u h
+ru-by-good suspend rfa u f h = ru-suspend-good u h
+ru-by-good abort rfa u f h = ru-idle
+ru-by-good other rfa u f h = h
 
 aborted-ru-bytes : (base : RealAddress) (u : Ru) → AllBytes (abortedRu base u)
 aborted-ru-bytes base ru.Idle = tt
@@ -219,20 +206,20 @@ aborted-ru-bytes base (ru.Filling s w) = (digits-bytes 2 0x0000, tt)
 aborted-ru-bytes base (ru.Closing s o full) = (digits-bytes 2 0x0000, tt)
 aborted-ru-bytes base (ru.Lacking s) = (digits-bytes 2 0x0000, tt)
 
-ru-writes-bytes : (s : RuState) (base : RealAddress) (u : Ru) → AllBytes (ruWrites s base u)
-ru-writes-bytes rus.Idle base u = aborted-ru-bytes base u
-ru-writes-bytes rus.Suspended base u = tt
-ru-writes-bytes rus.NoResources base u = tt
-ru-writes-bytes rus.Ready base u = tt
+ru-writes-bytes : (code : Code) (base : RealAddress) (u : Ru) → AllBytes (ruWrites code base u)
+ru-writes-bytes start base u = tt
+ru-writes-bytes resume base u = tt
+ru-writes-bytes suspend base u = tt
+ru-writes-bytes abort base u = aborted-ru-bytes base u
+ru-writes-bytes other base u = tt
 
 ruc-good : (u : Units) (command : ℕ) (m : List ℕ) → RuGood (u .ru) → Bytes m → RuGood (obeyRuc u command m .unit)
 unfolding obeyRuc
-ruc-good u command m h b =
-    ru-goes-good (ruNext (ruc command) (ruState (u .ru))) (ruFirst u command m) (u .ru) (ru-first-below u command m h b) h
+ruc-good u command m h b = ru-by-good (codeOf (ruc command)) (offsetAt m (ofScb u rfaAt)) (u .ru) (field-bound m (ofScb u rfaAt) 2 b) h
 
 ruc-bytes : (u : Units) (command : ℕ) (m : List ℕ) → AllBytes (obeyRuc u command m .writes)
 unfolding obeyRuc
-ruc-bytes u command m = ru-writes-bytes (ruNext (ruc command) (ruState (u .ru))) (u .base) (u .ru)
+ruc-bytes u command m = ru-writes-bytes (codeOf (ruc command)) (u .base) (u .ru)
 
 -- ---- the status is of bytes
 
@@ -267,37 +254,33 @@ initialise-good d m h b =
     (bytes-cons 0 [] (omega arith) bytes-nil, (digits-bytes 2 0xA000, (digits-bytes 2 0x0000, tt)))
 
 -- RESET
-reset-good : (d : Device) → AttendedGood (resetBy d)
-unfolding resetBy
-reset-good d = record { range = fresh-range; wide = fresh-wide; writes = (digits-bytes 2 0x0000, tt) }
+reset-good : (d : Device) (command : ℕ) (m : List ℕ) → AttendedGood (attendBy true d command m)
+unfolding attendBy
+reset-good d command m = record { range = fresh-range; wide = fresh-wide; writes = (digits-bytes 2 0x0000, tt) }
 
 -- every other
-after-good : (d : Device) (command : ℕ) (c : Cu) (cl : Bool) (r : Ru) (rl : Bool) → Running d → CuGood c → RuGood r
-    → Running (withUnits d (unitsAfter (d .units) command c cl r rl))
-unfolding unitsAfter
-after-good d command c cl r rl h p q =
-    record { initialised = h .initialised; base = h .base; scb = h .scb; cu = p; ru = q; setup = h .setup }
-
-obeyed-good : (d : Device) (command : ℕ) (c : Obeyed Cu) (r : Obeyed Ru) → Running d → CuGood (c .unit) → AllBytes (c .writes)
-    → RuGood (r .unit) → AllBytes (r .writes)
-    → AttendedGood (obeyedBy d command c r)
-obeyed-good d command c r h p v q w =
-    let u = unitsAfter (d .units) command (c .unit) (c .left) (r .unit) (r .left) in
-    running-good (obeyedBy d command c r) (after-good d command (c .unit) (c .left) (r .unit) (r .left) h p q)
-    (all-append (c .writes ++ r .writes) (settledWrites u) (all-append (c .writes) (r .writes) v w) (status-bytes u, (digits-bytes 2 0x0000, tt)))
-
-obey-good : (d : Device) (command : ℕ) (m : List ℕ) → Running d → Bytes m → AttendedGood (obey d command m)
-unfolding obey
+obey-good : (d : Device) (command : ℕ) (m : List ℕ) → Running d → Bytes m → AttendedGood (attendBy false d command m)
+unfolding attendBy
 obey-good d command m h b =
     let c = obeyCuc (d .units) command m in
     let v = cuc-bytes (d .units) command m in
     let m₁ = apply (c .writes) m in
-    obeyed-good d command c (obeyRuc (d .units) command m₁) h (cuc-good (d .units) command m (h .cu) b) v
-    (ruc-good (d .units) command m₁ (h .ru) (apply-bytes (c .writes) m v b))
-    (ruc-bytes (d .units) command m₁)
+    let r = obeyRuc (d .units) command m₁ in
+    let u = attendBy false d command m .outcome .device .units in
+    running-good (attendBy false d command m)
+    (record {
+      initialised = h .initialised;
+      base = h .base;
+      scb = h .scb;
+      cu = cuc-good (d .units) command m (h .cu) b;
+      ru = ruc-good (d .units) command m₁ (h .ru) (apply-bytes (c .writes) m v b);
+      setup = h .setup;
+    })
+    (all-append (c .writes ++ r .writes) (settledWrites u) (all-append (c .writes) (r .writes) v (ruc-bytes (d .units) command m₁))
+    (status-bytes u, (digits-bytes 2 0x0000, tt)))
 
 attend-good-by : (reset : Bool) (d : Device) (command : ℕ) (m : List ℕ) → Running d → Bytes m → AttendedGood (attendBy reset d command m)
-attend-good-by true d command m h b = reset-good d
+attend-good-by true d command m h b = reset-good d command m
 attend-good-by false d command m h b = obey-good d command m h b
 
 attend-good : (d : Device) (m : List ℕ) → Running d → Bytes m → AttendedGood (attend d m)

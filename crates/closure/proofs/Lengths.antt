@@ -83,7 +83,7 @@ unfolding commandTurn
 command-lengths w report =
     let s = command-service.service (command.partOf (w .device) (w .outgoing)) (w .memory) report in
     record {
-      memory = length-apply (written (s .writes) (s .raised) (commandUnits (w .device) s)) (w .memory);
+      memory = length-apply (written (w .device .units) (s .writes) (s .raised) (commandUnits (w .device) s)) (w .memory);
       holding = refl;
       outgoing = command-length (w .device) (w .memory) (w .outgoing) report;
     }
@@ -93,7 +93,7 @@ unfolding receiveTurn
 receive-lengths w =
     let s = receive-service.service (receive.partOf (w .device .units) (w .holding)) (w .memory) in
     record {
-      memory = length-apply (written (s .writes) (s .raised) (receiveUnits (w .device) s)) (w .memory);
+      memory = length-apply (written (w .device .units) (s .writes) (s .raised) (receiveUnits (w .device) s)) (w .memory);
       holding = refl;
       outgoing = refl;
     }

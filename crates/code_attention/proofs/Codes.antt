@@ -6,10 +6,8 @@ use Prim.Native.Nat.{ℕ, _+_, _*_, _/_, _%_, _<_, _≤_}
 use native.Mathlib.Omega.{arith}
 use lib.Bits.{bitAnd, and-mask, and-shr, and-mod}
 use Rattle.memory.specs.Memory.{apply}
-use Rattle.memory.specs.declared.Offset.{Offset}
-use Rattle.memory.specs.declared.RealAddress.{RealAddress}
 use Rattle.memory.proofs.Laws.{apply-append}
-use Rattle.scb.specs.Control.{cuNext, ruNext}
+use Rattle.scb.specs.Control.{codeOf}
 use Rattle.scb.specs.Words.{one, bitsAt, joined, eventBits, acknowledged, cuc, ruc}
 use Rattle.scb.proofs.Raising.{raise-none}
 use Rattle.device.specs.Change.{withEvents}
@@ -22,9 +20,8 @@ use Rattle.device.specs.declared.Units.{Units}
 use Rattle.phases.specs.Phases.{cuTag, ruTag}
 use Rattle.packed.specs.Packed.{CuIs, RuIs, PackedIs}
 use Rattle.packed.specs.declared.Packed.{Packed}
-use Rattle.control.specs.Control.{cuGoes, cuWrites, ruGoes, ruWrites}
-use Rattle.control.specs.Obey.{cuFirst, obeyCuc, ruFirst, obeyRuc}
-use Rattle.attention.specs.Attention.{leaving, unitsAfter}
+use Rattle.control.specs.Obey.{obeyCuc, obeyRuc}
+use Rattle.attention.specs.Attention.{leaving}
 use Rattle.code_control.specs.Obeys.{CuObeys, RuObeys}
 use Rattle.code_control.specs.declared.CuObeyed.{CuObeyed}
 use Rattle.code_control.specs.declared.RuObeyed.{RuObeyed}
@@ -46,63 +43,22 @@ no-ruc command e =
     let c : command / 16 % 8 % 8 ≡ 0 = sym (and-mask (command / 16 % 8) 3) ∙ b in
     omega (arith, c)
 
-module _ (base : RealAddress) (first : Offset) where
-  cu-stays : (c : Cu) → cuGoes (cuState c) first c ≡ c
-  cu-stays cu.Idle = refl
-  cu-stays (cu.Suspended o) = refl
-  cu-stays (cu.Waiting o) = refl
-  cu-stays (cu.Acting b a) = refl
-  cu-stays (cu.Sending b w) = refl
-  cu-stays (cu.Ending b n) = refl
-  cu-stays (cu.Failing b) = refl
-
-  cu-quiet : (c : Cu) → cuWrites (cuState c) base c ≡ []
-  cu-quiet cu.Idle = refl
-  cu-quiet (cu.Suspended o) = refl
-  cu-quiet (cu.Waiting o) = refl
-  cu-quiet (cu.Acting b a) = refl
-  cu-quiet (cu.Sending b w) = refl
-  cu-quiet (cu.Ending b n) = refl
-  cu-quiet (cu.Failing b) = refl
-
-  ru-stays : (v : Ru) → ruGoes (ruState v) first v ≡ v
-  ru-stays ru.Idle = refl
-  ru-stays ru.NoResources = refl
-  ru-stays (ru.Suspended o) = refl
-  ru-stays (ru.Ready o) = refl
-  ru-stays (ru.Held o f p) = refl
-  ru-stays (ru.Filling s w) = refl
-  ru-stays (ru.Closing s o full) = refl
-  ru-stays (ru.Lacking s) = refl
-
-  ru-quiet : (v : Ru) → ruWrites (ruState v) base v ≡ []
-  ru-quiet ru.Idle = refl
-  ru-quiet ru.NoResources = refl
-  ru-quiet (ru.Suspended o) = refl
-  ru-quiet (ru.Ready o) = refl
-  ru-quiet (ru.Held o f p) = refl
-  ru-quiet (ru.Filling s w) = refl
-  ru-quiet (ru.Closing s o full) = refl
-  ru-quiet (ru.Lacking s) = refl
-
 not-left : (b : Bool) → (b && not b) ≡ false
 not-left true = refl
 not-left false = refl
 
 cu-none : (u : Units) (command : ℕ) (m : List ℕ) → cuc command ≡ 0 → obeyCuc u command m ≡ record { unit = u .cu; writes = []; left = false }
-unfolding obeyCuc cuNext
-cu-none u command m e =
-    rw (e, cu-stays (u .base) (cuFirst u command m) (u .cu), cu-quiet (u .base) (cuFirst u command m) (u .cu), not-left (isActive (cuState (u .cu))))
+unfolding obeyCuc codeOf
+cu-none u command m e = rw (e, not-left (isActive (cuState (u .cu))))
 
 ru-none : (u : Units) (command : ℕ) (m : List ℕ) → ruc command ≡ 0 → obeyRuc u command m ≡ record { unit = u .ru; writes = []; left = false }
-unfolding obeyRuc ruNext
-ru-none u command m e =
-    rw (e, ru-stays (u .base) (ruFirst u command m) (u .ru), ru-quiet (u .base) (ruFirst u command m) (u .ru), not-left (isReady (ruState (u .ru))))
+unfolding obeyRuc codeOf
+ru-none u command m e = rw (e, not-left (isReady (ruState (u .ru))))
 
 -- a command with both codes 0 acknowledges, and nothing else
 pub codes-none : (u : Units) (command : ℕ) (m : List ℕ) → bitAnd command 0x0770 ≡ 0
     → codes u command m ≡ record { units = withEvents u (acknowledged (u .events) command); writes = [] }
-unfolding codes unitsAfter
+unfolding codes
 codes-none u command m e =
     rw (cu-none u command m (no-cuc command e), ru-none u command m (no-ruc command e), raise-none (acknowledged (u .events) command))
 
@@ -157,7 +113,7 @@ pub codes-are : (u : Units) (command : ℕ) (m m1 m2 : List ℕ) (c : CuObeyed) 
     → ((a : Cu) (v : Ru) → CuIs a (c .tag) (c .word) → RuIs v (r .tag) (r .word) (r .rest)
     → PackedIs (bothWith (withEvents u (acknowledged (u .events) command)) a v (leaving (leftActive (u .cu) a) (leftReady (u .ru) v))) x)
     → Obeys (codes u command m) m x m2
-unfolding codes unitsAfter obeyCuc obeyRuc
+unfolding codes obeyCuc obeyRuc
 codes-are u command m m1 m2 c r x oc or f =
     let after = apply (obeyCuc u command m .writes) m in
     let o : RuObeys (obeyRuc u command after) after r m2 = subst (λ (z : List ℕ). RuObeys (obeyRuc u command z) z r m2) (oc .memory) or in

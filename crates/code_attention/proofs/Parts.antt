@@ -16,7 +16,7 @@ use Rattle.packed.specs.SetUp.{SetIs}
 use Rattle.packed.specs.declared.Packed.{Packed}
 use Rattle.packed.proofs.Laws.{events-is}
 use Rattle.control.specs.Obey.{ofScb}
-use Rattle.attention.specs.Attention.{initialise, resetBy, unitsAfter, obey, attend, attentionBy, attention}
+use Rattle.attention.specs.Attention.{initialise, attendBy, attend, attentionBy, attention}
 use Rattle.attention.specs.Status.{statusTo}
 use Rattle.code_attention.specs.Attends.{commandTo, codes, Obeys, Leaves, Attends}
 
@@ -24,8 +24,8 @@ module _ (d : Device) (m : List ℕ) where
   -- the codes, then status and command
   pub obeys-all : (command : ℕ) (m1 m2 : List ℕ) (k : Packed) → Obeys (codes (d .units) command m) m k m1
       → m2 ≡ apply (statusTo (codes (d .units) command m .units) ∷ commandTo (codes (d .units) command m .units) ∷ []) m1
-      → Leaves (obey d command m) m k m2
-  unfolding obey codes
+      → Leaves (attendBy false d command m) m k m2
+  unfolding attendBy codes
   obeys-all command m1 m2 k o e =
       let ws = codes (d .units) command m .writes in
       let after = statusTo (codes (d .units) command m .units) ∷ commandTo (codes (d .units) command m .units) ∷ [] in
@@ -33,14 +33,14 @@ module _ (d : Device) (m : List ℕ) where
 
   pub attends-reset : (m1 set : List ℕ) (k : Packed) → resets (wordAt m (ofScb (d .units) 2)) ≡ true → PackedIs freshUnits k
       → m1 ≡ apply (commandTo (d .units) ∷ []) m → SetIs (setupOf fresh) set → Attends (attend d m) m (record { kept = k; edge = false }) m1 set
-  unfolding attend resetBy
+  unfolding attend attendBy
   attends-reset m1 set k e h w s = rw e (record { kept = h; edge = refl; memory = w; setup = s })
 
   pub attends-obeyed : (command : ℕ) (m1 set : List ℕ) (k : Packed) → command ≡ wordAt m (ofScb (d .units) 2) → resets command ≡ false
-      → Leaves (obey d command m) m k m1 → SetIs (setupOf d) set → Attends (attend d m) m (record { kept = k; edge = not (eqb (marksIn k / 16) 0) }) m1 set
-  unfolding attend obey unitsAfter
+      → Leaves (attendBy false d command m) m k m1 → SetIs (setupOf d) set → Attends (attend d m) m (record { kept = k; edge = not (eqb (marksIn k / 16) 0) }) m1 set
+  unfolding attend attendBy
   attends-obeyed command m1 set k c e l s =
-      let u = obey d command m .outcome .device .units in
+      let u = attendBy false d command m .outcome .device .units in
       let edge : not (eqb (marksIn k / 16) 0) ≡ anyOf (u .events) = rw (events-is u k (l .kept)) (sym (any-bits (u .events))) in
       rw (← c, e) (record { kept = l .kept; edge = edge; memory = l .memory; setup = s })
 

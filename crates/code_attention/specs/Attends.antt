@@ -4,7 +4,7 @@ use mathlib.Core.Bool.{Bool, not, _&&_}
 use mathlib.Core.List.{List, _++_}
 use Prim.Native.Nat.{ℕ}
 use Rattle.memory.specs.Memory.{Write, wordTo, apply}
-use Rattle.scb.specs.Words.{scbCommandAt, raise}
+use Rattle.scb.specs.Words.{scbCommandAt, acknowledged, raise}
 use Rattle.scb.specs.declared.Events.{Events}
 use Rattle.device.specs.Change.{withCu, withRu, withEvents}
 use Rattle.device.specs.State.{cuState, ruState, isActive, isReady}
@@ -15,9 +15,9 @@ use Rattle.actions.specs.Setup.{setupOf}
 use Rattle.packed.specs.Packed.{PackedIs}
 use Rattle.packed.specs.SetUp.{SetIs}
 use Rattle.packed.specs.declared.Packed.{Packed}
-use Rattle.control.specs.Obey.{Obeyed, ofScb, obeyCuc, obeyRuc}
+use Rattle.control.specs.Obey.{ofScb, obeyCuc, obeyRuc}
 use Rattle.attention.specs.Attention as attentions
-use Rattle.attention.specs.Attention.{unitsAfter}
+use Rattle.attention.specs.Attention.{leaving}
 use Rattle.code_attention.specs.declared.Attended.{Attended}
 
 -- a unit left Active; a unit left Ready
@@ -41,11 +41,12 @@ pub record Codes : Type 0 where
   pub units : Units
   pub writes : List Write
 
-abbrev pub codesBy : Units → ℕ → Obeyed Cu → Obeyed Ru → Codes
-codesBy u command c r = record { units = unitsAfter u command (c .unit) (c .left) (r .unit) (r .left); writes = c .writes ++ r .writes }
-
 unfoldable pub codes : Units → ℕ → List ℕ → Codes
-codes u command m = let c = obeyCuc u command m in codesBy u command c (obeyRuc u command (apply (c .writes) m))
+codes u command m =
+    let cleared = withEvents u (acknowledged (u .events) command) in
+    let c = obeyCuc u command m in
+    let r = obeyRuc u command (apply (c .writes) m) in
+    record { units = bothWith cleared (c .unit) (r .unit) (leaving (c .left) (r .left)); writes = c .writes ++ r .writes }
 
 -- ---- what the code does
 

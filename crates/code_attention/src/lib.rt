@@ -9,6 +9,7 @@ use packed::cu;
 use packed::ru;
 use packed::setup;
 ghost use mathlib.Core.Path.{_≡_};
+ghost use mathlib.Core.Bool.{false};
 ghost use mathlib.Core.List.{[], _∷_};
 ghost use Prim.Native.Nat.{_*_, _<_};
 ghost use lib.ListN.{length};
@@ -261,7 +262,7 @@ fn clear_command(memory: &mut [u8], k: Packed)
 // Acknowledge, CUC, RUC, status, command.
 fn obey(memory: &mut [u8], k: Packed, command: u16) -> Packed
     ensures { λ r. ⌜ ((d : Device) → kept.PackedIs (d .units) k
-        → attends.Leaves (attentions.obey d command (now (memory .entry))) (now (memory .entry)) r (now (memory .exit))) ⌝ }
+        → attends.Leaves (attentions.attendBy false d command (now (memory .entry))) (now (memory .entry)) r (now (memory .exit))) ⌝ }
 {
     let after = obeyed(memory, k, command);
     write_status(memory, after);

@@ -10,7 +10,7 @@ use Rattle.device.specs.Answers.{answered}
 use Rattle.device.specs.State.{cuState, isActive, isHolding}
 use Rattle.device.specs.declared.Answer.{Answer}
 use Rattle.device.specs.declared.Device.{Device}
-use Rattle.attention.specs.Attention.{initialise, resetBy, obey, attendBy, attend, attentionBy, attention}
+use Rattle.attention.specs.Attention.{initialise, attendBy, attend, attentionBy, attention}
 use Rattle.chip.specs.World.{World, Ran, afterwards}
 use Rattle.chip.specs.Turn.{concluded, commandTurn, receiveTurn, servedBy, turnBy, turnOf}
 use Rattle.chip.specs.Run.{Run, stopsAt, continued, runOf}
@@ -20,7 +20,7 @@ abbrev pub Plain : Answer → Type 0
 Plain a = a ≡ answered (a .length) (a .edge)
 
 attend-plain : (r : Bool) (d : Device) (command : ℕ) (m : List ℕ) → attendBy r d command m .outcome .answer ≡ answered 0 (attendBy r d command m .outcome .answer .edge)
-unfolding resetBy obey
+unfolding attendBy
 attend-plain true d command m = refl
 attend-plain false d command m = refl
 

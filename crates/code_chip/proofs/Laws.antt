@@ -1,6 +1,6 @@
 -- What a turn in numbers comes to: which unit has work, the end of a working turn, a service of each unit, and an arrival. Assumes nothing.
 use mathlib.Core.Path.{_≡_, refl, sym, ap, _∙_}
-use mathlib.Core.Bool.{Bool, true, false, not, _&&_, _||_, true≢false, false≢true}
+use mathlib.Core.Bool.{Bool, true, false, not, _||_, true≢false, false≢true}
 use mathlib.Core.List.{List, [], _∷_}
 use Prim.Native.Nat.{ℕ, zero, suc, _+_, _/_, _<_, _≤_}
 use native.Mathlib.Omega.{arith}
@@ -16,7 +16,7 @@ use Rattle.scb.specs.declared.Events.{Events}
 use Rattle.scb.proofs.Status.{any-bits}
 use Rattle.device.specs.Answers.{answered, counts}
 use Rattle.device.specs.Change.{withSettings}
-use Rattle.device.specs.State.{cuState, isActive, isHolding}
+use Rattle.device.specs.State.{cuWorks, ruWorks}
 use Rattle.device.specs.declared.Cu.{Cu}
 use Rattle.device.specs.declared.Cu.the-variants as cu
 use Rattle.device.specs.declared.Device.{Device}
@@ -34,7 +34,10 @@ use Rattle.receive.specs.Service as receive-service
 use Rattle.attention.specs.Status.{statusTo}
 use Rattle.chip.specs.World.{World, worldOf}
 use Rattle.chip.specs.Arrival.{arrival, arrivalOf}
-use Rattle.chip.specs.Turn.{commandUnits, receiveUnits, raisedIn, statusBy, concluded, commandTurn, receiveTurn, turnBy, turnOf, servedBy}
+use Rattle.chip.specs.Turn.{commandUnits, receiveUnits, raisedIn, statusBy, concluded, commandTurn, receiveTurn, turnBy, turnOf, servedBy, servedOf, isCommand}
+use Rattle.chip.specs.declared.Served.{Served}
+use Rattle.chip.specs.declared.Served.the-variants as serves
+use Rattle.chip.proofs.Status.{command-memory, receive-memory}
 use Rattle.chip.specs.Run.{tells, stops, stopsAt}
 use Rattle.phases.specs.Fields.{odd}
 use Rattle.phases.specs.Phases.{cuTag, ruTag}
@@ -51,7 +54,7 @@ use Rattle.code_chip.specs.Does.{DeviceIs, toldBy, commands, Concludes, 
 use Rattle.code_chip.specs.declared.Turned.{Turned}
 
 -- CU has work while Active, RU while a frame is held
-pub active-tag : (c : Cu) → leb 2 (cuTag c) ≡ isActive (cuState c)
+pub active-tag : (c : Cu) → leb 2 (cuTag c) ≡ cuWorks c
 active-tag cu.Idle = refl
 active-tag (cu.Suspended o) = refl
 active-tag (cu.Waiting o) = refl
@@ -60,7 +63,7 @@ active-tag (cu.Sending b w) = refl
 active-tag (cu.Ending b n) = refl
 active-tag (cu.Failing b) = refl
 
-pub holding-tag : (u : Ru) → leb 4 (ruTag u) ≡ isHolding u
+pub holding-tag : (u : Ru) → leb 4 (ruTag u) ≡ ruWorks u
 holding-tag ru.Idle = refl
 holding-tag ru.NoResources = refl
 holding-tag (ru.Suspended o) = refl
@@ -147,7 +150,9 @@ module _ (d : Device) (m h out : List ℕ) (report : ℕ) where
         told = f .told ∙ ap (λ (n : ℕ). toldBy n (anyOf (served .raised))) (s .length);
         stops = f .stops ∙ ap (λ (n : ℕ). tells (answered n (anyOf (served .raised)))) (s .length);
         nothing = λ q. quiet _ _ _ _ _ _ _ f q;
-        memory = f .memory ∙ rw (s .memory) (sym (apply-append (served .writes) (statusBy (anyOf (served .raised)) commandedUnits) m));
+        memory =
+            f .memory ∙ rw (s .memory) (sym (apply-append (served .writes) (statusBy (anyOf (served .raised)) commandedUnits) m))
+            ∙ sym (command-memory (worldOf d m h out) report);
         outgoing = s .outgoing;
       }
 
@@ -167,22 +172,23 @@ module _ (d : Device) (m h out set : List ℕ) where
         told = f .told;
         stops = f .stops;
         nothing = λ q. quiet _ _ _ _ _ _ _ f q;
-        memory = f .memory ∙ rw (s .memory) (sym (apply-append (received .writes) (statusBy (anyOf (received .raised)) receivedUnits) m));
+        memory =
+            f .memory ∙ rw (s .memory) (sym (apply-append (received .writes) (statusBy (anyOf (received .raised)) receivedUnits) m))
+            ∙ sym (receive-memory (worldOf d m h out));
         outgoing = refl;
       }
 
 -- ---- which unit is served
 
 module _ (w : World) (report : ℕ) (r : Turned) (m out set : List ℕ) where
-  by-command : (a b c : Bool) → (a && (not b || c)) ≡ true → Tells (commandTurn w report) r m out set
-      → Does (turnBy (servedBy a b c) w report) (stops (servedBy a b c) (turnBy (servedBy a b c) w report .outcome .answer)) r m out set
+  by-command : (s : Served) → isCommand s ≡ true → Tells (commandTurn w report) r m out set
+      → Does (turnBy s w report) (stops s (turnBy s w report .outcome .answer)) r m out set
   unfolding stops
-  by-command true true true e t = t
-  by-command true true false e t = absurd (false≢true e)
-  by-command true false c e t = t
-  by-command false b c e t = absurd (false≢true e)
+  by-command serves.Neither e t = absurd (false≢true e)
+  by-command serves.CommandUnit e t = t
+  by-command serves.ReceiveUnit e t = absurd (false≢true e)
 
-  by-receive : (a b c : Bool) → (a && (not b || c)) ≡ false → b ≡ true → Tells (receiveTurn w) r m out set
+  by-receive : (a b c : Bool) → isCommand (servedBy a b c) ≡ false → b ≡ true → Tells (receiveTurn w) r m out set
       → Does (turnBy (servedBy a b c) w report) (stops (servedBy a b c) (turnBy (servedBy a b c) w report .outcome .answer)) r m out set
   unfolding stops
   by-receive true true true e f t = absurd (true≢false e)
@@ -191,7 +197,7 @@ module _ (w : World) (report : ℕ) (r : Turned) (m out set : List ℕ) where
   by-receive false true c e f t = t
   by-receive false false c e f t = absurd (false≢true f)
 
-  by-neither : (a b c : Bool) → (a && (not b || c)) ≡ false → b ≡ false → DeviceIs (w .device) (r .kept) set → r .told ≡ 0 → r .stops ≡ true
+  by-neither : (a b c : Bool) → isCommand (servedBy a b c) ≡ false → b ≡ false → DeviceIs (w .device) (r .kept) set → r .told ≡ 0 → r .stops ≡ true
       → m ≡ w .memory → out ≡ w .outgoing
       → Does (turnBy (servedBy a b c) w report) (stops (servedBy a b c) (turnBy (servedBy a b c) w report .outcome .answer)) r m out set
   unfolding stops
@@ -201,15 +207,15 @@ module _ (w : World) (report : ℕ) (r : Turned) (m out set : List ℕ) where
   by-neither false false c e f d l s x y = record { device = d; told = l; stops = s; nothing = λ q. l; memory = x; outgoing = y }
 
   abbrev active : Bool
-  active = isActive (cuState (w .device .units .cu))
+  active = cuWorks (w .device .units .cu)
 
   abbrev holds : Bool
-  holds = isHolding (w .device .units .ru)
+  holds = ruWorks (w .device .units .ru)
 
   pub turn-command : commands (w .device .units) ≡ true → Tells (commandTurn w report) r m out set
       → Does (turnOf w report) (stopsAt w report) r m out set
   unfolding turnOf commands
-  turn-command e t = by-command active holds (w .device .units .rulast) e t
+  turn-command e t = by-command (servedOf (w .device .units)) e t
 
   pub turn-receive : commands (w .device .units) ≡ false → holds ≡ true → Tells (receiveTurn w) r m out set
       → Does (turnOf w report) (stopsAt w report) r m out set
@@ -221,17 +227,25 @@ module _ (w : World) (report : ℕ) (r : Turned) (m out set : List ℕ) where
   unfolding turnOf commands
   turn-neither e f d l s x y = by-neither active holds (w .device .units .rulast) e f d l s x y
 
+idle-served : (b c : Bool) → false ≡ isCommand (servedBy false b c)
+idle-served true c = refl
+idle-served false c = refl
+
+both-served : (c : Bool) → isCommand (servedBy true true c) ≡ c
+both-served true = refl
+both-served false = refl
+
 -- what the code tests is that
 module _ (u : Units) (k : Packed) (h : PackedIs u k) where
-  active-is : leb 2 (cuTagIn k) ≡ isActive (cuState (u .cu))
+  active-is : leb 2 (cuTagIn k) ≡ cuWorks (u .cu)
   active-is = rw (cu-is u k h .tag-is) (active-tag (u .cu))
 
-  pub holds-is : leb 4 (ruTagIn k) ≡ isHolding (u .ru)
+  pub holds-is : leb 4 (ruTagIn k) ≡ ruWorks (u .ru)
   holds-is = rw (ru-is u k h .tag-is) (holding-tag (u .ru))
 
   pub commands-idle : cuTagIn k < 2 → false ≡ commands u
   unfolding commands
-  commands-idle l = let a = sym active-is ∙ lt-leb 2 (cuTagIn k) l in rw a
+  commands-idle l = let a = sym active-is ∙ lt-leb 2 (cuTagIn k) l in rw a (idle-served (ruWorks (u .ru)) (u .rulast))
 
   pub commands-alone : 2 ≤ cuTagIn k → ruTagIn k < 4 → true ≡ commands u
   unfolding commands
@@ -245,7 +259,7 @@ module _ (u : Units) (k : Packed) (h : PackedIs u k) where
   commands-next l n =
       let a = sym active-is ∙ le-leb 2 (cuTagIn k) l in
       let b = sym holds-is ∙ le-leb 4 (ruTagIn k) n in
-      rw (a, b) (rulast-is u k h)
+      rw (a, b, both-served (u .rulast)) (rulast-is u k h)
 
 -- ---- an arrival
 

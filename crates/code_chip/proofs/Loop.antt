@@ -1,13 +1,14 @@
 -- Turns in a row, for the loop that takes them: where it stands, one turn more, and its ends. Assumes nothing.
 use mathlib.Core.Path.{_≡_, refl, sym, _∙_}
-use mathlib.Core.Bool.{Bool, true, false}
+use mathlib.Core.Bool.{true, false}
 use mathlib.Core.List.{List}
 use Prim.Native.Nat.{ℕ, _+_, _-_, _≤_, _<_}
 use native.Mathlib.Omega.{arith}
-use Rattle.device.specs.State.{cuState, isActive, isHolding}
 use Rattle.device.specs.declared.Device.{Device}
 use Rattle.chip.specs.World.{World, worldOf, afterwards}
-use Rattle.chip.specs.Turn.{commandTurn, receiveTurn, servedBy, turnBy, turnOf}
+use Rattle.chip.specs.Turn.{commandTurn, receiveTurn, servedOf, turnBy, turnOf}
+use Rattle.chip.specs.declared.Served.{Served}
+use Rattle.chip.specs.declared.Served.the-variants as served
 use Rattle.chip.specs.Run.{Run, stopsAt, runOf, runFrom}
 use Rattle.chip.proofs.Run.{from-start, from-none, from-stops, from-goes}
 use Rattle.packed.specs.declared.Packed.{Packed}
@@ -16,17 +17,15 @@ use Rattle.code_chip.specs.declared.Turned.{Turned}
 use Rattle.code_chip.specs.declared.Turns.{Turns}
 
 -- a turn only reads the holding area
-holding-by : (a b c : Bool) (w : World) (report : ℕ) → turnBy (servedBy a b c) w report .holding ≡ w .holding
+holding-by : (s : Served) (w : World) (report : ℕ) → turnBy s w report .holding ≡ w .holding
 unfolding commandTurn receiveTurn
-holding-by true true true w report = refl
-holding-by true true false w report = refl
-holding-by true false c w report = refl
-holding-by false true c w report = refl
-holding-by false false c w report = refl
+holding-by served.Neither w report = refl
+holding-by served.CommandUnit w report = refl
+holding-by served.ReceiveUnit w report = refl
 
 pub holding-kept : (w : World) (report : ℕ) → turnOf w report .holding ≡ w .holding
 unfolding turnOf
-holding-kept w report = holding-by (isActive (cuState (w .device .units .cu))) (isHolding (w .device .units .ru)) (w .device .units .rulast) w report
+holding-kept w report = holding-by (servedOf (w .device .units)) w report
 
 -- so many turns are taken, the last of them had nothing to tell, and the rest of the run is that of the device here
 pub record Going (total : Run) (report budget taken told : ℕ) (k : Packed) (m h out set : List ℕ) : Type 0 where

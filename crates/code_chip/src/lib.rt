@@ -4,17 +4,10 @@ use packed::Packed;
 use packed::cu;
 use packed::ru;
 ghost use mathlib.Core.Path.{_≡_};
-ghost use mathlib.Core.List.{List};
-ghost use Prim.Native.Nat.{ℕ};
 ghost use lib.ListN.{length};
 ghost use Rattle.scb.specs.Words as words;
 ghost use Rattle.scb.specs.declared.Events.{Events};
-ghost use Rattle.device.specs.declared.Device.{Device};
 ghost use Rattle.device.specs.declared.Units.{Units};
-ghost use Rattle.chip.specs.World as world;
-ghost use Rattle.chip.specs.Arrival as arrivals;
-ghost use Rattle.chip.specs.Turn as turns;
-ghost use Rattle.chip.specs.Run as runs;
 ghost use Rattle.packed.specs.Packed as keeps;
 ghost use Rattle.packed.specs.SetUp.{setupSize};
 ghost use Rattle.code_chip.specs.Does as does;
@@ -41,7 +34,8 @@ const HEADER: usize = 14;
 
 // ---- a turn
 
-// The end of a working turn: the status is written if an event was raised.
+// The end of a working turn: the status is written if an event was raised. That is whenever it is due, since no unit changes its state at a turn
+// that raises none (`chip`, proofs/Status).
 fn conclude(memory: &mut [u8], k: Packed, raised: u64, length: u16) -> Turned
     ensures { λ r. ⌜ ((u : Units) (by : Events) → keeps.PackedIs u k → raised ≡ words.eventBits by → does.Concludes u by k length (now (memory .entry)) r (now (memory .exit))) ⌝ }
 {
@@ -69,7 +63,8 @@ fn command_turn(
     report: u16,
 ) -> Turned
     requires { ⌜ length (now setup) ≡ setupSize ⌝ }
-    ensures { λ r. ⌜ ((d : Device) (h : List ℕ) → does.DeviceIs d k (now (setup .entry)) → does.Tells (turns.commandTurn (world.worldOf d (now (memory .entry)) h (now (outgoing .entry))) report) r (now (memory .exit)) (now (outgoing .exit)) (now (setup .exit))) ⌝ }
+    ensures { λ r. ⌜ does.CommandTurns k report (now (memory .entry)) (now (outgoing .entry)) (now (setup .entry))
+        r (now (memory .exit)) (now (outgoing .exit)) (now (setup .exit)) ⌝ }
 {
     let c = code_command::serve(
         memory,
@@ -86,7 +81,7 @@ fn command_turn(
 
 // The receive unit is served.
 fn receive_turn(memory: &mut [u8], holding: &[u8], k: Packed) -> Turned
-    ensures { λ r. ⌜ ((d : Device) (out set : List ℕ) → does.DeviceIs d k set → does.Tells (turns.receiveTurn (world.worldOf d (now (memory .entry)) (now (holding .entry)) out)) r (now (memory .exit)) out set) ⌝ }
+    ensures { λ r. ⌜ does.ReceiveTurns k (now (memory .entry)) (now (holding .entry)) r (now (memory .exit)) ⌝ }
 {
     let s = code_receive::serve(
         memory,
@@ -124,7 +119,8 @@ pub fn turn(
     report: u16,
 ) -> Turned
     requires { ⌜ length (now setup) ≡ setupSize ⌝ }
-    ensures { λ r. ⌜ ((d : Device) → does.DeviceIs d k (now (setup .entry)) → does.Does (turns.turnOf (world.worldOf d (now (memory .entry)) (now (holding .entry)) (now (outgoing .entry))) report) (runs.stopsAt (world.worldOf d (now (memory .entry)) (now (holding .entry)) (now (outgoing .entry))) report) r (now (memory .exit)) (now (outgoing .exit)) (now (setup .exit))) ⌝ }
+    ensures { λ r. ⌜ does.TurnTakes k report (now (memory .entry)) (now (holding .entry)) (now (outgoing .entry)) (now (setup .entry))
+        r (now (memory .exit)) (now (outgoing .exit)) (now (setup .exit)) ⌝ }
 {
     if commands(k) {
         return command_turn(memory, outgoing, setup, k, report);
@@ -152,7 +148,8 @@ pub fn run(
     budget: u16,
 ) -> Turns
     requires { ⌜ length (now setup) ≡ setupSize ⌝ }
-    ensures { λ r. ⌜ ((d : Device) → does.DeviceIs d k (now (setup .entry)) → does.Runs (runs.runOf budget (world.worldOf d (now (memory .entry)) (now (holding .entry)) (now (outgoing .entry))) report) r (now (memory .exit)) (now (outgoing .exit)) (now (setup .exit))) ⌝ }
+    ensures { λ r. ⌜ does.RunTakes k report budget (now (memory .entry)) (now (holding .entry)) (now (outgoing .entry)) (now (setup .entry))
+        r (now (memory .exit)) (now (outgoing .exit)) (now (setup .exit)) ⌝ }
 {
     let mut state = k;
     let mut told: u32 = 0;
@@ -189,7 +186,8 @@ pub fn arrival(
     verdict: u32,
 ) -> Packed
     requires { ⌜ length (now setup) ≡ setupSize ⌝ }
-    ensures { λ r. ⌜ ((d : Device) (out : List ℕ) → does.DeviceIs d k (now (setup .entry)) → does.Arrives (arrivals.arrivalOf (world.worldOf d (now (memory .entry)) (now (holding .entry)) out) (now (frame .entry)) verdict) r (now (setup .entry)) (now (memory .exit)) (now (holding .exit))) ⌝ }
+    ensures { λ r. ⌜ does.ArrivalTakes k (now (frame .entry)) verdict (now (memory .entry)) (now (holding .entry)) (now (setup .entry))
+        r (now (memory .exit)) (now (holding .exit)) ⌝ }
 {
     if frame.len() < HEADER {
         return k;

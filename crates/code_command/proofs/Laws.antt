@@ -1,14 +1,14 @@
 -- A begun command, the tests of the code on words, and a service by its tag. Assumes nothing.
 use mathlib.Core.Path.{_≡_, refl, sym, _∙_}
 use mathlib.Core.Bool.{Bool, true, false, not}
-use mathlib.Core.List.{List}
+use mathlib.Core.List.{List, [], _∷_, _++_}
 use mathlib.Core.Logic.{⊎-elim}
 use Prim.Native.Nat.{ℕ, _+_, _*_, _/_, _%_, _≤_, _<_, _^_}
 use native.Mathlib.Omega.{arith}
 use borrow.Author.Tests.{le-leb, lt-leb, ne-eqb}
 use lib.Dec.{eqb, leb}
 use Rattle.memory.specs.Address.{place}
-use Rattle.memory.specs.Memory.{wordAt}
+use Rattle.memory.specs.Memory.{wordAt, apply}
 use Rattle.memory.specs.declared.Offset.{Offset}
 use Rattle.memory.specs.declared.RealAddress.{RealAddress}
 use Rattle.memory.proofs.Laws.{below-or-not, apply-append}
@@ -22,7 +22,7 @@ use Rattle.actions.specs.Setup.{Setup}
 use Rattle.actions.specs.Actions.{Acted, notSent}
 use Rattle.actions.specs.Block.{blockCommandAt}
 use Rattle.command.specs.Begin.{cmd, begunBy, toBegun, begin}
-use Rattle.command.specs.End.{raisedBy, end}
+use Rattle.command.specs.End.{raisedBy, statusTo, end}
 use Rattle.command.specs.Part.{Part}
 use Rattle.command.specs.Service.{serviceBy, service}
 use Rattle.phases.specs.Phases.{wordOf, cuTag, cuWord, cuOf, begunOf, begunWith}
@@ -126,11 +126,13 @@ pub ended : (p : Part) (a : Acted) (v : Begun) (before : List ℕ) (done : Done)
     → Acts a before done m set → Ends (p .base) done v m r after → Serves (end p v a before) before r after (p .outgoing) set
 unfolding end
 ended p a v before done m set r after x y =
+    let results = a .writes ++ (statusTo (p .base) v (a .status) ∷ []) in
+    let w : after ≡ apply results before = rw apply-append (rw (x .told .status, x .memory) at (y .memory)) in
     record {
-      unit = rw (x .told .status, x .memory) at (y .left .unit);
-      raised = rw (x .told .status, x .memory) at (y .left .raised);
+      unit = rw w at (y .left .unit);
+      raised = rw w at (y .left .raised);
       length = y .left .sent ∙ x .told .length;
-      memory = rw apply-append (rw (x .told .status, x .memory) at (y .memory));
+      memory = w;
       outgoing = refl;
       setup = x .setup;
     }

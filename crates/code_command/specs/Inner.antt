@@ -63,9 +63,9 @@ pub record Left (b : Begun) (next : Cu) (length : ℕ) (r : Commanded) : Type 0 
 abbrev pub Leaves : Begun → Offset → ℕ → Commanded → Type 0
 Leaves b link length r = Left b (afterEnd (b .el) (b .suspend || b .pausing) link) length r
 
--- and its status stands in memory
+-- and its status stands in memory, from which the link was read then
 pub record Ends (base : RealAddress) (a : Done) (b : Begun) (before : List ℕ) (r : Commanded) (m : List ℕ) : Type 0 where
-  pub left : Left b (nextAfter base b (a .status) before) (a .length) r
+  pub left : Left b (nextAfter base b m) (a .length) r
   pub memory : m ≡ apply (statusTo base b (a .status) ∷ []) before
 
 -- ---- what the inner functions ensure of every unit and setup. m, out and set are memory, outgoing area and setup as they were; the primed ones, after

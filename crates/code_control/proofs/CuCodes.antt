@@ -1,17 +1,17 @@
 -- CUC over the command unit's numbers: each case of a tag is a case of the unit. Assumes nothing.
-use mathlib.Core.Path.{_≡_, refl, sym, ap, _∙_}
-use mathlib.Core.Bool.{cond}
+use mathlib.Core.Path.{_≡_, refl, sym, ap, subst, _∙_}
+use mathlib.Core.Bool.{Bool, true, false, cond}
 use mathlib.Core.List.{List, [], _∷_}
 use Prim.Native.Nat.{ℕ, _%_, _<_, _≤_}
 use native.Mathlib.Omega.{arith}
 use lib.Bits.{bitOr}
 use lib.Dec.{eqb, ltb}
-use Rattle.memory.specs.Address.{place}
+use Rattle.memory.specs.Address.{place, offsetAt}
 use Rattle.memory.specs.Memory.{Write, wordTo, apply}
 use Rattle.memory.specs.declared.Offset.{Offset}
 use Rattle.memory.specs.declared.RealAddress.{RealAddress}
-use Rattle.scb.specs.Control.{cuNext}
-use Rattle.scb.specs.Words.{cuc, cuNumber}
+use Rattle.scb.specs.Control.{Code, codeOf, start, resume, suspend, abort, other, cuNext}
+use Rattle.scb.specs.Words.{cblAt, cuc, cuNumber}
 use Rattle.scb.specs.declared.CuState.{CuState}
 use Rattle.scb.specs.declared.CuState.the-variants as cus
 use Rattle.device.specs.State.{cuState}
@@ -20,8 +20,8 @@ use Rattle.device.specs.declared.Cu.the-variants as cu
 use Rattle.device.specs.declared.Units.{Units}
 use Rattle.phases.specs.Phases.{numberOf, cuTag, cuWord}
 use Rattle.packed.specs.Packed.{CuIs}
-use Rattle.control.specs.Control.{cuSuspended, cuActive, resumesAt, abortedCu}
-use Rattle.control.specs.Obey.{cuFirst, obeyCuc}
+use Rattle.control.specs.Control.{cuStart, cuSuspend, cuBy, abortedCu, cuWrites}
+use Rattle.control.specs.Obey.{ofScb, obeyCuc}
 use Rattle.code_control.specs.Obeys.{ofWord, aborted, firstOf, CuObeys}
 use Rattle.code_control.specs.declared.CuObeyed.{CuObeyed}
 use Rattle.code_control.proofs.Flags.{at-is, fourth-set, plain-wide, offset-of, real-of, from}
@@ -46,7 +46,7 @@ cu-number-own (cu.Sending b w) h = absurd (omega arith)
 cu-number-own (cu.Ending b n) h = absurd (omega arith)
 cu-number-own (cu.Failing b) h = absurd (omega arith)
 
-pub suspend-inactive : (c : Cu) → cuTag c < 2 → cuSuspended c ≡ c
+pub suspend-inactive : (c : Cu) → cuTag c < 2 → cuSuspend c ≡ c
 suspend-inactive cu.Idle h = refl
 suspend-inactive (cu.Suspended o) h = refl
 suspend-inactive (cu.Waiting o) h = absurd (omega arith)
@@ -55,7 +55,7 @@ suspend-inactive (cu.Sending b w) h = absurd (omega arith)
 suspend-inactive (cu.Ending b n) h = absurd (omega arith)
 suspend-inactive (cu.Failing b) h = absurd (omega arith)
 
-pub suspend-waiting : (c : Cu) (tag n : ℕ) → cuTag c ≡ 2 → CuIs c tag n → CuIs (cuSuspended c) 1 n
+pub suspend-waiting : (c : Cu) (tag n : ℕ) → cuTag c ≡ 2 → CuIs c tag n → CuIs (cuSuspend c) 1 n
 unfolding cuWord
 suspend-waiting cu.Idle tag n e h = absurd (omega arith)
 suspend-waiting (cu.Suspended o) tag n e h = absurd (omega arith)
@@ -65,7 +65,7 @@ suspend-waiting (cu.Sending b w) tag n e h = absurd (omega arith)
 suspend-waiting (cu.Ending b k) tag n e h = absurd (omega arith)
 suspend-waiting (cu.Failing b) tag n e h = absurd (omega arith)
 
-pub suspend-begun : (c : Cu) (tag n : ℕ) → 2 < cuTag c → CuIs c tag n → CuIs (cuSuspended c) tag (bitOr n 524288)
+pub suspend-begun : (c : Cu) (tag n : ℕ) → 2 < cuTag c → CuIs c tag n → CuIs (cuSuspend c) tag (bitOr n 524288)
 unfolding cuWord
 suspend-begun cu.Idle tag n l h = absurd (omega arith)
 suspend-begun (cu.Suspended o) tag n l h = absurd (omega arith)
@@ -99,7 +99,7 @@ waiting-is : (first : Offset) → first .0 < 65536 → CuIs (cu.Waiting first) 2
 unfolding numberOf cuWord
 waiting-is first h = record { tag-is = refl; word-is = omega arith; wide = plain-wide (first .0) h }
 
-pub active-from : (first : Offset) (c : Cu) → first .0 < 65536 → cuTag c < 2 → CuIs (cuActive first c) 2 (first .0)
+pub active-from : (first : Offset) (c : Cu) → first .0 < 65536 → cuTag c < 2 → CuIs (cuStart first c) 2 (first .0)
 active-from first cu.Idle w h = waiting-is first w
 active-from first (cu.Suspended o) w h = waiting-is first w
 active-from first (cu.Waiting o) w h = absurd (omega arith)
@@ -108,7 +108,7 @@ active-from first (cu.Sending b k) w h = absurd (omega arith)
 active-from first (cu.Ending b n) w h = absurd (omega arith)
 active-from first (cu.Failing b) w h = absurd (omega arith)
 
-pub active-stays : (first : Offset) (c : Cu) → 2 ≤ cuTag c → cuActive first c ≡ c
+pub active-stays : (first : Offset) (c : Cu) → 2 ≤ cuTag c → cuStart first c ≡ c
 active-stays first cu.Idle h = absurd (omega arith)
 active-stays first (cu.Suspended o) h = absurd (omega arith)
 active-stays first (cu.Waiting o) h = refl
@@ -121,8 +121,17 @@ pub cu-idle-is : CuIs cu.Idle 0 0
 unfolding numberOf cuWord
 cu-idle-is = record { tag-is = refl; word-is = refl; wide = plain-wide 0 (omega arith) }
 
--- the offset in its word
-cu-at : (c : Cu) → resumesAt c .0 ≡ cuWord c .at
+-- the block where a unit is, which is the offset in its word; an Idle one is nowhere
+abbrev atOf : Cu → Offset
+atOf cu.Idle = record { 0 = 0 }
+atOf (cu.Suspended o) = o
+atOf (cu.Waiting o) = o
+atOf (cu.Acting b a) = b .block
+atOf (cu.Sending b w) = b .block
+atOf (cu.Ending b n) = b .block
+atOf (cu.Failing b) = b .block
+
+cu-at : (c : Cu) → atOf c .0 ≡ cuWord c .at
 unfolding cuWord
 cu-at cu.Idle = refl
 cu-at (cu.Suspended o) = refl
@@ -132,13 +141,13 @@ cu-at (cu.Sending b w) = refl
 cu-at (cu.Ending b n) = refl
 cu-at (cu.Failing b) = refl
 
-pub resumes-at : (c : Cu) (tag n : ℕ) → CuIs c tag n → ofWord n ≡ resumesAt c
-resumes-at c tag n h = offset-of (resumesAt c) (n % 65536) (rw (h .word-is) (at-is (cuWord c) (h .wide)) ∙ sym (cu-at c))
+pub word-at : (c : Cu) (tag n : ℕ) → CuIs c tag n → ofWord n ≡ atOf c
+word-at c tag n h = offset-of (atOf c) (n % 65536) (rw (h .word-is) (at-is (cuWord c) (h .wide)) ∙ sym (cu-at c))
 
 pub aborts-cu : (base : RealAddress) (c : Cu) (tag n : ℕ) → CuIs c tag n → aborted base (ltb 2 tag) n 0x9000 ≡ abortedCu base c
-aborts-cu base c tag n h = rw (resumes-at c tag n h, h .tag-is) (by c)
+aborts-cu base c tag n h = rw (word-at c tag n h, h .tag-is) (by c)
   where
-    by : (x : Cu) → cond (ltb 2 (cuTag x)) (wordTo (place base (resumesAt x) 0) 0x9000 ∷ []) [] ≡ abortedCu base x
+    by : (x : Cu) → cond (ltb 2 (cuTag x)) (wordTo (place base (atOf x) 0) 0x9000 ∷ []) [] ≡ abortedCu base x
     by cu.Idle = refl
     by (cu.Suspended o) = refl
     by (cu.Waiting o) = refl
@@ -163,31 +172,108 @@ to-active cus.Idle a b = absurd (a refl)
 to-active cus.Suspended a b = absurd (b refl)
 to-active cus.Active a b = refl
 
+-- ---- the code goes by the state that the table leads to: to Idle with what an abort writes, to Suspended as SUSPEND does, to Active as START does,
+-- from the CBL offset or from where the unit is
+
+abbrev way : CuState → RealAddress → Offset → Cu → Cu × List Write
+way cus.Idle base first c = (cu.Idle, abortedCu base c)
+way cus.Suspended base first c = (cuSuspend c, [])
+way cus.Active base first c = (cuStart first c, [])
+
+abbrev firstFor : Code → (cbl : Offset) → Cu → Offset
+firstFor start cbl c = cbl
+firstFor resume cbl c = atOf c
+firstFor suspend cbl c = atOf c
+firstFor abort cbl c = atOf c
+firstFor other cbl c = atOf c
+
+by-table : (code : Code) (base : RealAddress) (cbl : Offset) (c : Cu)
+    → (cuBy code cbl c, cuWrites code base c) ≡ way (cuNext code (cuState c)) base (firstFor code cbl c) c
+by-table start base cbl cu.Idle = refl
+by-table start base cbl (cu.Suspended o) = refl
+by-table start base cbl (cu.Waiting o) = refl
+by-table start base cbl (cu.Acting b a) = refl
+by-table start base cbl (cu.Sending b w) = refl
+by-table start base cbl (cu.Ending b n) = refl
+by-table start base cbl (cu.Failing b) = refl
+by-table resume base cbl cu.Idle = refl
+by-table resume base cbl (cu.Suspended o) = refl
+by-table resume base cbl (cu.Waiting o) = refl
+by-table resume base cbl (cu.Acting b a) = refl
+by-table resume base cbl (cu.Sending b w) = refl
+by-table resume base cbl (cu.Ending b n) = refl
+by-table resume base cbl (cu.Failing b) = refl
+by-table suspend base cbl cu.Idle = refl
+by-table suspend base cbl (cu.Suspended o) = refl
+by-table suspend base cbl (cu.Waiting o) = refl
+by-table suspend base cbl (cu.Acting b a) = refl
+by-table suspend base cbl (cu.Sending b w) = refl
+by-table suspend base cbl (cu.Ending b n) = refl
+by-table suspend base cbl (cu.Failing b) = refl
+by-table abort base cbl cu.Idle = refl
+by-table abort base cbl (cu.Suspended o) = refl
+by-table abort base cbl (cu.Waiting o) = refl
+by-table abort base cbl (cu.Acting b a) = refl
+by-table abort base cbl (cu.Sending b w) = refl
+by-table abort base cbl (cu.Ending b n) = refl
+by-table abort base cbl (cu.Failing b) = refl
+by-table other base cbl cu.Idle = refl
+by-table other base cbl (cu.Suspended o) = refl
+by-table other base cbl (cu.Waiting o) = refl
+by-table other base cbl (cu.Acting b a) = refl
+by-table other base cbl (cu.Sending b w) = refl
+by-table other base cbl (cu.Ending b n) = refl
+by-table other base cbl (cu.Failing b) = refl
+
+first-for : (i j k l : Bool) (cbl : Offset) (c : Cu)
+    → firstFor (cond i start (cond j resume (cond k suspend (cond l abort other)))) cbl c ≡ cond i cbl (atOf c)
+first-for true j k l cbl c = refl
+first-for false true k l cbl c = refl
+first-for false false true l cbl c = refl
+first-for false false false true cbl c = refl
+first-for false false false false cbl c = refl
+
 -- ---- CUC obeyed, by the number of the next state
 
 module _ (u : Units) (base : RealAddress) (command tag n : ℕ) (m : List ℕ) (b : base .0 ≡ u .base .0) (h : CuIs (u .cu) tag n) where
-  pub cuc-idle : (left : List ℕ) → 0 ≡ cuNumber (cuNext (cuc command) (cuState (u .cu))) → left ≡ apply (aborted base (ltb 2 tag) n 0x9000) m
-      → CuObeys (obeyCuc u command m) m (record { tag = 0; word = 0 }) left
+  abbrev code : Code
+  code = codeOf (cuc command)
+
+  abbrev cbl : Offset
+  cbl = offsetAt m (ofScb u cblAt)
+
+  abbrev next : CuState
+  next = cuNext code (cuState (u .cu))
+
+  -- what CUC comes to, if the table leads to s
+  obeys : (s : CuState) (r : CuObeyed) (left : List ℕ) → next ≡ s → CuIs (way s (u .base) (firstFor code cbl (u .cu)) (u .cu) .0) (r .tag) (r .word)
+      → left ≡ apply (way s (u .base) (firstFor code cbl (u .cu)) (u .cu) .1) m → CuObeys (obeyCuc u command m) m r left
   unfolding obeyCuc
+  obeys s r left e f w =
+      let t : (cuBy code cbl (u .cu), cuWrites code (u .base) (u .cu)) ≡ way s (u .base) (firstFor code cbl (u .cu)) (u .cu) =
+      by-table code (u .base) cbl (u .cu) ∙ ap (λ (x : CuState). way x (u .base) (firstFor code cbl (u .cu)) (u .cu)) e in
+      record {
+        unit = subst (λ (x : Cu × List Write). CuIs (x .0) (r .tag) (r .word)) (sym t) f;
+        memory = subst (λ (x : Cu × List Write). left ≡ apply (x .1) m) (sym t) w;
+      }
+
+  pub cuc-idle : (left : List ℕ) → 0 ≡ cuNumber next → left ≡ apply (aborted base (ltb 2 tag) n 0x9000) m
+      → CuObeys (obeyCuc u command m) m (record { tag = 0; word = 0 }) left
   cuc-idle left e f =
       let w : aborted base (ltb 2 tag) n 0x9000 ≡ abortedCu (u .base) (u .cu) = rw (real-of base (u .base) b) (aborts-cu (u .base) (u .cu) tag n h) in
-      rw (to-idle (cuNext (cuc command) (cuState (u .cu))) e)
-      (record {
-        unit = cu-idle-is;
-        memory = f ∙ ap (λ (ws : List Write). apply ws m) w;
-      })
+      obeys cus.Idle (record { tag = 0; word = 0 }) left (to-idle next e) cu-idle-is (f ∙ ap (λ (ws : List Write). apply ws m) w)
 
-  pub cuc-suspended : (r : CuObeyed) → 1 ≡ cuNumber (cuNext (cuc command) (cuState (u .cu))) → CuIs (cuSuspended (u .cu)) (r .tag) (r .word)
-      → CuObeys (obeyCuc u command m) m r m
-  unfolding obeyCuc
-  cuc-suspended r e f = rw (to-suspended (cuNext (cuc command) (cuState (u .cu))) e) (record { unit = f; memory = refl })
+  pub cuc-suspended : (r : CuObeyed) → 1 ≡ cuNumber next → CuIs (cuSuspend (u .cu)) (r .tag) (r .word) → CuObeys (obeyCuc u command m) m r m
+  cuc-suspended r e f = obeys cus.Suspended r m (to-suspended next e) f refl
 
-  pub cuc-active : (r : CuObeyed) (scb first : Offset) → scb .0 ≡ u .scb .0
-      → (cuNumber (cuNext (cuc command) (cuState (u .cu))) ≡ 0 → ⊥) → (cuNumber (cuNext (cuc command) (cuState (u .cu))) ≡ 1 → ⊥)
-      → first .0 ≡ firstOf base scb (eqb (cuc command) 1) 4 n m → CuIs (cuActive first (u .cu)) (r .tag) (r .word)
+  pub cuc-active : (r : CuObeyed) (scb first : Offset) → scb .0 ≡ u .scb .0 → (cuNumber next ≡ 0 → ⊥) → (cuNumber next ≡ 1 → ⊥)
+      → first .0 ≡ firstOf base scb (eqb (cuc command) 1) 4 n m → CuIs (cuStart first (u .cu)) (r .tag) (r .word)
       → CuObeys (obeyCuc u command m) m r m
-  unfolding obeyCuc cuFirst
+  unfolding codeOf
   cuc-active r scb first s e0 e1 f i =
-      let o : first ≡ cuFirst u command m =
-      offset-of (cuFirst u command m) (first .0) (f ∙ from u base scb m b s (eqb (cuc command) 1) 4 n (resumesAt (u .cu)) (ap (λ (x : Offset). x .0) (resumes-at (u .cu) tag n h))) in
-      rw (to-active (cuNext (cuc command) (cuState (u .cu))) e0 e1) (record { unit = rw o at i; memory = refl })
+      let k = cuc command in
+      let at = ap (λ (x : Offset). x .0) (word-at (u .cu) tag n h) in
+      let o : first ≡ firstFor code cbl (u .cu) =
+      offset-of (cond (eqb k 1) cbl (atOf (u .cu))) (first .0) (f ∙ from u base scb m b s (eqb k 1) 4 n (atOf (u .cu)) at)
+      ∙ sym (first-for (eqb k 1) (eqb k 2) (eqb k 3) (eqb k 4) cbl (u .cu)) in
+      obeys cus.Active r m (to-active next e0 e1) (subst (λ (x : Offset). CuIs (cuStart x (u .cu)) (r .tag) (r .word)) o i) refl

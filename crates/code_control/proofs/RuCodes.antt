@@ -1,17 +1,17 @@
 -- RUC over the receive unit's numbers: each case of a tag is a case of the unit. Assumes nothing.
-use mathlib.Core.Path.{_≡_, refl, sym, ap, _∙_}
-use mathlib.Core.Bool.{cond}
+use mathlib.Core.Path.{_≡_, refl, sym, ap, subst, _∙_}
+use mathlib.Core.Bool.{Bool, true, false, cond}
 use mathlib.Core.List.{List, [], _∷_}
 use Prim.Native.Nat.{ℕ, _%_, _<_, _≤_}
 use native.Mathlib.Omega.{arith}
 use lib.Bits.{bitOr}
 use lib.Dec.{eqb, ltb}
-use Rattle.memory.specs.Address.{place}
+use Rattle.memory.specs.Address.{place, offsetAt}
 use Rattle.memory.specs.Memory.{Write, wordTo, apply}
 use Rattle.memory.specs.declared.Offset.{Offset}
 use Rattle.memory.specs.declared.RealAddress.{RealAddress}
-use Rattle.scb.specs.Control.{ruNext}
-use Rattle.scb.specs.Words.{ruc}
+use Rattle.scb.specs.Control.{Code, codeOf, start, resume, suspend, abort, other, ruNext}
+use Rattle.scb.specs.Words.{rfaAt, ruc}
 use Rattle.scb.specs.Numbers.{ruColumn}
 use Rattle.scb.specs.declared.RuState.{RuState}
 use Rattle.scb.specs.declared.RuState.the-variants as rus
@@ -21,8 +21,8 @@ use Rattle.device.specs.declared.Ru.the-variants as ru
 use Rattle.device.specs.declared.Units.{Units}
 use Rattle.phases.specs.Phases.{numberOf, ruTag, ruWord, ruRest}
 use Rattle.packed.specs.Packed.{RuIs}
-use Rattle.control.specs.Control.{ruSuspended, ruReady, readyAt, abortedRu}
-use Rattle.control.specs.Obey.{ruFirst, obeyRuc}
+use Rattle.control.specs.Control.{ruStart, ruSuspend, ruBy, abortedRu, ruWrites}
+use Rattle.control.specs.Obey.{ofScb, obeyRuc}
 use Rattle.code_control.specs.Obeys.{ofWord, aborted, firstOf, RuObeys}
 use Rattle.code_control.specs.declared.RuObeyed.{RuObeyed}
 use Rattle.code_control.proofs.Flags.{at-is, first-set, plain-wide, offset-of, real-of, from}
@@ -49,7 +49,7 @@ ru-column-own (ru.Filling s w) h = absurd (omega arith)
 ru-column-own (ru.Closing s o full) h = absurd (omega arith)
 ru-column-own (ru.Lacking s) h = absurd (omega arith)
 
-pub suspend-unready : (v : Ru) → ruTag v < 3 → ruSuspended v ≡ v
+pub suspend-unready : (v : Ru) → ruTag v < 3 → ruSuspend v ≡ v
 suspend-unready ru.Idle h = refl
 suspend-unready ru.NoResources h = refl
 suspend-unready (ru.Suspended o) h = refl
@@ -59,7 +59,7 @@ suspend-unready (ru.Filling s w) h = absurd (omega arith)
 suspend-unready (ru.Closing s o full) h = absurd (omega arith)
 suspend-unready (ru.Lacking s) h = absurd (omega arith)
 
-pub suspend-ready : (v : Ru) (tag n rest : ℕ) → ruTag v ≡ 3 → RuIs v tag n rest → RuIs (ruSuspended v) 1 n rest
+pub suspend-ready : (v : Ru) (tag n rest : ℕ) → ruTag v ≡ 3 → RuIs v tag n rest → RuIs (ruSuspend v) 1 n rest
 unfolding ruWord ruRest
 suspend-ready ru.Idle tag n rest e h = absurd (omega arith)
 suspend-ready ru.NoResources tag n rest e h = absurd (omega arith)
@@ -70,7 +70,7 @@ suspend-ready (ru.Filling s w) tag n rest e h = absurd (omega arith)
 suspend-ready (ru.Closing s o full) tag n rest e h = absurd (omega arith)
 suspend-ready (ru.Lacking s) tag n rest e h = absurd (omega arith)
 
-pub suspend-held : (v : Ru) (tag n rest : ℕ) → 3 < ruTag v → RuIs v tag n rest → RuIs (ruSuspended v) tag (bitOr n 65536) rest
+pub suspend-held : (v : Ru) (tag n rest : ℕ) → 3 < ruTag v → RuIs v tag n rest → RuIs (ruSuspend v) tag (bitOr n 65536) rest
 unfolding ruWord ruRest
 suspend-held ru.Idle tag n rest l h = absurd (omega arith)
 suspend-held ru.NoResources tag n rest l h = absurd (omega arith)
@@ -113,7 +113,7 @@ ready-is : (first : Offset) → first .0 < 65536 → RuIs (ru.Ready first) 3 (fi
 unfolding numberOf ruWord ruRest
 ready-is first h = record { tag-is = refl; word-is = omega arith; rest-is = refl; wide = plain-wide (first .0) h; filling = tt }
 
-pub ready-from : (first : Offset) (v : Ru) → first .0 < 65536 → ruTag v < 3 → RuIs (ruReady first v) 3 (first .0) 0
+pub ready-from : (first : Offset) (v : Ru) → first .0 < 65536 → ruTag v < 3 → RuIs (ruStart first v) 3 (first .0) 0
 ready-from first ru.Idle w h = ready-is first w
 ready-from first ru.NoResources w h = ready-is first w
 ready-from first (ru.Suspended o) w h = ready-is first w
@@ -123,7 +123,7 @@ ready-from first (ru.Filling s k) w h = absurd (omega arith)
 ready-from first (ru.Closing s o full) w h = absurd (omega arith)
 ready-from first (ru.Lacking s) w h = absurd (omega arith)
 
-pub ready-stays : (first : Offset) (v : Ru) → 3 ≤ ruTag v → ruReady first v ≡ v
+pub ready-stays : (first : Offset) (v : Ru) → 3 ≤ ruTag v → ruStart first v ≡ v
 ready-stays first ru.Idle h = absurd (omega arith)
 ready-stays first ru.NoResources h = absurd (omega arith)
 ready-stays first (ru.Suspended o) h = absurd (omega arith)
@@ -137,8 +137,18 @@ pub ru-idle-is : RuIs ru.Idle 0 0 0
 unfolding numberOf ruWord ruRest
 ru-idle-is = record { tag-is = refl; word-is = refl; rest-is = refl; wide = plain-wide 0 (omega arith); filling = tt }
 
--- the offset in its word
-ru-at : (v : Ru) → readyAt v .0 ≡ ruWord v .at
+-- the frame descriptor where a unit is, which is the offset in its word; one that is Idle or has No Resources is nowhere
+abbrev atOf : Ru → Offset
+atOf ru.Idle = record { 0 = 0 }
+atOf ru.NoResources = record { 0 = 0 }
+atOf (ru.Suspended o) = o
+atOf (ru.Ready o) = o
+atOf (ru.Held o f p) = o
+atOf (ru.Filling s w) = s .fd
+atOf (ru.Closing s o full) = s .fd
+atOf (ru.Lacking s) = s .fd
+
+ru-at : (v : Ru) → atOf v .0 ≡ ruWord v .at
 unfolding ruWord
 ru-at ru.Idle = refl
 ru-at ru.NoResources = refl
@@ -149,13 +159,13 @@ ru-at (ru.Filling s w) = refl
 ru-at (ru.Closing s o full) = refl
 ru-at (ru.Lacking s) = refl
 
-pub ready-at : (v : Ru) (tag n rest : ℕ) → RuIs v tag n rest → ofWord n ≡ readyAt v
-ready-at v tag n rest h = offset-of (readyAt v) (n % 65536) (rw (h .word-is) (at-is (ruWord v) (h .wide)) ∙ sym (ru-at v))
+pub word-at : (v : Ru) (tag n rest : ℕ) → RuIs v tag n rest → ofWord n ≡ atOf v
+word-at v tag n rest h = offset-of (atOf v) (n % 65536) (rw (h .word-is) (at-is (ruWord v) (h .wide)) ∙ sym (ru-at v))
 
 pub aborts-ru : (base : RealAddress) (v : Ru) (tag n rest : ℕ) → RuIs v tag n rest → aborted base (ltb 4 tag) n 0 ≡ abortedRu base v
-aborts-ru base v tag n rest h = rw (ready-at v tag n rest h, h .tag-is) (by v)
+aborts-ru base v tag n rest h = rw (word-at v tag n rest h, h .tag-is) (by v)
   where
-    by : (x : Ru) → cond (ltb 4 (ruTag x)) (wordTo (place base (readyAt x) 0) 0 ∷ []) [] ≡ abortedRu base x
+    by : (x : Ru) → cond (ltb 4 (ruTag x)) (wordTo (place base (atOf x) 0) 0 ∷ []) [] ≡ abortedRu base x
     by ru.Idle = refl
     by ru.NoResources = refl
     by (ru.Suspended o) = refl
@@ -190,36 +200,121 @@ ru-to-ready rus.Suspended a b c = absurd (b refl)
 ru-to-ready rus.NoResources a b c = absurd (c refl)
 ru-to-ready rus.Ready a b c = refl
 
+-- ---- the code goes by the state that the table leads to: to Idle with what an abort writes, to Suspended as SUSPEND does, to Ready as START does,
+-- from the RFA offset or from where the unit is; to No Resources only from there
+
+abbrev way : RuState → RealAddress → Offset → Ru → Ru × List Write
+way rus.Idle base first v = (ru.Idle, abortedRu base v)
+way rus.Suspended base first v = (ruSuspend v, [])
+way rus.NoResources base first v = (v, [])
+way rus.Ready base first v = (ruStart first v, [])
+
+abbrev firstFor : Code → (rfa : Offset) → Ru → Offset
+firstFor start rfa v = rfa
+firstFor resume rfa v = atOf v
+firstFor suspend rfa v = atOf v
+firstFor abort rfa v = atOf v
+firstFor other rfa v = atOf v
+
+by-table : (code : Code) (base : RealAddress) (rfa : Offset) (v : Ru)
+    → (ruBy code rfa v, ruWrites code base v) ≡ way (ruNext code (ruState v)) base (firstFor code rfa v) v
+by-table start base rfa ru.Idle = refl
+by-table start base rfa ru.NoResources = refl
+by-table start base rfa (ru.Suspended o) = refl
+by-table start base rfa (ru.Ready o) = refl
+by-table start base rfa (ru.Held o f p) = refl
+by-table start base rfa (ru.Filling s w) = refl
+by-table start base rfa (ru.Closing s o full) = refl
+by-table start base rfa (ru.Lacking s) = refl
+by-table resume base rfa ru.Idle = refl
+by-table resume base rfa ru.NoResources = refl
+by-table resume base rfa (ru.Suspended o) = refl
+by-table resume base rfa (ru.Ready o) = refl
+by-table resume base rfa (ru.Held o f p) = refl
+by-table resume base rfa (ru.Filling s w) = refl
+by-table resume base rfa (ru.Closing s o full) = refl
+by-table resume base rfa (ru.Lacking s) = refl
+by-table suspend base rfa ru.Idle = refl
+by-table suspend base rfa ru.NoResources = refl
+by-table suspend base rfa (ru.Suspended o) = refl
+by-table suspend base rfa (ru.Ready o) = refl
+by-table suspend base rfa (ru.Held o f p) = refl
+by-table suspend base rfa (ru.Filling s w) = refl
+by-table suspend base rfa (ru.Closing s o full) = refl
+by-table suspend base rfa (ru.Lacking s) = refl
+by-table abort base rfa ru.Idle = refl
+by-table abort base rfa ru.NoResources = refl
+by-table abort base rfa (ru.Suspended o) = refl
+by-table abort base rfa (ru.Ready o) = refl
+by-table abort base rfa (ru.Held o f p) = refl
+by-table abort base rfa (ru.Filling s w) = refl
+by-table abort base rfa (ru.Closing s o full) = refl
+by-table abort base rfa (ru.Lacking s) = refl
+by-table other base rfa ru.Idle = refl
+by-table other base rfa ru.NoResources = refl
+by-table other base rfa (ru.Suspended o) = refl
+by-table other base rfa (ru.Ready o) = refl
+by-table other base rfa (ru.Held o f p) = refl
+by-table other base rfa (ru.Filling s w) = refl
+by-table other base rfa (ru.Closing s o full) = refl
+by-table other base rfa (ru.Lacking s) = refl
+
+first-for : (i j k l : Bool) (rfa : Offset) (v : Ru)
+    → firstFor (cond i start (cond j resume (cond k suspend (cond l abort other)))) rfa v ≡ cond i rfa (atOf v)
+first-for true j k l rfa v = refl
+first-for false true k l rfa v = refl
+first-for false false true l rfa v = refl
+first-for false false false true rfa v = refl
+first-for false false false false rfa v = refl
+
 -- ---- RUC obeyed, by the column of the next state
 
 module _ (u : Units) (base : RealAddress) (command tag n rest : ℕ) (m : List ℕ) (b : base .0 ≡ u .base .0) (h : RuIs (u .ru) tag n rest) where
-  pub ruc-idle : (left : List ℕ) → 0 ≡ ruColumn (ruNext (ruc command) (ruState (u .ru))) → left ≡ apply (aborted base (ltb 4 tag) n 0) m
-      → RuObeys (obeyRuc u command m) m (record { tag = 0; word = 0; rest = 0 }) left
+  abbrev code : Code
+  code = codeOf (ruc command)
+
+  abbrev rfa : Offset
+  rfa = offsetAt m (ofScb u rfaAt)
+
+  abbrev next : RuState
+  next = ruNext code (ruState (u .ru))
+
+  -- what RUC comes to, if the table leads to s
+  obeys : (s : RuState) (r : RuObeyed) (left : List ℕ) → next ≡ s
+      → RuIs (way s (u .base) (firstFor code rfa (u .ru)) (u .ru) .0) (r .tag) (r .word) (r .rest)
+      → left ≡ apply (way s (u .base) (firstFor code rfa (u .ru)) (u .ru) .1) m → RuObeys (obeyRuc u command m) m r left
   unfolding obeyRuc
+  obeys s r left e f w =
+      let t : (ruBy code rfa (u .ru), ruWrites code (u .base) (u .ru)) ≡ way s (u .base) (firstFor code rfa (u .ru)) (u .ru) =
+      by-table code (u .base) rfa (u .ru) ∙ ap (λ (x : RuState). way x (u .base) (firstFor code rfa (u .ru)) (u .ru)) e in
+      record {
+        unit = subst (λ (x : Ru × List Write). RuIs (x .0) (r .tag) (r .word) (r .rest)) (sym t) f;
+        memory = subst (λ (x : Ru × List Write). left ≡ apply (x .1) m) (sym t) w;
+      }
+
+  pub ruc-idle : (left : List ℕ) → 0 ≡ ruColumn next → left ≡ apply (aborted base (ltb 4 tag) n 0) m
+      → RuObeys (obeyRuc u command m) m (record { tag = 0; word = 0; rest = 0 }) left
   ruc-idle left e f =
       let w : aborted base (ltb 4 tag) n 0 ≡ abortedRu (u .base) (u .ru) = rw (real-of base (u .base) b) (aborts-ru (u .base) (u .ru) tag n rest h) in
-      rw (ru-to-idle (ruNext (ruc command) (ruState (u .ru))) e)
-      (record {
-        unit = ru-idle-is;
-        memory = f ∙ ap (λ (ws : List Write). apply ws m) w;
-      })
+      obeys rus.Idle (record { tag = 0; word = 0; rest = 0 }) left (ru-to-idle next e) ru-idle-is (f ∙ ap (λ (ws : List Write). apply ws m) w)
 
-  pub ruc-suspended : (r : RuObeyed) → 1 ≡ ruColumn (ruNext (ruc command) (ruState (u .ru))) → RuIs (ruSuspended (u .ru)) (r .tag) (r .word) (r .rest)
+  pub ruc-suspended : (r : RuObeyed) → 1 ≡ ruColumn next → RuIs (ruSuspend (u .ru)) (r .tag) (r .word) (r .rest)
       → RuObeys (obeyRuc u command m) m r m
-  unfolding obeyRuc
-  ruc-suspended r e f = rw (ru-to-suspended (ruNext (ruc command) (ruState (u .ru))) e) (record { unit = f; memory = refl })
+  ruc-suspended r e f = obeys rus.Suspended r m (ru-to-suspended next e) f refl
 
-  pub ruc-none : 2 ≡ ruColumn (ruNext (ruc command) (ruState (u .ru))) → RuObeys (obeyRuc u command m) m (record { tag = tag; word = n; rest = rest }) m
-  unfolding obeyRuc
-  ruc-none e = rw (ru-to-none (ruNext (ruc command) (ruState (u .ru))) e) (record { unit = h; memory = refl })
+  pub ruc-none : 2 ≡ ruColumn next → RuObeys (obeyRuc u command m) m (record { tag = tag; word = n; rest = rest }) m
+  ruc-none e = obeys rus.NoResources (record { tag = tag; word = n; rest = rest }) m (ru-to-none next e) h refl
 
-  pub ruc-ready : (r : RuObeyed) (scb first : Offset) → scb .0 ≡ u .scb .0
-      → (ruColumn (ruNext (ruc command) (ruState (u .ru))) ≡ 0 → ⊥) → (ruColumn (ruNext (ruc command) (ruState (u .ru))) ≡ 1 → ⊥)
-      → (ruColumn (ruNext (ruc command) (ruState (u .ru))) ≡ 2 → ⊥)
-      → first .0 ≡ firstOf base scb (eqb (ruc command) 1) 6 n m → RuIs (ruReady first (u .ru)) (r .tag) (r .word) (r .rest)
+  pub ruc-ready : (r : RuObeyed) (scb first : Offset) → scb .0 ≡ u .scb .0 → (ruColumn next ≡ 0 → ⊥) → (ruColumn next ≡ 1 → ⊥)
+      → (ruColumn next ≡ 2 → ⊥)
+      → first .0 ≡ firstOf base scb (eqb (ruc command) 1) 6 n m → RuIs (ruStart first (u .ru)) (r .tag) (r .word) (r .rest)
       → RuObeys (obeyRuc u command m) m r m
-  unfolding obeyRuc ruFirst
+  unfolding codeOf
   ruc-ready r scb first s e0 e1 e2 f i =
-      let o : first ≡ ruFirst u command m =
-      offset-of (ruFirst u command m) (first .0) (f ∙ from u base scb m b s (eqb (ruc command) 1) 6 n (readyAt (u .ru)) (ap (λ (x : Offset). x .0) (ready-at (u .ru) tag n rest h))) in
-      rw (ru-to-ready (ruNext (ruc command) (ruState (u .ru))) e0 e1 e2) (record { unit = rw o at i; memory = refl })
+      let k = ruc command in
+      let at = ap (λ (x : Offset). x .0) (word-at (u .ru) tag n rest h) in
+      let o : first ≡ firstFor code rfa (u .ru) =
+      offset-of (cond (eqb k 1) rfa (atOf (u .ru))) (first .0) (f ∙ from u base scb m b s (eqb k 1) 6 n (atOf (u .ru)) at)
+      ∙ sym (first-for (eqb k 1) (eqb k 2) (eqb k 3) (eqb k 4) rfa (u .ru)) in
+      obeys rus.Ready r m (ru-to-ready next e0 e1 e2)
+      (subst (λ (x : Offset). RuIs (ruStart x (u .ru)) (r .tag) (r .word) (r .rest)) o i) refl

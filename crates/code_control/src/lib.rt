@@ -92,7 +92,7 @@ pub fn cu_number(tag: u64) -> u8
 
 // SUSPEND: at the end of a begun command, else at once; a unit that is not Active stays as it is.
 fn cu_suspended(tag: u64, word: u64) -> CuObeyed
-    ensures { λ r. ⌜ ((c : Cu) → kept.CuIs c tag word → kept.CuIs (control.cuSuspended c) (r .tag) (r .word)) ⌝ }
+    ensures { λ r. ⌜ ((c : Cu) → kept.CuIs c tag word → kept.CuIs (control.cuSuspend c) (r .tag) (r .word)) ⌝ }
 {
     if tag < cu::WAITING {
         return CuObeyed {
@@ -114,7 +114,7 @@ fn cu_suspended(tag: u64, word: u64) -> CuObeyed
 
 // To Active, at the block said; an Active unit goes on as it is.
 fn cu_active(first: Offset, tag: u64, word: u64) -> CuObeyed
-    ensures { λ r. ⌜ ((c : Cu) → kept.CuIs c tag word → kept.CuIs (control.cuActive first c) (r .tag) (r .word)) ⌝ }
+    ensures { λ r. ⌜ ((c : Cu) → kept.CuIs c tag word → kept.CuIs (control.cuStart first c) (r .tag) (r .word)) ⌝ }
 {
     if tag < cu::WAITING {
         return CuObeyed {
@@ -185,7 +185,7 @@ fn ru_column(tag: u64) -> u8
 
 // SUSPEND: at the end of a held frame, else at once; a unit that is not Ready stays as it is.
 fn ru_suspended(tag: u64, word: u64, rest: u64) -> RuObeyed
-    ensures { λ r. ⌜ ((v : Ru) → kept.RuIs v tag word rest → kept.RuIs (control.ruSuspended v) (r .tag) (r .word) (r .rest)) ⌝ }
+    ensures { λ r. ⌜ ((v : Ru) → kept.RuIs v tag word rest → kept.RuIs (control.ruSuspend v) (r .tag) (r .word) (r .rest)) ⌝ }
 {
     if tag < ru::READY {
         return RuObeyed {
@@ -210,7 +210,7 @@ fn ru_suspended(tag: u64, word: u64, rest: u64) -> RuObeyed
 
 // To Ready, at the frame descriptor said; a Ready unit goes on as it is.
 fn ru_ready(first: Offset, tag: u64, word: u64, rest: u64) -> RuObeyed
-    ensures { λ r. ⌜ ((v : Ru) → kept.RuIs v tag word rest → kept.RuIs (control.ruReady first v) (r .tag) (r .word) (r .rest)) ⌝ }
+    ensures { λ r. ⌜ ((v : Ru) → kept.RuIs v tag word rest → kept.RuIs (control.ruStart first v) (r .tag) (r .word) (r .rest)) ⌝ }
 {
     if tag < ru::READY {
         return RuObeyed {

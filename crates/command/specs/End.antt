@@ -30,21 +30,18 @@ raisedBy b next = record { cx = b .interrupt; fr = false; cna = not (isActive (c
 abbrev pub statusTo : RealAddress → Begun → ℕ → Write
 statusTo base b status = wordTo (place base (b .block) blockStatusAt) status
 
-abbrev pub results : Part → Begun → Acted → List Write
-results p b a = a .writes ++ (statusTo (p .base) b (a .status) ∷ [])
+-- the link, read now, is next: m is memory as the results left it
+unfoldable pub nextAfter : RealAddress → Begun → List ℕ → Cu
+nextAfter base b m = afterEnd (b .el) (b .suspend || b .pausing) (offsetAt m (place base (b .block) blockLinkAt))
 
--- the part after the action, with the unit as said
-abbrev pub ended : Part → Acted → Cu → Part
-ended p a next = record { base = p .base; unit = next; setup = a .setup; outgoing = p .outgoing }
-
-abbrev pub endAt : Part → Begun → Acted → Cu → Service
-endAt p b a next =
-    record { part = ended p a next; writes = results p b a; raised = raisedBy b next; length = a .length }
-
--- the link is read now: after the action and the status
-unfoldable pub nextAfter : RealAddress → Begun → ℕ → List ℕ → Cu
-nextAfter base b status m =
-    afterEnd (b .el) (b .suspend || b .pausing) (offsetAt (apply (statusTo base b status ∷ []) m) (place base (b .block) blockLinkAt))
-
+-- do the action, write status; I raises CX; EL makes CU Idle, else S or a waiting SUSPEND makes it Suspended; the link, read now, is next
 unfoldable pub end : Part → Begun → Acted → List ℕ → Service
-end p b a m = endAt p b a (nextAfter (p .base) b (a .status) (apply (a .writes) m))
+end p b a m =
+    let results = a .writes ++ (statusTo (p .base) b (a .status) ∷ []) in
+    let next = nextAfter (p .base) b (apply results m) in
+    record {
+      part = record { base = p .base; unit = next; setup = a .setup; outgoing = p .outgoing };
+      writes = results;
+      raised = raisedBy b next;
+      length = a .length;
+    }

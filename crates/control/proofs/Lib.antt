@@ -1,2 +1,3 @@
--- What the control codes do, row by row.
+-- What the control codes do, row by row; and the tables over states that follow.
 pub mod Shown
+pub mod Table

@@ -6,7 +6,7 @@ use lib.Dec.{T, eqb}
 use lib.ListN.{length, replicate}
 use Rattle.memory.specs.Address.{place}
 use Rattle.memory.specs.Memory.{byteAt, putByte, bytesAt, putBytes, value, digits, fieldAt, wordAt, wordTo, apply}
-use Rattle.scb.specs.Control.{cuNext, ruNext}
+use Rattle.scb.specs.Control.{codeOf}
 use Rattle.scb.specs.Words.{bitsAt}
 use Rattle.device.specs.Change.{withCu, withRu}
 use Rattle.device.specs.State.{freshUnits}
@@ -20,7 +20,7 @@ use Rattle.device.specs.declared.Ru.{Ru}
 use Rattle.device.specs.declared.Ru.the-variants as ru
 use Rattle.device.specs.declared.Verdict.the-variants as verdict
 use Rattle.control.specs.Control.{lostBy}
-use Rattle.control.specs.Obey.{Obeyed, cuFirst, obeyCuc, ruFirst, obeyRuc}
+use Rattle.control.specs.Obey.{Obeyed, obeyCuc, obeyRuc}
 
 -- base and SCB are at 0; the CBL offset is 40h, the RFA offset 50h; 4000h stands at 60h and at 70h
 abbrev memory : List ℕ
@@ -80,18 +80,25 @@ cuGoes unit o = eqb (cuPhase unit) 2 && eqb (cuAt unit) o
 -- 1 START: Idle, Suspended to Active, at CBL offset; 2 RESUME: Suspended to Active, where it was. An Active unit goes on where it is
 pub cuStarts : T (cuGoes (cuDoes 1 cu.Idle .unit) 0x40 && cuGoes (cuDoes 1 paused .unit) 0x40 && cuGoes (cuDoes 2 paused .unit) 0x60
     && cuGoes (cuDoes 1 next .unit) 0x60)
-unfolding byteAt putByte bytesAt putBytes value digits fieldAt place cuNext bitsAt cuFirst obeyCuc
+unfolding byteAt putByte bytesAt putBytes value digits fieldAt place bitsAt codeOf obeyCuc
 cuStarts = tt
 
 -- 3 SUSPEND: at the end of a begun command, else at once
 pub cuSuspends : T (eqb (cuPhase (cuDoes 3 acting .unit)) 3 && waits (cuDoes 3 acting .unit)
     && eqb (cuPhase (cuDoes 3 next .unit)) 1 && eqb (cuAt (cuDoes 3 next .unit)) 0x60)
-unfolding byteAt putByte bytesAt putBytes value digits fieldAt place cuNext bitsAt cuFirst obeyCuc
+unfolding byteAt putByte bytesAt putBytes value digits fieldAt place bitsAt codeOf obeyCuc
 cuSuspends = tt
+
+-- every other pair does nothing: RESUME and SUSPEND of an Idle unit, SUSPEND of a Suspended one, RESUME of an Active one, codes 0 and 5 of any
+pub cuElse : T (eqb (cuPhase (cuDoes 2 cu.Idle .unit)) 0 && eqb (cuPhase (cuDoes 3 cu.Idle .unit)) 0 && eqb (cuPhase (cuDoes 3 paused .unit)) 1
+    && cuGoes (cuDoes 2 next .unit) 0x60 && eqb (cuPhase (cuDoes 2 acting .unit)) 3 && not (waits (cuDoes 2 acting .unit))
+    && cuGoes (cuDoes 0 next .unit) 0x60 && eqb (cuPhase (cuDoes 5 paused .unit)) 1 && eqb (cuPhase (cuDoes 5 acting .unit)) 3)
+unfolding byteAt putByte bytesAt putBytes value digits fieldAt place bitsAt codeOf obeyCuc
+cuElse = tt
 
 -- leaving Active raises CNA: an ABORT of a unit that is not Active leaves nothing
 pub cuLeaves : T (cuDoes 4 acting .left && cuDoes 3 next .left && not (cuDoes 3 acting .left) && not (cuDoes 4 paused .left))
-unfolding byteAt putByte bytesAt putBytes value digits fieldAt place cuNext bitsAt cuFirst obeyCuc
+unfolding byteAt putByte bytesAt putBytes value digits fieldAt place bitsAt codeOf obeyCuc
 cuLeaves = tt
 
 -- CU abort of a begun command writes its status 9000h, and of one not begun nothing
@@ -99,7 +106,7 @@ abbrev block : Cu → ℕ
 block unit = wordAt (apply (cuDoes 4 unit .writes) memory) 0x60
 
 pub cuAborts : T (eqb (block acting) 0x9000 && eqb (block next) 0x4000)
-unfolding byteAt putByte bytesAt putBytes value digits fieldAt place cuNext bitsAt cuFirst obeyCuc
+unfolding byteAt putByte bytesAt putBytes value digits fieldAt place bitsAt codeOf obeyCuc
 cuAborts = tt
 
 -- ---- the receive unit
@@ -145,7 +152,7 @@ ruGoes unit o = eqb (ruPhase unit) 3 && eqb (ruAt unit) o
 -- 1 START: Idle, Suspended, No Resources to Ready, at RFA offset; 2 RESUME: Suspended to Ready, where it was
 pub ruStarts : T (ruGoes (ruDoes 1 ru.Idle .unit) 0x50 && ruGoes (ruDoes 1 ru.NoResources .unit) 0x50
     && ruGoes (ruDoes 1 (ru.Suspended (record { 0 = 0x70 })) .unit) 0x50 && ruGoes (ruDoes 2 (ru.Suspended (record { 0 = 0x70 })) .unit) 0x70)
-unfolding byteAt putByte bytesAt putBytes value digits fieldAt place ruNext bitsAt ruFirst obeyRuc
+unfolding byteAt putByte bytesAt putBytes value digits fieldAt place bitsAt codeOf obeyRuc
 ruStarts = tt
 
 -- a SUSPEND waits for the end of the held frame
@@ -163,15 +170,22 @@ ruWaits (ru.Lacking s) = s .pausing
 pub ruSuspends : T (eqb (ruPhase (ruDoes 3 held .unit)) 4 && ruWaits (ruDoes 3 held .unit) && not (ruDoes 3 held .left)
     && eqb (ruPhase (ruDoes 3 lacking .unit)) 7 && ruWaits (ruDoes 3 lacking .unit)
     && eqb (ruPhase (ruDoes 3 (ru.Ready (record { 0 = 0x70 })) .unit)) 1)
-unfolding byteAt putByte bytesAt putBytes value digits fieldAt place ruNext bitsAt ruFirst obeyRuc
+unfolding byteAt putByte bytesAt putBytes value digits fieldAt place bitsAt codeOf obeyRuc
 ruSuspends = tt
+
+-- every other pair does nothing: RESUME of a unit that is Idle, has No Resources or is Ready, SUSPEND of one that is not Ready, code 0
+pub ruElse : T (eqb (ruPhase (ruDoes 2 ru.Idle .unit)) 0 && eqb (ruPhase (ruDoes 2 ru.NoResources .unit)) 2 && eqb (ruPhase (ruDoes 2 held .unit)) 4
+    && ruGoes (ruDoes 1 (ru.Ready (record { 0 = 0x70 })) .unit) 0x70 && eqb (ruPhase (ruDoes 3 ru.NoResources .unit)) 2
+    && eqb (ruPhase (ruDoes 3 ru.Idle .unit)) 0 && eqb (ruPhase (ruDoes 0 held .unit)) 4 && not (ruWaits (ruDoes 0 held .unit)))
+unfolding byteAt putByte bytesAt putBytes value digits fieldAt place bitsAt codeOf obeyRuc
+ruElse = tt
 
 -- RU abort drops a held frame and writes 0000h to its frame descriptor if begun
 abbrev descriptor : Ru → ℕ
 descriptor unit = wordAt (apply (ruDoes 4 unit .writes) memory) 0x70
 
 pub ruAborts : T (eqb (ruPhase (ruDoes 4 held .unit)) 0 && ruDoes 4 held .left && eqb (descriptor held) 0x4000 && eqb (descriptor lacking) 0)
-unfolding byteAt putByte bytesAt putBytes value digits fieldAt place ruNext bitsAt ruFirst obeyRuc
+unfolding byteAt putByte bytesAt putBytes value digits fieldAt place bitsAt codeOf obeyRuc
 ruAborts = tt
 
 -- it drops every held frame, each by its fate, and nothing else does; one that is held after it is not dropped

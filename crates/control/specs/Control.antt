@@ -1,17 +1,13 @@
--- What a control code does to a unit: 01, "The SCB". The table gives the next state; here is how each unit goes to it. Assumes nothing.
-use mathlib.Core.Bool.{Bool, true, false, not, cond, _&&_}
+-- What the control codes do to a unit, over its phases: 01, "The SCB". The paper's table stands here row by row, a definition for each code and
+-- unit. Assumes nothing.
+use mathlib.Core.Bool.{true}
 use mathlib.Core.List.{List, [], _∷_, map}
-use Prim.Native.Nat.{ℕ}
 use Rattle.memory.specs.Memory.{Write, wordTo}
 use Rattle.memory.specs.Address.{place}
 use Rattle.memory.specs.declared.Offset.{Offset}
 use Rattle.memory.specs.declared.RealAddress.{RealAddress}
-use Rattle.scb.specs.declared.CuState.{CuState}
-use Rattle.scb.specs.declared.CuState.the-variants as cus
-use Rattle.scb.specs.declared.RuState.{RuState}
-use Rattle.scb.specs.declared.RuState.the-variants as rus
+use Rattle.scb.specs.Control.{Code, start, resume, suspend, abort, other}
 use Rattle.device.specs.Change.{pausingBegun, pausingStoring}
-use Rattle.device.specs.State.{isHolding}
 use Rattle.device.specs.declared.Cu.{Cu}
 use Rattle.device.specs.declared.Cu.the-variants as cu
 use Rattle.device.specs.declared.Fate.{Fate}
@@ -23,41 +19,47 @@ use Rattle.receive.specs.Part as descriptor
 
 -- ---- the command unit
 
--- START and RESUME: to Active, at the block said; an Active unit goes on as it is
-abbrev pub cuActive : Offset → Cu → Cu
-cuActive first cu.Idle = cu.Waiting first
-cuActive first (cu.Suspended next) = cu.Waiting first
-cuActive first (cu.Waiting next) = cu.Waiting next
-cuActive first (cu.Acting b a) = cu.Acting b a
-cuActive first (cu.Sending b w) = cu.Sending b w
-cuActive first (cu.Ending b n) = cu.Ending b n
-cuActive first (cu.Failing b) = cu.Failing b
+-- START: Idle, Suspended to Active, at CBL offset
+abbrev pub cuStart : (cbl : Offset) → Cu → Cu
+cuStart cbl cu.Idle = cu.Waiting cbl
+cuStart cbl (cu.Suspended next) = cu.Waiting cbl
+cuStart cbl (cu.Waiting next) = cu.Waiting next
+cuStart cbl (cu.Acting b a) = cu.Acting b a
+cuStart cbl (cu.Sending b w) = cu.Sending b w
+cuStart cbl (cu.Ending b n) = cu.Ending b n
+cuStart cbl (cu.Failing b) = cu.Failing b
 
--- SUSPEND: at the end of a begun command, else at once; a unit that is not Active stays as it is
-abbrev pub cuSuspended : Cu → Cu
-cuSuspended cu.Idle = cu.Idle
-cuSuspended (cu.Suspended next) = cu.Suspended next
-cuSuspended (cu.Waiting next) = cu.Suspended next
-cuSuspended (cu.Acting b a) = cu.Acting (pausingBegun b) a
-cuSuspended (cu.Sending b w) = cu.Sending (pausingBegun b) w
-cuSuspended (cu.Ending b n) = cu.Ending (pausingBegun b) n
-cuSuspended (cu.Failing b) = cu.Failing (pausingBegun b)
+-- RESUME: Suspended to Active
+abbrev pub cuResume : Cu → Cu
+cuResume cu.Idle = cu.Idle
+cuResume (cu.Suspended next) = cu.Waiting next
+cuResume (cu.Waiting next) = cu.Waiting next
+cuResume (cu.Acting b a) = cu.Acting b a
+cuResume (cu.Sending b w) = cu.Sending b w
+cuResume (cu.Ending b n) = cu.Ending b n
+cuResume (cu.Failing b) = cu.Failing b
 
--- to the state that the table says; Idle forgets all
-abbrev pub cuGoes : CuState → Offset → Cu → Cu
-cuGoes cus.Idle first unit = cu.Idle
-cuGoes cus.Suspended first unit = cuSuspended unit
-cuGoes cus.Active first unit = cuActive first unit
+-- SUSPEND: Active: at the end of a begun command, else at once
+abbrev pub cuSuspend : Cu → Cu
+cuSuspend cu.Idle = cu.Idle
+cuSuspend (cu.Suspended next) = cu.Suspended next
+cuSuspend (cu.Waiting next) = cu.Suspended next
+cuSuspend (cu.Acting b a) = cu.Acting (pausingBegun b) a
+cuSuspend (cu.Sending b w) = cu.Sending (pausingBegun b) w
+cuSuspend (cu.Ending b n) = cu.Ending (pausingBegun b) n
+cuSuspend (cu.Failing b) = cu.Failing (pausingBegun b)
 
--- the block that a RESUME goes to
-abbrev pub resumesAt : Cu → Offset
-resumesAt cu.Idle = record { 0 = 0 }
-resumesAt (cu.Suspended next) = next
-resumesAt (cu.Waiting next) = next
-resumesAt (cu.Acting b a) = b .block
-resumesAt (cu.Sending b w) = b .block
-resumesAt (cu.Ending b n) = b .block
-resumesAt (cu.Failing b) = b .block
+-- ABORT: any to Idle
+abbrev pub cuAbort : Cu → Cu
+cuAbort unit = cu.Idle
+
+-- every other pair does nothing (ours)
+abbrev pub cuBy : Code → (cbl : Offset) → Cu → Cu
+cuBy start cbl unit = cuStart cbl unit
+cuBy resume cbl unit = cuResume unit
+cuBy suspend cbl unit = cuSuspend unit
+cuBy abort cbl unit = cuAbort unit
+cuBy other cbl unit = unit
 
 -- CU abort of a begun command writes its status 9000h
 abbrev pub abortedBlock : RealAddress → Offset → List Write
@@ -72,52 +74,59 @@ abortedCu base (cu.Sending b w) = abortedBlock base (b .block)
 abortedCu base (cu.Ending b n) = abortedBlock base (b .block)
 abortedCu base (cu.Failing b) = abortedBlock base (b .block)
 
-abbrev pub cuWrites : CuState → RealAddress → Cu → List Write
-cuWrites cus.Idle base unit = abortedCu base unit
-cuWrites cus.Suspended base unit = []
-cuWrites cus.Active base unit = []
+abbrev pub cuWrites : Code → RealAddress → Cu → List Write
+cuWrites start base unit = []
+cuWrites resume base unit = []
+cuWrites suspend base unit = []
+cuWrites abort base unit = abortedCu base unit
+cuWrites other base unit = []
 
 -- ---- the receive unit
 
--- START and RESUME: to Ready, at the frame descriptor said; a Ready unit goes on as it is
-abbrev pub ruReady : Offset → Ru → Ru
-ruReady first ru.Idle = ru.Ready first
-ruReady first ru.NoResources = ru.Ready first
-ruReady first (ru.Suspended fd) = ru.Ready first
-ruReady first (ru.Ready fd) = ru.Ready fd
-ruReady first (ru.Held fd f p) = ru.Held fd f p
-ruReady first (ru.Filling s w) = ru.Filling s w
-ruReady first (ru.Closing s free full) = ru.Closing s free full
-ruReady first (ru.Lacking s) = ru.Lacking s
+-- START: Idle, Suspended, No Resources to Ready, at RFA offset
+abbrev pub ruStart : (rfa : Offset) → Ru → Ru
+ruStart rfa ru.Idle = ru.Ready rfa
+ruStart rfa ru.NoResources = ru.Ready rfa
+ruStart rfa (ru.Suspended fd) = ru.Ready rfa
+ruStart rfa (ru.Ready fd) = ru.Ready fd
+ruStart rfa (ru.Held fd f p) = ru.Held fd f p
+ruStart rfa (ru.Filling s w) = ru.Filling s w
+ruStart rfa (ru.Closing s free full) = ru.Closing s free full
+ruStart rfa (ru.Lacking s) = ru.Lacking s
 
--- SUSPEND: at the end of a held frame, else at once; a unit that is not Ready stays as it is
-abbrev pub ruSuspended : Ru → Ru
-ruSuspended ru.Idle = ru.Idle
-ruSuspended ru.NoResources = ru.NoResources
-ruSuspended (ru.Suspended fd) = ru.Suspended fd
-ruSuspended (ru.Ready fd) = ru.Suspended fd
-ruSuspended (ru.Held fd f p) = ru.Held fd f true
-ruSuspended (ru.Filling s w) = ru.Filling (pausingStoring s) w
-ruSuspended (ru.Closing s free full) = ru.Closing (pausingStoring s) free full
-ruSuspended (ru.Lacking s) = ru.Lacking (pausingStoring s)
+-- RESUME: Suspended to Ready
+abbrev pub ruResume : Ru → Ru
+ruResume ru.Idle = ru.Idle
+ruResume ru.NoResources = ru.NoResources
+ruResume (ru.Suspended fd) = ru.Ready fd
+ruResume (ru.Ready fd) = ru.Ready fd
+ruResume (ru.Held fd f p) = ru.Held fd f p
+ruResume (ru.Filling s w) = ru.Filling s w
+ruResume (ru.Closing s free full) = ru.Closing s free full
+ruResume (ru.Lacking s) = ru.Lacking s
 
--- to the state that the table says; it leads to No Resources only what is there already
-abbrev pub ruGoes : RuState → Offset → Ru → Ru
-ruGoes rus.Idle first unit = ru.Idle
-ruGoes rus.Suspended first unit = ruSuspended unit
-ruGoes rus.NoResources first unit = unit
-ruGoes rus.Ready first unit = ruReady first unit
+-- SUSPEND: Ready: at the end of a held frame, else at once
+abbrev pub ruSuspend : Ru → Ru
+ruSuspend ru.Idle = ru.Idle
+ruSuspend ru.NoResources = ru.NoResources
+ruSuspend (ru.Suspended fd) = ru.Suspended fd
+ruSuspend (ru.Ready fd) = ru.Suspended fd
+ruSuspend (ru.Held fd f p) = ru.Held fd f true
+ruSuspend (ru.Filling s w) = ru.Filling (pausingStoring s) w
+ruSuspend (ru.Closing s free full) = ru.Closing (pausingStoring s) free full
+ruSuspend (ru.Lacking s) = ru.Lacking (pausingStoring s)
 
--- the frame descriptor that a RESUME goes to
-abbrev pub readyAt : Ru → Offset
-readyAt ru.Idle = record { 0 = 0 }
-readyAt ru.NoResources = record { 0 = 0 }
-readyAt (ru.Suspended fd) = fd
-readyAt (ru.Ready fd) = fd
-readyAt (ru.Held fd f p) = fd
-readyAt (ru.Filling s w) = s .fd
-readyAt (ru.Closing s free full) = s .fd
-readyAt (ru.Lacking s) = s .fd
+-- ABORT: any to Idle
+abbrev pub ruAbort : Ru → Ru
+ruAbort unit = ru.Idle
+
+-- every other pair does nothing (ours)
+abbrev pub ruBy : Code → (rfa : Offset) → Ru → Ru
+ruBy start rfa unit = ruStart rfa unit
+ruBy resume rfa unit = ruResume unit
+ruBy suspend rfa unit = ruSuspend unit
+ruBy abort rfa unit = ruAbort unit
+ruBy other rfa unit = unit
 
 -- RU abort drops a held frame uncounted and writes 0000h to its frame descriptor if begun
 abbrev pub abortedDescriptor : RealAddress → Offset → List Write
@@ -133,11 +142,12 @@ abortedRu base (ru.Filling s w) = abortedDescriptor base (s .fd)
 abortedRu base (ru.Closing s free full) = abortedDescriptor base (s .fd)
 abortedRu base (ru.Lacking s) = abortedDescriptor base (s .fd)
 
-abbrev pub ruWrites : RuState → RealAddress → Ru → List Write
-ruWrites rus.Idle base unit = abortedRu base unit
-ruWrites rus.Suspended base unit = []
-ruWrites rus.NoResources base unit = []
-ruWrites rus.Ready base unit = []
+abbrev pub ruWrites : Code → RealAddress → Ru → List Write
+ruWrites start base unit = []
+ruWrites resume base unit = []
+ruWrites suspend base unit = []
+ruWrites abort base unit = abortedRu base unit
+ruWrites other base unit = []
 
 -- the held frames that an abort or a reset loses, each by this fate: all, or none where some are held after it
 abbrev pub lostBy : Fate → (before after : List Frame) → List Fate

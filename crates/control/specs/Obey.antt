@@ -1,20 +1,17 @@
--- A control code is obeyed: 01, "The SCB". Which state the table leads to, and where a unit begins. Assumes nothing.
-use mathlib.Core.Bool.{Bool, not, cond, _&&_}
+-- A control code is obeyed: 01, "The SCB". A unit does what its code says, and leaves Active or Ready or does not. Assumes nothing.
+use mathlib.Core.Bool.{Bool, not, _&&_}
 use mathlib.Core.List.{List}
 use Prim.Native.Nat.{ℕ}
-use lib.Dec.{eqb}
 use Rattle.memory.specs.Memory.{Write}
 use Rattle.memory.specs.Address.{place, offsetAt}
 use Rattle.memory.specs.declared.Offset.{Offset}
-use Rattle.scb.specs.Control.{cuNext, ruNext}
+use Rattle.scb.specs.Control.{Code, codeOf}
 use Rattle.scb.specs.Words.{cblAt, rfaAt, cuc, ruc}
-use Rattle.scb.specs.declared.CuState.{CuState}
-use Rattle.scb.specs.declared.RuState.{RuState}
 use Rattle.device.specs.State.{cuState, ruState, isActive, isReady}
 use Rattle.device.specs.declared.Cu.{Cu}
 use Rattle.device.specs.declared.Ru.{Ru}
 use Rattle.device.specs.declared.Units.{Units}
-use Rattle.control.specs.Control.{cuGoes, cuWrites, resumesAt, ruGoes, ruWrites, readyAt}
+use Rattle.control.specs.Control.{cuBy, cuWrites, ruBy, ruWrites}
 
 -- a field of the SCB
 abbrev pub ofScb : Units → ℕ → ℕ
@@ -26,34 +23,28 @@ pub record Obeyed (U : Type 0) : Type 0 where
   pub writes : List Write
   pub left : Bool
 
--- obey CUC: START at CBL offset, RESUME at the next block
-abbrev pub cuObeys : CuState → Units → Offset → Obeyed Cu
-cuObeys next u first =
-    let unit = cuGoes next first (u .cu) in
+-- obey CUC: START at CBL offset
+abbrev pub cuObeys : Code → Units → (cbl : Offset) → Obeyed Cu
+cuObeys code u cbl =
+    let unit = cuBy code cbl (u .cu) in
     record {
       unit = unit;
-      writes = cuWrites next (u .base) (u .cu);
+      writes = cuWrites code (u .base) (u .cu);
       left = isActive (cuState (u .cu)) && not (isActive (cuState unit));
     }
 
-unfoldable pub cuFirst : Units → ℕ → List ℕ → Offset
-cuFirst u command m = cond (eqb (cuc command) 1) (offsetAt m (ofScb u cblAt)) (resumesAt (u .cu))
+unfoldable pub obeyCuc : Units → (command : ℕ) → List ℕ → Obeyed Cu
+obeyCuc u command m = cuObeys (codeOf (cuc command)) u (offsetAt m (ofScb u cblAt))
 
-unfoldable pub obeyCuc : Units → ℕ → List ℕ → Obeyed Cu
-obeyCuc u command m = cuObeys (cuNext (cuc command) (cuState (u .cu))) u (cuFirst u command m)
-
--- obey RUC: START at RFA offset, RESUME at the next frame descriptor
-abbrev pub ruObeys : RuState → Units → Offset → Obeyed Ru
-ruObeys next u first =
-    let unit = ruGoes next first (u .ru) in
+-- obey RUC: START at RFA offset
+abbrev pub ruObeys : Code → Units → (rfa : Offset) → Obeyed Ru
+ruObeys code u rfa =
+    let unit = ruBy code rfa (u .ru) in
     record {
       unit = unit;
-      writes = ruWrites next (u .base) (u .ru);
+      writes = ruWrites code (u .base) (u .ru);
       left = isReady (ruState (u .ru)) && not (isReady (ruState unit));
     }
 
-unfoldable pub ruFirst : Units → ℕ → List ℕ → Offset
-ruFirst u command m = cond (eqb (ruc command) 1) (offsetAt m (ofScb u rfaAt)) (readyAt (u .ru))
-
-unfoldable pub obeyRuc : Units → ℕ → List ℕ → Obeyed Ru
-obeyRuc u command m = ruObeys (ruNext (ruc command) (ruState (u .ru))) u (ruFirst u command m)
+unfoldable pub obeyRuc : Units → (command : ℕ) → List ℕ → Obeyed Ru
+obeyRuc u command m = ruObeys (codeOf (ruc command)) u (offsetAt m (ofScb u rfaAt))

@@ -8,11 +8,13 @@ use Rattle.memory.specs.Address.{place}
 use Rattle.device.specs.Answers.{counterOf, counts}
 use Rattle.device.specs.Limits.{header, areaSize, recordSize, longest, mostBuffers, mostListed, fcs}
 use Rattle.device.specs.Numbers.{verdictNumber, verdictOf, refusalNumber, counterPlace}
-use Rattle.device.specs.State.{goodBy, fresh}
+use Rattle.device.specs.State.{goodBy, ruWorks, cuWorks, fresh}
 use Rattle.device.specs.declared.Counter.{Counter}
 use Rattle.device.specs.declared.Counter.the-variants as counter
+use Rattle.device.specs.declared.Cu.the-variants as cu
 use Rattle.device.specs.declared.Fate.the-variants as fate
 use Rattle.device.specs.declared.Refusal.the-variants as refusal
+use Rattle.device.specs.declared.Ru.the-variants as ru
 use Rattle.device.specs.declared.Verdict.the-variants as verdict
 
 -- 01, "What the desk is buying": any other value is misaligned
@@ -56,3 +58,8 @@ afterReset = tt
 pub limits : T (eqb header 14 && eqb areaSize 2048 && eqb recordSize 256 && eqb longest 2048
     && eqb mostBuffers 64 && eqb mostListed 16 && eqb fcs 4)
 limits = tt
+
+-- 01, "Turns": RU has work while a frame is held, CU while Active
+pub worksWhile : T (ruWorks (ru.Held (record { 0 = 0 }) (record { length = 16; verdict = verdict.Good; short = false; savebad = false }) false)
+    && not (ruWorks (ru.Ready (record { 0 = 0 }))) && cuWorks (cu.Waiting (record { 0 = 0 })) && not (cuWorks (cu.Suspended (record { 0 = 0 }))))
+worksWhile = tt

@@ -81,6 +81,13 @@ heldIn (ru.Filling s w) = s .frame ∷ []
 heldIn (ru.Closing s o e) = s .frame ∷ []
 heldIn (ru.Lacking s) = s .frame ∷ []
 
+-- 01, "Turns": RU has work while a frame is held, CU while Active
+abbrev pub ruWorks : Ru → Bool
+ruWorks u = isHolding u
+
+abbrev pub cuWorks : Cu → Bool
+cuWorks u = isActive (cuState u)
+
 -- 01, "Arrival and storing": neither short nor with a bad verdict
 abbrev pub goodBy : Bool → Verdict → Bool
 goodBy true v = false

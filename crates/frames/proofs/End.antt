@@ -31,7 +31,7 @@ part w = receive.partOf (w .device .units) (w .holding)
 
 unfoldable pub turned : World → receive.Service → Ran
 turned w s =
-    writing w (written (s .writes) (s .raised) (receiveUnits (w .device) s))
+    writing w (written (w .device .units) (s .writes) (s .raised) (receiveUnits (w .device) s))
     (concluded (w .device) (receiveUnits (w .device) s) (s .raised) 0 (s .fates))
 
 -- ---- the status word

@@ -8,10 +8,8 @@ use lib.Dec.{eqb, leb, ltb}
 use lib.ListN.{length}
 use Rattle.memory.specs.Memory.{Write, wordTo, apply}
 use Rattle.memory.specs.declared.Offset.{Offset}
-use Rattle.scb.specs.Control.{ruNext}
+use Rattle.scb.specs.Control.{Code, codeOf, start, resume, suspend, abort, other}
 use Rattle.scb.specs.Words.{scbCommandAt, resets, ruc, cuNumber, ruNumber, eventBits}
-use Rattle.scb.specs.declared.RuState.{RuState}
-use Rattle.scb.specs.declared.RuState.the-variants as rus
 use Rattle.device.specs.Answers.{isHeld}
 use Rattle.device.specs.Limits.{header}
 use Rattle.device.specs.State.{cuState, ruState, isActive, isHolding, heldIn, isGood, fresh}
@@ -32,17 +30,17 @@ use Rattle.receive.specs.Begin as begins
 use Rattle.receive.specs.Buffer as buffers
 use Rattle.receive.specs.End.{lack}
 use Rattle.receive.specs.Service as services
-use Rattle.control.specs.Control.{ruGoes, ruSuspended, ruReady, lostBy, abortedRu}
-use Rattle.control.specs.Obey.{obeyCuc, ruObeys, ruFirst, obeyRuc}
+use Rattle.control.specs.Control.{ruStart, ruResume, ruSuspend, ruBy, lostBy, abortedRu}
+use Rattle.control.specs.Obey.{Obeyed, obeyCuc, obeyRuc}
 use Rattle.attention.specs.Attention as attentions
 use Rattle.chip.specs.Arrival as chip
 use Rattle.chip.specs.Attention.{attentionOf}
 use Rattle.chip.specs.Call.{Call, reset, attention, arrive, turn, ran}
-use Rattle.chip.specs.Turn.{servedBy, turnBy, turnOf, commandTurn, receiveTurn, concluded}
+use Rattle.chip.specs.Turn.{servedBy, isReceive, turnBy, turnOf, commandTurn, receiveTurn, concluded}
 use Rattle.chip.specs.World.{World, Ran, writing, resetOf}
 use Rattle.filter.specs.Match.{matches}
 use Rattle.frames.specs.Arrival.{inScb, unitOf, settingsOf}
-use Rattle.frames.specs.Held.{ofHeld, chosen, heldFates, forEach, commandOf, loses, endIsNext, servedRu, ends, StaysHeld, Lost, by-reset, by-resetting, by-abort, GoodFate, BadFate}
+use Rattle.frames.specs.Held.{ofHeld, chosen, heldFates, forEach, commandOf, loses, endIsNext, ends, StaysHeld, Lost, by-reset, by-resetting, by-abort, GoodFate, BadFate}
 use Rattle.frames.specs.Held as held
 use Rattle.frames.proofs.End.{part, turned, Closed, closed, Both, both, OnlyCounted, only-counted, Kept, kept}
 
@@ -175,35 +173,32 @@ unfolding attended attentionOf attentions.attention attentions.attend
 to-attend w i = ap (λ (b : Bool). attended w (attentions.attentionBy b (w .device) (w .memory))) (sym i)
 
 -- it resets
-reset-fates : (w : World) → attended w (attentions.resetBy (w .device)) .outcome .fates ≡ forEach fate.Reset w
-unfolding attended attentions.resetBy
+reset-fates : (w : World) → attended w (attentions.attendBy true (w .device) (commandOf w) (w .memory)) .outcome .fates ≡ forEach fate.Reset w
+unfolding attended attentions.attendBy
 reset-fates w = refl
 
-reset-fresh : (w : World) → attended w (attentions.resetBy (w .device)) .outcome .device ≡ fresh
-unfolding attended attentions.resetBy
+reset-fresh : (w : World) → attended w (attentions.attendBy true (w .device) (commandOf w) (w .memory)) .outcome .device ≡ fresh
+unfolding attended attentions.attendBy
 reset-fresh w = refl
 
-reset-memory : (w : World) → attended w (attentions.resetBy (w .device)) .memory ≡ apply (wordTo (inScb w scbCommandAt) 0x0000 ∷ []) (w .memory)
-unfolding attended attentions.resetBy
+reset-memory : (w : World) → attended w (attentions.attendBy true (w .device) (commandOf w) (w .memory)) .memory ≡ apply (wordTo (inScb w scbCommandAt) 0x0000 ∷ []) (w .memory)
+unfolding attended attentions.attendBy
 reset-memory w = refl
 
-at-reset : (w : World) → resets (commandOf w) ≡ true → attended w (attentions.resetBy (w .device)) ≡ attentionOf w
+at-reset : (w : World) → resets (commandOf w) ≡ true → attended w (attentions.attendBy true (w .device) (commandOf w) (w .memory)) ≡ attentionOf w
     → Lost w attention
 at-reset w r e =
     by-resetting r (ap (λ (x : Ran). x .outcome .fates) (sym e) ∙ reset-fates w) (ap (λ (x : Ran). x .outcome .device) (sym e) ∙ reset-fresh w)
     (ap (λ (x : Ran). x .memory) (sym e) ∙ reset-memory w)
 
--- it obeys, and the table leads the receive unit to n
-unfoldable pub obeyed : RuState → World → Ran
-obeyed n w =
-    let u = w .device .units in
-    let c = obeyCuc u (commandOf w) (w .memory) in
-    attended w (attentions.obeyedBy (w .device) (commandOf w) c (ruObeys n u (ruFirst u (commandOf w) (apply (c .writes) (w .memory)))))
+-- it obeys
+abbrev pub obeyed : World → Ran
+obeyed w = attended w (attentions.attendBy false (w .device) (commandOf w) (w .memory))
 
-pub obey-is : (w : World)
-    → obeyed (ruNext (ruc (commandOf w)) (ruState (unitOf w))) w ≡ attended w (attentions.obey (w .device) (commandOf w) (w .memory))
-unfolding obeyed attentions.obey obeyRuc
-obey-is w = refl
+-- what RUC comes to, on memory as CUC left it
+abbrev pub obeyedRuc : World → Obeyed Ru
+obeyedRuc w =
+    let u = w .device .units in obeyRuc u (commandOf w) (apply (obeyCuc u (commandOf w) (w .memory) .writes) (w .memory))
 
 record Aborted (w : World) (r : Ran) : Type 0 where
   fates : r .outcome .fates ≡ forEach fate.Aborted w
@@ -213,82 +208,93 @@ record Aborted (w : World) (r : Ran) : Type 0 where
       ≡ apply (obeyCuc (w .device .units) (commandOf w) (w .memory) .writes ++ abortedRu (w .device .units .base) (unitOf w)
       ++ attentions.settledWrites (r .outcome .device .units)) (w .memory)
 
-aborted-idle : (w : World) → Aborted w (obeyed rus.Idle w)
-unfolding obeyed attended attentions.unitsAfter
-aborted-idle w = record { fates = refl; unit = refl; memory = refl }
+-- ABORT alone loses the frame
+abort-unit : (w : World) → ruc (commandOf w) ≡ 4 → obeyedRuc w .unit ≡ ru.Idle
+unfolding obeyRuc codeOf
+abort-unit w e = rw e
 
-abbrev pub isIdle : RuState → Bool
-isIdle rus.Idle = true
-isIdle rus.Suspended = false
-isIdle rus.NoResources = false
-isIdle rus.Ready = false
+abort-writes : (w : World) → ruc (commandOf w) ≡ 4 → obeyedRuc w .writes ≡ abortedRu (w .device .units .base) (unitOf w)
+unfolding obeyRuc codeOf
+abort-writes w e = rw e
+
+aborted : (w : World) → ruc (commandOf w) ≡ 4 → Aborted w (obeyed w)
+unfolding attended attentions.attendBy
+aborted w e =
+    record {
+      fates = ap (λ (u : Ru). lostBy fate.Aborted (heldIn (unitOf w)) (heldIn u)) (abort-unit w e);
+      unit = abort-unit w e;
+      memory =
+          ap (λ (ws : List Write). apply (obeyCuc (w .device .units) (commandOf w) (w .memory) .writes ++ ws
+          ++ attentions.settledWrites (obeyed w .outcome .device .units)) (w .memory)) (abort-writes w e);
+    }
+
+abbrev pub isAbort : Code → Bool
+isAbort start = false
+isAbort resume = false
+isAbort suspend = false
+isAbort abort = true
+isAbort other = false
 
 -- a unit that does not go to Idle keeps its frame
-suspended-keeps : (u : Ru) → heldIn (ruSuspended u) ≡ heldIn u
-suspended-keeps ru.Idle = refl
-suspended-keeps ru.NoResources = refl
-suspended-keeps (ru.Suspended fd) = refl
-suspended-keeps (ru.Ready fd) = refl
-suspended-keeps (ru.Held fd f p) = refl
-suspended-keeps (ru.Filling s w) = refl
-suspended-keeps (ru.Closing s free full) = refl
-suspended-keeps (ru.Lacking s) = refl
+suspend-keeps : (u : Ru) → heldIn (ruSuspend u) ≡ heldIn u
+suspend-keeps ru.Idle = refl
+suspend-keeps ru.NoResources = refl
+suspend-keeps (ru.Suspended fd) = refl
+suspend-keeps (ru.Ready fd) = refl
+suspend-keeps (ru.Held fd f p) = refl
+suspend-keeps (ru.Filling s w) = refl
+suspend-keeps (ru.Closing s free full) = refl
+suspend-keeps (ru.Lacking s) = refl
 
-ready-keeps : (first : Offset) (u : Ru) → heldIn (ruReady first u) ≡ heldIn u
-ready-keeps first ru.Idle = refl
-ready-keeps first ru.NoResources = refl
-ready-keeps first (ru.Suspended fd) = refl
-ready-keeps first (ru.Ready fd) = refl
-ready-keeps first (ru.Held fd f p) = refl
-ready-keeps first (ru.Filling s w) = refl
-ready-keeps first (ru.Closing s free full) = refl
-ready-keeps first (ru.Lacking s) = refl
+start-keeps : (rfa : Offset) (u : Ru) → heldIn (ruStart rfa u) ≡ heldIn u
+start-keeps rfa ru.Idle = refl
+start-keeps rfa ru.NoResources = refl
+start-keeps rfa (ru.Suspended fd) = refl
+start-keeps rfa (ru.Ready fd) = refl
+start-keeps rfa (ru.Held fd f p) = refl
+start-keeps rfa (ru.Filling s w) = refl
+start-keeps rfa (ru.Closing s free full) = refl
+start-keeps rfa (ru.Lacking s) = refl
 
-pub goes-on : (n : RuState) (first : Offset) (u : Ru) → isIdle n ≡ false → heldIn (ruGoes n first u) ≡ heldIn u
-goes-on rus.Idle first u i = absurd (true≢false i)
-goes-on rus.Suspended first u i = suspended-keeps u
-goes-on rus.NoResources first u i = refl
-goes-on rus.Ready first u i = ready-keeps first u
+resume-keeps : (u : Ru) → heldIn (ruResume u) ≡ heldIn u
+resume-keeps ru.Idle = refl
+resume-keeps ru.NoResources = refl
+resume-keeps (ru.Suspended fd) = refl
+resume-keeps (ru.Ready fd) = refl
+resume-keeps (ru.Held fd f p) = refl
+resume-keeps (ru.Filling s w) = refl
+resume-keeps (ru.Closing s free full) = refl
+resume-keeps (ru.Lacking s) = refl
+
+pub goes-on : (code : Code) (rfa : Offset) (u : Ru) → isAbort code ≡ false → heldIn (ruBy code rfa u) ≡ heldIn u
+goes-on start rfa u i = start-keeps rfa u
+goes-on resume rfa u i = resume-keeps u
+goes-on suspend rfa u i = suspend-keeps u
+goes-on abort rfa u i = absurd (true≢false i)
+goes-on other rfa u i = refl
 
 pub not-lost : (a b : List Frame) (f : Frame) (fs : List Frame) → b ≡ f ∷ fs → heldFates (lostBy fate.Aborted a b) ≡ []
 not-lost a b f fs h = ap (λ (k : List Frame). heldFates (lostBy fate.Aborted a k)) h
 
-obeyed-keeps : (n : RuState) (w : World) (f : Frame) → heldIn (unitOf w) ≡ f ∷ [] → isIdle n ≡ false → StaysHeld f w (obeyed n w)
-unfolding obeyed attended attentions.unitsAfter
-obeyed-keeps n w f h i =
-    let u = w .device .units in
-    let first = ruFirst u (commandOf w) (apply (obeyCuc u (commandOf w) (w .memory) .writes) (w .memory)) in
-    let k : heldIn (ruGoes n first (unitOf w)) ≡ f ∷ [] = goes-on n first (unitOf w) i ∙ h in
-    record {
-      unit = k;
-      holding = refl;
-      fates = not-lost (heldIn (unitOf w)) (heldIn (ruGoes n first (unitOf w))) f [] k;
-    }
+code-by : (a b c : Bool) → isAbort (cond a start (cond b resume (cond c suspend other))) ≡ false
+code-by true b c = refl
+code-by false true c = refl
+code-by false false true = refl
+code-by false false false = refl
 
--- the table, from Ready: ABORT alone leads to Idle
-next-by : (a b c : Bool) → isIdle (cond a rus.Ready (cond b rus.Ready (cond c rus.Suspended rus.Ready))) ≡ false
-next-by true b c = refl
-next-by false true c = refl
-next-by false false true = refl
-next-by false false false = refl
+not-abort : (n : ℕ) → eqb n 4 ≡ false → isAbort (codeOf n) ≡ false
+unfolding codeOf
+not-abort n h = rw h (code-by (eqb n 1) (eqb n 2) (eqb n 3))
 
-next-kept : (code : ℕ) → eqb code 4 ≡ false → isIdle (ruNext code rus.Ready) ≡ false
-unfolding ruNext
-next-kept code h = rw h (next-by (eqb code 1) (eqb code 2) (eqb code 3))
+ruc-keeps : (w : World) → eqb (ruc (commandOf w)) 4 ≡ false → heldIn (obeyedRuc w .unit) ≡ heldIn (unitOf w)
+unfolding obeyRuc
+ruc-keeps w a = goes-on (codeOf (ruc (commandOf w))) _ (unitOf w) (not-abort (ruc (commandOf w)) a)
 
-next-idle : (code : ℕ) → code ≡ 4 → ruNext code rus.Ready ≡ rus.Idle
-unfolding ruNext
-next-idle code h = rw h
-
-held-state : (u : Ru) (f : Frame) → heldIn u ≡ f ∷ [] → ruState u ≡ rus.Ready
-held-state ru.Idle f h = absurd (none≢one h)
-held-state ru.NoResources f h = absurd (none≢one h)
-held-state (ru.Suspended fd) f h = absurd (none≢one h)
-held-state (ru.Ready fd) f h = absurd (none≢one h)
-held-state (ru.Held fd g p) f h = refl
-held-state (ru.Filling s w) f h = refl
-held-state (ru.Closing s free full) f h = refl
-held-state (ru.Lacking s) f h = refl
+obeyed-keeps : (w : World) (f : Frame) → heldIn (unitOf w) ≡ f ∷ [] → eqb (ruc (commandOf w)) 4 ≡ false → StaysHeld f w (obeyed w)
+unfolding attended attentions.attendBy
+obeyed-keeps w f h a =
+    let k : heldIn (obeyedRuc w .unit) ≡ f ∷ [] = ruc-keeps w a ∙ h in
+    record { unit = k; holding = refl; fates = not-lost (heldIn (unitOf w)) (heldIn (obeyedRuc w .unit)) f [] k }
 
 at-abort : (w : World) → resets (commandOf w) ≡ false → ruc (commandOf w) ≡ 4 → Aborted w (attentionOf w) → Lost w attention
 at-abort w r a x = by-abort r a (x .fates) (x .unit) (x .memory)
@@ -300,15 +306,11 @@ at-attention true aborts w f h i r a =
     lost (ap (λ (x : Bool). x || eqb (ruc (commandOf w)) 4) r) (at-reset w r to)
 at-attention false true w f h i r a =
     let to = ap (λ (b : Bool). attended w (attentions.attendBy b (w .device) (commandOf w) (w .memory))) (sym r) ∙ to-attend w i in
-    let n = ap₂ ruNext (eqb-true (ruc (commandOf w)) 4 a) (held-state (unitOf w) f h) ∙ next-idle 4 refl in
-    lost (ap₂ (λ (x y : Bool). x || y) r a)
-    (at-abort w r (eqb-true (ruc (commandOf w)) 4 a)
-    (subst (Aborted w) (ap (λ (x : RuState). obeyed x w) (sym n) ∙ obey-is w ∙ to) (aborted-idle w)))
+    let e = eqb-true (ruc (commandOf w)) 4 a in
+    lost (ap₂ (λ (x y : Bool). x || y) r a) (at-abort w r e (subst (Aborted w) to (aborted w e)))
 at-attention false false w f h i r a =
     let to = ap (λ (b : Bool). attended w (attentions.attendBy b (w .device) (commandOf w) (w .memory))) (sym r) ∙ to-attend w i in
-    let n = ap isIdle (ap (ruNext (ruc (commandOf w))) (held-state (unitOf w) f h)) ∙ next-kept (ruc (commandOf w)) a in
-    stays (ap₂ (λ (x y : Bool). x || y) r a) refl
-    (subst (StaysHeld f w) (obey-is w ∙ to) (obeyed-keeps (ruNext (ruc (commandOf w)) (ruState (unitOf w))) w f h n))
+    stays (ap₂ (λ (x y : Bool). x || y) r a) refl (subst (StaysHeld f w) to (obeyed-keeps w f h a))
 
 -- ---- a turn
 
@@ -375,11 +377,11 @@ served-as c h l w report a b d =
 
 ends-as : (c h l : Bool) (w : World) (report : ℕ) → isActive (cuState (w .device .units .cu)) ≡ c → isHolding (unitOf w) ≡ h
     → w .device .units .rulast ≡ l
-    → ends (turn report) w ≡ (servedRu c h l && endIsNext (unitOf w))
+    → ends (turn report) w ≡ (isReceive (servedBy c h l) && endIsNext (unitOf w))
 ends-as c h l w report a b d =
-    ap (λ (x : Bool). servedRu (isActive (cuState (w .device .units .cu))) (isHolding (unitOf w)) x && endIsNext (unitOf w)) d
-    ∙ ap (λ (x : Bool). servedRu (isActive (cuState (w .device .units .cu))) x l && endIsNext (unitOf w)) b
-    ∙ ap (λ (x : Bool). servedRu x h l && endIsNext (unitOf w)) a
+    ap (λ (x : Bool). isReceive (servedBy (isActive (cuState (w .device .units .cu))) (isHolding (unitOf w)) x) && endIsNext (unitOf w)) d
+    ∙ ap (λ (x : Bool). isReceive (servedBy (isActive (cuState (w .device .units .cu))) x l) && endIsNext (unitOf w)) b
+    ∙ ap (λ (x : Bool). isReceive (servedBy x h l) && endIsNext (unitOf w)) a
 
 at-turn : (c l : Bool) (w : World) (f : Frame) (report : ℕ) → heldIn (unitOf w) ≡ f ∷ [] → isActive (cuState (w .device .units .cu)) ≡ c
     → w .device .units .rulast ≡ l

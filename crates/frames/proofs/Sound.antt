@@ -7,12 +7,9 @@ use mathlib.Core.Logic.{_⊎_, inl, inr}
 use Prim.Native.Nat.{ℕ, suc}
 use lib.Dec.{eqb, ltb}
 use lib.ListN.{length}
-use Rattle.memory.specs.Memory.{apply}
 use Rattle.memory.specs.declared.Offset.{Offset}
-use Rattle.scb.specs.Control.{ruNext}
+use Rattle.scb.specs.Control.{Code, codeOf, start, resume, suspend, abort, other}
 use Rattle.scb.specs.Words.{resets, ruc, cuNumber, ruNumber, eventBits}
-use Rattle.scb.specs.declared.RuState.{RuState}
-use Rattle.scb.specs.declared.RuState.the-variants as rus
 use Rattle.device.specs.Answers.{isHeld}
 use Rattle.device.specs.Limits.{header}
 use Rattle.device.specs.State.{cuState, ruState, isActive, isHolding, heldIn, isGood, fresh}
@@ -28,8 +25,8 @@ use Rattle.device.specs.declared.Units.{Units}
 use Rattle.image.specs.Ranges.{inRange, initialisedOrFresh, unitsFresh, unitsIdle, settingsFresh, addressesFresh, unitsFit}
 use Rattle.phases.proofs.Units.{both as parts}
 use Rattle.receive.specs.Arrival as arrivals
-use Rattle.control.specs.Control.{ruGoes, lostBy}
-use Rattle.control.specs.Obey.{obeyCuc, ruFirst}
+use Rattle.control.specs.Control.{ruBy, lostBy}
+use Rattle.control.specs.Obey.{obeyRuc}
 use Rattle.attention.specs.Attention as attentions
 use Rattle.chip.specs.Arrival as chip
 use Rattle.chip.specs.Attention.{attentionOf}
@@ -38,9 +35,9 @@ use Rattle.chip.specs.Turn.{servedBy, turnBy, turnOf, commandTurn, receiveTurn,
 use Rattle.chip.specs.World.{World, Ran, resetOf}
 use Rattle.filter.specs.Match.{matches}
 use Rattle.frames.specs.Arrival.{unitOf, settingsOf}
-use Rattle.frames.specs.Held.{ofHeld, chosen, heldFates, forEach, FatesOfHeld, commandOf, loses, Lost, by-resetting, by-abort, GoodFate, BadFate}
+use Rattle.frames.specs.Held.{ofHeld, chosen, heldFates, FatesOfHeld, commandOf, loses, Lost, by-resetting, by-abort, GoodFate, BadFate}
 use Rattle.frames.specs.Held as held
-use Rattle.frames.proofs.Held.{none≢one, or-left, or-right, held-saved, held-fate, good-of, bad-of, goes-on, attended, obeyed, obey-is, to-attend, served-as}
+use Rattle.frames.proofs.Held.{none≢one, or-left, or-right, held-saved, held-fate, good-of, bad-of, goes-on, attended, obeyed, obeyedRuc, to-attend, served-as}
 
 -- the unit is Idle
 abbrev pub idle : Ru → Bool
@@ -198,46 +195,49 @@ lost-went w (by-abort r a x u m) =
     ends w (attentionOf w) (ap heldIn u)
     (ap (λ (fs : List Fate). length (heldFates fs)) x ∙ for-each fate.Aborted (heldIn (unitOf w)) refl)
 
-goes-none : (n : RuState) (first : Offset) (u : Ru) → heldIn u ≡ [] → heldIn (ruGoes n first u) ≡ []
-goes-none rus.Idle first u h = refl
-goes-none rus.Suspended first u h = goes-on rus.Suspended first u refl ∙ h
-goes-none rus.NoResources first u h = h
-goes-none rus.Ready first u h = goes-on rus.Ready first u refl ∙ h
+goes-none : (code : Code) (rfa : Offset) (u : Ru) → heldIn u ≡ [] → heldIn (ruBy code rfa u) ≡ []
+goes-none start rfa u h = goes-on start rfa u refl ∙ h
+goes-none resume rfa u h = goes-on resume rfa u refl ∙ h
+goes-none suspend rfa u h = goes-on suspend rfa u refl ∙ h
+goes-none abort rfa u h = refl
+goes-none other rfa u h = h
+
+ruc-none : (w : World) → heldIn (unitOf w) ≡ [] → heldIn (obeyedRuc w .unit) ≡ []
+unfolding obeyRuc
+ruc-none w h = goes-none (codeOf (ruc (commandOf w))) _ (unitOf w) h
 
 to-initialise : (w : World) → w .device .units .initialised ≡ false → attended w (attentions.initialise (w .device) (w .memory)) ≡ attentionOf w
 unfolding attended attentionOf attentions.attention
 to-initialise w i = ap (λ (b : Bool). attended w (attentions.attentionBy b (w .device) (w .memory))) (sym i)
 
 to-reset : (w : World) → w .device .units .initialised ≡ true → resets (commandOf w) ≡ true
-    → attended w (attentions.resetBy (w .device)) ≡ attentionOf w
+    → attended w (attentions.attendBy true (w .device) (commandOf w) (w .memory)) ≡ attentionOf w
 to-reset w i r = ap (λ (b : Bool). attended w (attentions.attendBy b (w .device) (commandOf w) (w .memory))) (sym r) ∙ to-attend w i
 
-to-obeyed : (w : World) → w .device .units .initialised ≡ true → resets (commandOf w) ≡ false
-    → obeyed (ruNext (ruc (commandOf w)) (ruState (unitOf w))) w ≡ attentionOf w
-to-obeyed w i r = obey-is w ∙ ap (λ (b : Bool). attended w (attentions.attendBy b (w .device) (commandOf w) (w .memory))) (sym r) ∙ to-attend w i
+to-obeyed : (w : World) → w .device .units .initialised ≡ true → resets (commandOf w) ≡ false → obeyed w ≡ attentionOf w
+to-obeyed w i r = ap (λ (b : Bool). attended w (attentions.attendBy b (w .device) (commandOf w) (w .memory))) (sym r) ∙ to-attend w i
 
 initialise-none : (w : World) → heldIn (unitOf w) ≡ [] → FatesOfHeld w (attended w (attentions.initialise (w .device) (w .memory)))
 unfolding attended attentions.initialise
 initialise-none w h = keeps w (attended w (attentions.initialise (w .device) (w .memory))) (sym h) refl
 
-reset-none : (w : World) → heldIn (unitOf w) ≡ [] → FatesOfHeld w (attended w (attentions.resetBy (w .device)))
-unfolding attended attentions.resetBy
+reset-none : (w : World) → heldIn (unitOf w) ≡ [] → FatesOfHeld w (attended w (attentions.attendBy true (w .device) (commandOf w) (w .memory)))
+unfolding attended attentions.attendBy
 reset-none w h =
-    keeps w (attended w (attentions.resetBy (w .device))) (sym h) (ap (λ (fs : List Frame). heldFates (lostBy fate.Reset fs [])) h)
+    keeps w (attended w (attentions.attendBy true (w .device) (commandOf w) (w .memory))) (sym h)
+    (ap (λ (fs : List Frame). heldFates (lostBy fate.Reset fs [])) h)
 
-obeyed-none : (n : RuState) (w : World) → heldIn (unitOf w) ≡ [] → FatesOfHeld w (obeyed n w)
-unfolding obeyed attended attentions.unitsAfter
-obeyed-none n w h =
-    let u = w .device .units in
-    let first = ruFirst u (commandOf w) (apply (obeyCuc u (commandOf w) (w .memory) .writes) (w .memory)) in
-    let k = goes-none n first (unitOf w) h in
-    keeps w (obeyed n w) (k ∙ sym h) (ap₂ (λ (a b : List Frame). heldFates (lostBy fate.Aborted a b)) h k)
+obeyed-none : (w : World) → heldIn (unitOf w) ≡ [] → FatesOfHeld w (obeyed w)
+unfolding attended attentions.attendBy
+obeyed-none w h =
+    let k = ruc-none w h in
+    keeps w (obeyed w) (k ∙ sym h) (ap₂ (λ (a b : List Frame). heldFates (lostBy fate.Aborted a b)) h k)
 
 attention-none : (i r : Bool) (w : World) → heldIn (unitOf w) ≡ [] → w .device .units .initialised ≡ i → resets (commandOf w) ≡ r
     → FatesOfHeld w (attentionOf w)
 attention-none false r w h i k = subst (FatesOfHeld w) (to-initialise w i) (initialise-none w h)
 attention-none true true w h i k = subst (FatesOfHeld w) (to-reset w i k) (reset-none w h)
-attention-none true false w h i k = subst (FatesOfHeld w) (to-obeyed w i k) (obeyed-none (ruNext (ruc (commandOf w)) (ruState (unitOf w))) w h)
+attention-none true false w h i k = subst (FatesOfHeld w) (to-obeyed w i k) (obeyed-none w h)
 
 attention-by : (w : World) → Sound (w .device) → (heldIn (unitOf w) ≡ []) ⊎ ((f : Frame) × (heldIn (unitOf w) ≡ f ∷ [])) → FatesOfHeld w (attentionOf w)
 attention-by w s (inl h) = attention-none (w .device .units .initialised) (resets (commandOf w)) w h refl refl
@@ -382,21 +382,18 @@ initialise-started : (w : World) → Started (attended w (attentions.initialise 
 unfolding Started attended attentions.initialise
 initialise-started w = refl
 
-reset-started : (w : World) → Started (attended w (attentions.resetBy (w .device)))
-unfolding Started attended attentions.resetBy
+reset-started : (w : World) → Started (attended w (attentions.attendBy true (w .device) (commandOf w) (w .memory)))
+unfolding Started attended attentions.attendBy
 reset-started w = refl
 
-obeyed-started : (n : RuState) (w : World) → w .device .units .initialised ≡ true → Started (obeyed n w)
-unfolding Started obeyed attended attentions.unitsAfter
-obeyed-started n w i =
-    let u = w .device .units in
-    let first = ruFirst u (commandOf w) (apply (obeyCuc u (commandOf w) (w .memory) .writes) (w .memory)) in
-    ap (λ (b : Bool). b || idle (ruGoes n first (unitOf w))) i
+obeyed-started : (w : World) → w .device .units .initialised ≡ true → Started (obeyed w)
+unfolding Started attended attentions.attendBy
+obeyed-started w i = ap (λ (b : Bool). b || idle (obeyedRuc w .unit)) i
 
 attention-started : (i r : Bool) (w : World) → w .device .units .initialised ≡ i → resets (commandOf w) ≡ r → Started (attentionOf w)
 attention-started false r w i k = subst Started (to-initialise w i) (initialise-started w)
 attention-started true true w i k = subst Started (to-reset w i k) (reset-started w)
-attention-started true false w i k = subst Started (to-obeyed w i k) (obeyed-started (ruNext (ruc (commandOf w)) (ruState (unitOf w))) w i)
+attention-started true false w i k = subst Started (to-obeyed w i k) (obeyed-started w i)
 
 attention-sound : (w : World) → Sound (w .device) → Sound (attentionOf w .outcome .device)
 unfolding Started

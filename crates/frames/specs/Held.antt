@@ -1,7 +1,7 @@
 -- What a call can make of a held frame: 01, "Arrival and storing" and "The SCB". A fate is read from the outcome that also gives the call's writes:
 -- each statement ties the outcome's fates to memory and record as the call leaves them. Assumes nothing.
 use mathlib.Core.Path.{_≡_}
-use mathlib.Core.Bool.{Bool, true, false, not, _&&_, _||_}
+use mathlib.Core.Bool.{Bool, true, false, _&&_, _||_}
 use mathlib.Core.List.{List, [], _∷_, _++_, map}
 use Prim.Native.Nat.{ℕ}
 use lib.Dec.{eqb}
@@ -11,7 +11,7 @@ use Rattle.memory.specs.Memory.{Write, bytesTo, wordTo, wordAt, countTo, apply}
 use Rattle.memory.specs.declared.Offset.{Offset}
 use Rattle.scb.specs.Words.{bit, scbStatusAt, scbCommandAt, statusWord, resets, ruc}
 use Rattle.device.specs.Limits.{header}
-use Rattle.device.specs.State.{cuState, ruState, isActive, isHolding, heldIn, fresh}
+use Rattle.device.specs.State.{cuState, ruState, heldIn, fresh}
 use Rattle.device.specs.declared.Fate.{Fate}
 use Rattle.device.specs.declared.Fate.the-variants as fate
 use Rattle.device.specs.declared.Frame.{Frame}
@@ -25,6 +25,7 @@ use Rattle.control.specs.Obey.{obeyCuc}
 use Rattle.attention.specs.Attention.{settledWrites}
 use Rattle.chip.specs.Call.{Call, reset, attention, arrive, turn, ran}
 use Rattle.chip.specs.World.{World, Ran}
+use Rattle.chip.specs.Turn.{servedOf, isReceive}
 use Rattle.frames.specs.Arrival.{inScb, unitOf}
 
 -- a fate of a held frame, not of an arriving one
@@ -76,17 +77,11 @@ endIsNext (ru.Filling s w) = false
 endIsNext (ru.Closing s free full) = true
 endIsNext (ru.Lacking s) = true
 
--- RU has work while a frame is held, CU while Active. If both have, the unit not served at the last working turn is served
-abbrev pub servedRu : (cuWorks ruWorks rulast : Bool) → Bool
-servedRu cuWorks false rulast = false
-servedRu false true rulast = true
-servedRu true true rulast = not rulast
-
 abbrev pub ends : Call → World → Bool
 ends reset w = false
 ends attention w = false
 ends (arrive f v) w = false
-ends (turn report) w = servedRu (isActive (cuState (w .device .units .cu))) (isHolding (unitOf w)) (w .device .units .rulast) && endIsNext (unitOf w)
+ends (turn report) w = isReceive (servedOf (w .device .units)) && endIsNext (unitOf w)
 
 -- ---- it stays held
 

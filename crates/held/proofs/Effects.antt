@@ -21,7 +21,7 @@ use Rattle.receive.specs.Buffer.{buffer}
 use Rattle.receive.specs.End.{fateOf, settles, proceeds, close, lack}
 use Rattle.receive.specs.Service.{serviceBy, service}
 use Rattle.chip.specs.World.{World}
-use Rattle.chip.specs.Turn.{statusBy, raisedIn, concluded, receiveUnits, receiveTurn, turnOf}
+use Rattle.chip.specs.Turn.{changes, statusBy, raisedIn, concluded, receiveUnits, receiveTurn, turnOf}
 use Rattle.calls.specs.Calls.{Areas}
 use Rattle.progress.specs.Trace.{run}
 use Rattle.traces.specs.Event.{Event, step}
@@ -89,7 +89,8 @@ received f w φ e g =
     let s = serviceBy (u .ru) p (w .memory) in
     let x = ends (u .ru) p (w .memory) φ g in
     let own : x .storing .frame ≡ f = head-eq-of-cons-eq (sym (x .own) ∙ e) in
-    let status = statusBy (anyOf (s .raised)) (raisedIn (receiveUnits (w .device) s) (s .raised)) in
+    let after = receiveUnits (w .device) s in
+    let status = statusBy (anyOf (s .raised) || changes u after) (raisedIn after (s .raised)) in
     record {
       storing = x .storing;
       own = own;

@@ -18,7 +18,9 @@ use Rattle.receive.specs.Service as receive-service
 use Rattle.receive.specs.Arrival as arrivals
 use Rattle.chip.specs.World.{World, Ran}
 use Rattle.chip.specs.Arrival as chip-arrival
-use Rattle.chip.specs.Turn.{servedBy, concluded, commandTurn, receiveTurn, turnBy, turnOf}
+use Rattle.chip.specs.declared.Served.{Served}
+use Rattle.chip.specs.declared.Served.the-variants as served
+use Rattle.chip.specs.Turn.{servedBy, servedOf, isReceive, concluded, commandTurn, receiveTurn, turnBy, turnOf}
 use Rattle.held.specs.Held.{framesIn}
 use Rattle.held.proofs.Service.{leftOf, Serving, serves}
 
@@ -46,29 +48,21 @@ passes w report = record { unit = refl; fates = refl; last = refl }
 
 -- ---- a turn, by the unit that is served
 
--- the receive unit is the one served, by whether each has work and which was served last
-abbrev pub isReceive : (cuWorks ruWorks rulast : Bool) → Bool
-isReceive c false l = false
-isReceive false true l = true
-isReceive true true true = false
-isReceive true true false = true
-
+-- the receive unit is the one served
 abbrev pub isReceiving : Units → Bool
-isReceiving u = isReceive (isActive (cuState (u .cu))) (isHolding (u .ru)) (u .rulast)
+isReceiving u = isReceive (servedOf u)
 
-received-by : (c r l : Bool) (w : World) (report : ℕ) → isReceive c r l ≡ true → turnBy (servedBy c r l) w report ≡ receiveTurn w
-received-by c false l w report h = absurd (false≢true h)
-received-by false true l w report h = refl
-received-by true true true w report h = absurd (false≢true h)
-received-by true true false w report h = refl
+received-by : (s : Served) (w : World) (report : ℕ) → isReceive s ≡ true → turnBy s w report ≡ receiveTurn w
+received-by served.Neither w report h = absurd (false≢true h)
+received-by served.CommandUnit w report h = absurd (false≢true h)
+received-by served.ReceiveUnit w report h = refl
 
 pub turn-received : (w : World) (report : ℕ) → isReceiving (w .device .units) ≡ true → turnOf w report ≡ receiveTurn w
 unfolding turnOf
-turn-received w report h =
-    received-by (isActive (cuState (w .device .units .cu))) (isHolding (w .device .units .ru)) (w .device .units .rulast) w report h
+turn-received w report h = received-by (servedOf (w .device .units)) w report h
 
 -- with a frame held, the other unit is served only after the receive unit was
-commanded-by : (c r l : Bool) (w : World) (report : ℕ) → r ≡ true → isReceive c r l ≡ false
+commanded-by : (c r l : Bool) (w : World) (report : ℕ) → r ≡ true → isReceive (servedBy c r l) ≡ false
     → (turnBy (servedBy c r l) w report ≡ commandTurn w report) × (l ≡ true)
 commanded-by c false l w report r h = absurd (false≢true r)
 commanded-by false true l w report r h = absurd (true≢false h)

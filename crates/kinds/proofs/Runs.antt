@@ -15,6 +15,7 @@ use Rattle.command.specs.Part.{partOf}
 use Rattle.command.specs.Service.{service}
 use Rattle.control.specs.Obey.{ofScb}
 use Rattle.chip.specs.World.{World, Ran, afterwards}
+use Rattle.chip.proofs.Status.{command-memory}
 use Rattle.chip.specs.Turn.{turnBy, servedBy, concluded, commandUnits, commandTurn, turnOf}
 use Rattle.kinds.proofs.Step.{AtBlock, rankOf, At, Stopped, Next, goes, stopped, service-next}
 
@@ -88,7 +89,8 @@ module _ (n : ℕ) (tdr : Offset → Type 0) (whole : List Offset) (room : 8 ≤
   turn-next w r fs b bs s =
       let p = partOf (w .device) (w .outgoing) in
       let x = commandUnits (w .device) (service p (w .memory) r) in
-      service-next n tdr p (ofScb (w .device .units) 0) whole (w .memory) fs b bs room x (w .device .units .cu) r s refl refl
+      rw (command-memory w r)
+      (service-next n tdr p (ofScb (w .device .units) 0) whole (w .memory) fs b bs room x (w .device .units .cu) r s refl refl)
 
   -- what remains to be shown of each shorter run
   abbrev Progress : List ℕ → Type 0

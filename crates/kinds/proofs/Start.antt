@@ -11,11 +11,9 @@ use Rattle.memory.specs.declared.Offset.{Offset}
 use Rattle.memory.specs.declared.RealAddress.{RealAddress}
 use Rattle.memory.proofs.Fields.{Apart, AllApart}
 use Rattle.memory.proofs.Laws.{length-apply}
-use Rattle.scb.specs.Control.{cuNext, ruNext}
-use Rattle.scb.specs.Words.{cuc, ruc, resets, scbCommandAt, cblAt}
-use Rattle.scb.specs.declared.RuState.{RuState}
-use Rattle.scb.specs.declared.RuState.the-variants as rus
-use Rattle.device.specs.State.{cuState, ruState, isActive, isHolding}
+use Rattle.scb.specs.Control.{Code, codeOf, start, resume, suspend, abort, other}
+use Rattle.scb.specs.Words.{ruc, resets, scbCommandAt, cblAt}
+use Rattle.device.specs.State.{cuState, isActive, isHolding}
 use Rattle.device.specs.Numbers.{actionNumber}
 use Rattle.device.specs.declared.Action.the-variants as action
 use Rattle.device.specs.declared.Cu.{Cu}
@@ -25,9 +23,9 @@ use Rattle.device.specs.declared.Ru.{Ru}
 use Rattle.device.specs.declared.Ru.the-variants as ru
 use Rattle.device.specs.declared.Units.{Units}
 use Rattle.command.specs.Begin.{cmd}
-use Rattle.control.specs.Control.{cuGoes, cuWrites, ruGoes, ruWrites}
-use Rattle.control.specs.Obey.{ofScb, cuFirst, obeyCuc, ruFirst, obeyRuc}
-use Rattle.attention.specs.Attention.{Attended, attentionBy, attention, attend, attendBy, obey, unitsAfter, settledWrites}
+use Rattle.control.specs.Control.{cuStart, ruStart, ruResume, ruSuspend, ruBy, abortedRu, ruWrites}
+use Rattle.control.specs.Obey.{ofScb, obeyCuc, obeyRuc}
+use Rattle.attention.specs.Attention.{Attended, attentionBy, attention, attend, attendBy, settledWrites}
 use Rattle.attention.specs.Status.{statusTo}
 use Rattle.chip.specs.World.{World, writing, afterwards}
 use Rattle.chip.specs.Attention.{attentionOf}
@@ -41,63 +39,68 @@ never e = let z : _≡_ {A = ℕ} 0 1 = cc in omega arith
 
 -- ---- the units: START leads to the block, and whatever RUC says, no frame is held and nothing is written
 
-start-unit : (c : Cu) (code : ℕ) (first : Offset) → code ≡ 1 → isActive (cuState c) ≡ false
-    → cuGoes (cuNext code (cuState c)) first c ≡ cu.Waiting first
-unfolding cuNext
-start-unit cu.Idle code first e a = rw e
-start-unit (cu.Suspended o) code first e a = rw e
-start-unit (cu.Waiting o) code first e a = absurd (never a)
-start-unit (cu.Acting g x) code first e a = absurd (never a)
-start-unit (cu.Sending g w) code first e a = absurd (never a)
-start-unit (cu.Ending g n) code first e a = absurd (never a)
-start-unit (cu.Failing g) code first e a = absurd (never a)
+start-unit : (c : Cu) (first : Offset) → isActive (cuState c) ≡ false → cuStart first c ≡ cu.Waiting first
+start-unit cu.Idle first a = refl
+start-unit (cu.Suspended o) first a = refl
+start-unit (cu.Waiting o) first a = absurd (never a)
+start-unit (cu.Acting g x) first a = absurd (never a)
+start-unit (cu.Sending g w) first a = absurd (never a)
+start-unit (cu.Ending g n) first a = absurd (never a)
+start-unit (cu.Failing g) first a = absurd (never a)
 
-start-writes : (c : Cu) (code : ℕ) (base : RealAddress) → code ≡ 1 → isActive (cuState c) ≡ false → cuWrites (cuNext code (cuState c)) base c ≡ []
-unfolding cuNext
-start-writes cu.Idle code base e a = rw e
-start-writes (cu.Suspended o) code base e a = rw e
-start-writes (cu.Waiting o) code base e a = absurd (never a)
-start-writes (cu.Acting g x) code base e a = absurd (never a)
-start-writes (cu.Sending g w) code base e a = absurd (never a)
-start-writes (cu.Ending g n) code base e a = absurd (never a)
-start-writes (cu.Failing g) code base e a = absurd (never a)
+free-start : (first : Offset) (u : Ru) → isHolding u ≡ false → isHolding (ruStart first u) ≡ false
+free-start first ru.Idle h = refl
+free-start first ru.NoResources h = refl
+free-start first (ru.Suspended o) h = refl
+free-start first (ru.Ready o) h = refl
+free-start first (ru.Held o f p) h = absurd (never h)
+free-start first (ru.Filling s w) h = absurd (never h)
+free-start first (ru.Closing s o e) h = absurd (never h)
+free-start first (ru.Lacking s) h = absurd (never h)
 
-free-unit : (x : RuState) (first : Offset) (u : Ru) → isHolding u ≡ false → isHolding (ruGoes x first u) ≡ false
-free-unit rus.Idle first u h = refl
-free-unit rus.NoResources first u h = h
-free-unit rus.Suspended first ru.Idle h = refl
-free-unit rus.Suspended first ru.NoResources h = refl
-free-unit rus.Suspended first (ru.Suspended o) h = refl
-free-unit rus.Suspended first (ru.Ready o) h = refl
-free-unit rus.Suspended first (ru.Held o f p) h = absurd (never h)
-free-unit rus.Suspended first (ru.Filling s w) h = absurd (never h)
-free-unit rus.Suspended first (ru.Closing s o e) h = absurd (never h)
-free-unit rus.Suspended first (ru.Lacking s) h = absurd (never h)
-free-unit rus.Ready first ru.Idle h = refl
-free-unit rus.Ready first ru.NoResources h = refl
-free-unit rus.Ready first (ru.Suspended o) h = refl
-free-unit rus.Ready first (ru.Ready o) h = refl
-free-unit rus.Ready first (ru.Held o f p) h = absurd (never h)
-free-unit rus.Ready first (ru.Filling s w) h = absurd (never h)
-free-unit rus.Ready first (ru.Closing s o e) h = absurd (never h)
-free-unit rus.Ready first (ru.Lacking s) h = absurd (never h)
+free-resume : (u : Ru) → isHolding u ≡ false → isHolding (ruResume u) ≡ false
+free-resume ru.Idle h = refl
+free-resume ru.NoResources h = refl
+free-resume (ru.Suspended o) h = refl
+free-resume (ru.Ready o) h = refl
+free-resume (ru.Held o f p) h = absurd (never h)
+free-resume (ru.Filling s w) h = absurd (never h)
+free-resume (ru.Closing s o e) h = absurd (never h)
+free-resume (ru.Lacking s) h = absurd (never h)
 
-free-writes : (x : RuState) (base : RealAddress) (u : Ru) → isHolding u ≡ false → ruWrites x base u ≡ []
-free-writes rus.NoResources base u h = refl
-free-writes rus.Suspended base u h = refl
-free-writes rus.Ready base u h = refl
-free-writes rus.Idle base ru.Idle h = refl
-free-writes rus.Idle base ru.NoResources h = refl
-free-writes rus.Idle base (ru.Suspended o) h = refl
-free-writes rus.Idle base (ru.Ready o) h = refl
-free-writes rus.Idle base (ru.Held o f p) h = absurd (never h)
-free-writes rus.Idle base (ru.Filling s w) h = absurd (never h)
-free-writes rus.Idle base (ru.Closing s o e) h = absurd (never h)
-free-writes rus.Idle base (ru.Lacking s) h = absurd (never h)
+free-suspend : (u : Ru) → isHolding u ≡ false → isHolding (ruSuspend u) ≡ false
+free-suspend ru.Idle h = refl
+free-suspend ru.NoResources h = refl
+free-suspend (ru.Suspended o) h = refl
+free-suspend (ru.Ready o) h = refl
+free-suspend (ru.Held o f p) h = absurd (never h)
+free-suspend (ru.Filling s w) h = absurd (never h)
+free-suspend (ru.Closing s o e) h = absurd (never h)
+free-suspend (ru.Lacking s) h = absurd (never h)
 
-first-block : (u : Units) (command : ℕ) (m : List ℕ) → cuc command ≡ 1 → cuFirst u command m ≡ offsetAt m (ofScb u cblAt)
-unfolding cuFirst
-first-block u command m e = rw e
+free-unit : (code : Code) (first : Offset) (u : Ru) → isHolding u ≡ false → isHolding (ruBy code first u) ≡ false
+free-unit start first u h = free-start first u h
+free-unit resume first u h = free-resume u h
+free-unit suspend first u h = free-suspend u h
+free-unit abort first u h = refl
+free-unit other first u h = h
+
+free-abort : (base : RealAddress) (u : Ru) → isHolding u ≡ false → abortedRu base u ≡ []
+free-abort base ru.Idle h = refl
+free-abort base ru.NoResources h = refl
+free-abort base (ru.Suspended o) h = refl
+free-abort base (ru.Ready o) h = refl
+free-abort base (ru.Held o f p) h = absurd (never h)
+free-abort base (ru.Filling s w) h = absurd (never h)
+free-abort base (ru.Closing s o e) h = absurd (never h)
+free-abort base (ru.Lacking s) h = absurd (never h)
+
+free-writes : (code : Code) (base : RealAddress) (u : Ru) → isHolding u ≡ false → ruWrites code base u ≡ []
+free-writes start base u h = refl
+free-writes resume base u h = refl
+free-writes suspend base u h = refl
+free-writes abort base u h = free-abort base u h
+free-writes other base u h = refl
 
 -- ---- an attention that does not reset
 
@@ -105,16 +108,12 @@ attends-by : (x : Bool) (d : Device) (m : List ℕ) → x ≡ true → attention
 attends-by true d m e = refl
 attends-by false d m e = absurd (never (sym e))
 
-obeys-by : (x : Bool) (d : Device) (command : ℕ) (m : List ℕ) → x ≡ false → attendBy x d command m ≡ obey d command m
-obeys-by false d command m e = refl
-obeys-by true d command m e = absurd (never e)
-
 attention-obeys : (d : Device) (m : List ℕ) → d .units .initialised ≡ true → resets (wordAt m (ofScb (d .units) scbCommandAt)) ≡ false
-    → attention d m ≡ obey d (wordAt m (ofScb (d .units) scbCommandAt)) m
+    → attention d m ≡ attendBy false d (wordAt m (ofScb (d .units) scbCommandAt)) m
 unfolding attention attend
 attention-obeys d m i r =
     let command = wordAt m (ofScb (d .units) scbCommandAt) in
-    attends-by (d .units .initialised) d m i ∙ obeys-by (resets command) d command m r
+    attends-by (d .units .initialised) d m i ∙ ap (λ (reset : Bool). attendBy reset d command m) r
 
 -- ---- what it writes: status and command of the SCB, four bytes
 
@@ -172,32 +171,32 @@ module _ (d : Device) (m : List ℕ) (b : Offset) (bs : List Offset) (s : Starti
   command = wordAt m (ofScb (d .units) scbCommandAt)
 
   abbrev obeyed : Attended
-  obeyed = obey d command m
+  obeyed = attendBy false d command m
 
   obeyed-unit : obeyed .outcome .device .units .cu ≡ cu.Waiting b
-  unfolding obey obeyCuc unitsAfter
-  obeyed-unit =
-      start-unit (d .units .cu) (cuc command) (cuFirst (d .units) command m) (s .start) (s .idle)
-      ∙ ap cu.Waiting (first-block (d .units) command m (s .start) ∙ s .at)
+  unfolding attendBy obeyCuc codeOf
+  obeyed-unit = rw (s .start) (start-unit (d .units .cu) (offsetAt m (ofScb (d .units) cblAt)) (s .idle) ∙ ap cu.Waiting (s .at))
 
   obeyed-free : isHolding (obeyed .outcome .device .units .ru) ≡ false
-  unfolding obey obeyRuc unitsAfter
-  obeyed-free =
-      free-unit (ruNext (ruc command) (ruState (d .units .ru))) (ruFirst (d .units) command (apply (obeyCuc (d .units) command m .writes) m))
-      (d .units .ru) (s .free)
+  unfolding attendBy obeyRuc
+  obeyed-free = free-unit (codeOf (ruc command)) _ (d .units .ru) (s .free)
+
+  start-writes : obeyCuc (d .units) command m .writes ≡ []
+  unfolding obeyCuc codeOf
+  start-writes = rw (s .start)
 
   obeyed-writes : obeyed .writes ≡ settledWrites (obeyed .outcome .device .units)
-  unfolding obey obeyCuc obeyRuc
+  unfolding attendBy obeyRuc
   obeyed-writes =
       ap (λ (ws : List Write). (ws ++ obeyRuc (d .units) command (apply (obeyCuc (d .units) command m .writes) m) .writes)
       ++ settledWrites (obeyed .outcome .device .units))
-      (start-writes (d .units .cu) (cuc command) (d .units .base) (s .start) (s .idle))
+      start-writes
       ∙ ap (λ (ws : List Write). ws ++ settledWrites (obeyed .outcome .device .units))
-      (free-writes (ruNext (ruc command) (ruState (d .units .ru))) (d .units .base) (d .units .ru) (s .free))
+      (free-writes (codeOf (ruc command)) (d .units .base) (d .units .ru) (s .free))
 
   obeyed-at : At (length m) (isTdr (d .units .base) m) (d .units .base) (ofScb (d .units) 0) (b ∷ bs) (apply (obeyed .writes) m)
       (obeyed .outcome .device .units .cu) [] b bs
-  unfolding obey unitsAfter
+  unfolding attendBy
   obeyed-at =
       let u = obeyed .outcome .device .units in
       start-at u (obeyed .writes) m b bs (u .cu) obeyed-writes obeyed-unit (s .scb-apart) (s .blocks-apart) (s .listed)
@@ -205,7 +204,7 @@ module _ (d : Device) (m : List ℕ) (b : Offset) (bs : List Offset) (s : Starti
 -- ---- the world that it leaves
 
 module _ (w : World) (b : Offset) (bs : List Offset) (s : Starting (w .device) (w .memory) b bs) where
-  attended : attention (w .device) (w .memory) ≡ obey (w .device) (command (w .device) (w .memory) b bs s) (w .memory)
+  attended : attention (w .device) (w .memory) ≡ attendBy false (w .device) (command (w .device) (w .memory) b bs s) (w .memory)
   attended = attention-obeys (w .device) (w .memory) (s .initialised) (s .unreset)
 
   -- the world after an attention that came to a
@@ -219,10 +218,10 @@ module _ (w : World) (b : Offset) (bs : List Offset) (s : Starting (w .device) (
       (runs rs v .memory) (runs rs v .device .units .cu)
 
   obeyed-ends : (rs : List ℕ) → 8 ≤ length (w .memory) → 66 + 66 * length bs ≤ length rs
-      → Ends rs (worldAfter (obey (w .device) (command (w .device) (w .memory) b bs s) (w .memory)))
-  unfolding obey unitsAfter
+      → Ends rs (worldAfter (attendBy false (w .device) (command (w .device) (w .memory) b bs s) (w .memory)))
+  unfolding attendBy
   obeyed-ends rs room l =
-      let v = worldAfter (obey (w .device) (command (w .device) (w .memory) b bs s) (w .memory)) in
+      let v = worldAfter (attendBy false (w .device) (command (w .device) (w .memory) b bs s) (w .memory)) in
       progress (length (w .memory)) (isTdr (w .device .units .base) (w .memory)) (b ∷ bs) room rs v [] b bs
       (obeyed-free (w .device) (w .memory) b bs s) (obeyed-at (w .device) (w .memory) b bs s)
       (rw (obeyed-unit (w .device) (w .memory) b bs s) l)

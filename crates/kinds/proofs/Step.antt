@@ -34,7 +34,8 @@ use Rattle.command.specs.Buffer.{descriptorAt, afterBuffer, past, isLast, fits,
 use Rattle.command.specs.End.{afterEnd, raisedBy, statusTo, nextAfter, end}
 use Rattle.command.specs.Service.{serviceBy}
 use Rattle.attention.specs.Status as status
-use Rattle.chip.specs.Turn.{raisedIn, statusBy, written}
+use Rattle.chip.specs.Turn.{raisedIn, statusBy}
+use Rattle.chip.proofs.Status.{writtenIfRaised}
 use Rattle.kinds.specs.Lists.{stops, Listed, All, NoResult, BlocksApart, isDone}
 use Rattle.kinds.proofs.Service.{atStatus, atWord, atScb, Own, AllOwn, own-append, own-kept, word-kept, ScbApart, own-command, own-link, done-kept, own-listed, rest-listed, kinds-kept, own-kinds}
 
@@ -387,7 +388,7 @@ module _ (n : ℕ) (tdr : Offset → Type 0) (p : Part) (scb : ℕ) (whole : Lis
       (status-own (tdr b) (p .base) b scb g (a .status) (k .block), tt)
 
   abbrev all-writes : List Write
-  all-writes = written (end p g a m .writes) (end p g a m .raised) x
+  all-writes = writtenIfRaised (end p g a m .writes) (end p g a m .raised) x
 
   end-own : AllOwn (tdr b) (p .base) b scb all-writes
   unfolding end
@@ -410,13 +411,8 @@ module _ (n : ℕ) (tdr : Offset → Type 0) (p : Part) (scb : ℕ) (whole : Lis
   unfolding end nextAfter
   end-unit bs s =
       let e = link-kept n tdr (p .base) scb whole m u fs b bs room s own-writes writes-own in
-      let f : apply (statusTo (p .base) g (a .status) ∷ []) (apply (a .writes) m) ≡ apply own-writes m =
-      sym (apply-append (a .writes) (statusTo (p .base) g (a .status) ∷ []) m)
-      in
       ap (λ (v : ℕ). afterEnd (g .el) (g .suspend || g .pausing) (record { 0 = v }))
-      (ap (λ (q : List ℕ). wordAt q (place (p .base) (g .block) 4)) f
-      ∙ ap (λ (o : Offset). wordAt (apply own-writes m) (place (p .base) o 4)) (k .block)
-      ∙ e)
+      (ap (λ (o : Offset). wordAt (apply own-writes m) (place (p .base) o 4)) (k .block) ∙ e)
 
   -- the SCB's status is written last
   end-said : length m ≡ n → isActive (cuState (end p g a m .part .unit)) ≡ false
@@ -449,7 +445,7 @@ module _ (n : ℕ) (tdr : Offset → Type 0) (p : Part) (scb : ℕ) (whole : Lis
 module _ (n : ℕ) (tdr : Offset → Type 0) (p : Part) (scb : ℕ) (whole : List Offset) (m : List ℕ) (fs : List Offset) (b : Offset) (bs : List Offset)
     (room : 8 ≤ n) (x : Units) where
   begin-next : (o : Offset) → At n tdr (p .base) scb whole m (cu.Waiting o) fs b bs
-      → Next n tdr (p .base) scb whole (apply (written (begin p o m .writes) (begin p o m .raised) x) m) (begin p o m .part .unit) (66 + 66 * length bs)
+      → Next n tdr (p .base) scb whole (apply (writtenIfRaised (begin p o m .writes) (begin p o m .raised) x) m) (begin p o m .part .unit) (66 + 66 * length bs)
   unfolding begin anyOf digits
   begin-next o s =
       let word = wordAt m (place (p .base) o 2) in
@@ -468,7 +464,7 @@ module _ (n : ℕ) (tdr : Offset → Type 0) (p : Part) (scb : ℕ) (whole : Lis
       goes fs b bs (stays n tdr (p .base) scb whole m (cu.Waiting o) fs b bs room s ws (begin p o m .part .unit) own (on .unit)) (on .less)
 
   buffer-next : (g : Begun) (w : Walk) → At n tdr (p .base) scb whole m (cu.Sending g w) fs b bs
-      → Next n tdr (p .base) scb whole (apply (written (buffer p g w m .writes) (buffer p g w m .raised) x) m) (buffer p g w m .part .unit)
+      → Next n tdr (p .base) scb whole (apply (writtenIfRaised (buffer p g w m .writes) (buffer p g w m .raised) x) m) (buffer p g w m .part .unit)
       (2 + (63 - w .used) + 66 * length bs)
   unfolding buffer anyOf
   buffer-next g w s =
@@ -481,7 +477,7 @@ module _ (n : ℕ) (tdr : Offset → Type 0) (p : Part) (scb : ℕ) (whole : Lis
 
   pub service-next : (u : Cu) (report : ℕ) → At n tdr (p .base) scb whole m u fs b bs → place (x .base) (x .scb) 0 ≡ scb
       → x .cu ≡ serviceBy u p m report .part .unit
-      → Next n tdr (p .base) scb whole (apply (written (serviceBy u p m report .writes) (serviceBy u p m report .raised) x) m)
+      → Next n tdr (p .base) scb whole (apply (writtenIfRaised (serviceBy u p m report .writes) (serviceBy u p m report .raised) x) m)
       (serviceBy u p m report .part .unit) (rankOf u (length bs))
   service-next cu.Idle report s to unit = absurd (s .unit)
   service-next (cu.Suspended o) report s to unit = absurd (s .unit)

@@ -11,7 +11,7 @@ use Rattle.memory.specs.declared.Offset.{Offset}
 use Rattle.memory.proofs.Bytes.{Bytes, apply-bytes, digits-bytes}
 use Rattle.memory.proofs.Fields.{Apart, up, down}
 use Rattle.memory.proofs.Laws.{length-apply}
-use Rattle.scb.specs.Control.{cuNext, ruNext}
+use Rattle.scb.specs.Control.{codeOf}
 use Rattle.scb.specs.Words.{bitsAt, bit, joined, acknowledged, anyOf, eventBits, statusWord}
 use Rattle.device.specs.Limits.{areaSize}
 use Rattle.device.specs.Numbers.{actionOf}
@@ -27,7 +27,7 @@ use Rattle.actions.specs.Actions.{act}
 use Rattle.command.specs.Begin.{begunBy, begin}
 use Rattle.command.specs.End.{nextAfter, end}
 use Rattle.command.specs.Service.{service}
-use Rattle.control.specs.Obey.{cuFirst, obeyCuc, ruFirst, obeyRuc}
+use Rattle.control.specs.Obey.{obeyCuc, obeyRuc}
 use Rattle.attention.specs.Attention as attentions
 use Rattle.attention.specs.Status.{statusTo}
 use Rattle.chip.specs.World.{worldOf}
@@ -182,7 +182,7 @@ record Goes (c : Call) (d : Device) (m : List ℕ) (d′ : Device) (m′ : List 
   pub outgoing : ran c (worldOf d m area area) .outgoing ≡ area
 
 starts : Goes attention idle two (withUnit (cu.Waiting one)) m1
-unfolding byteAt putByte bytesAt putBytes value digits fieldAt place bitsAt joined acknowledged anyOf eventBits statusWord cuNext ruNext cuFirst obeyCuc ruFirst obeyRuc statusTo attentions.unitsAfter attentions.obey attentions.attend attentions.attention attentionOf
+unfolding byteAt putByte bytesAt putBytes value digits fieldAt place bitsAt joined acknowledged anyOf eventBits statusWord codeOf obeyCuc obeyRuc statusTo attentions.attendBy attentions.attend attentions.attention attentionOf
 starts = record { device = refl; memory = refl; holding = refl; outgoing = refl }
 
 begins : Goes (turn 0) (withUnit (cu.Waiting one)) m1 (withUnit nop) m2

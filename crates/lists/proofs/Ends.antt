@@ -10,7 +10,6 @@ use Rattle.memory.specs.Memory.{wordAt, Write, wordTo, apply}
 use Rattle.memory.specs.Address.{place}
 use Rattle.memory.specs.declared.Offset.{Offset}
 use Rattle.memory.specs.declared.RealAddress.{RealAddress}
-use Rattle.memory.proofs.Laws.{apply-append}
 use Rattle.scb.specs.Words.{bit}
 use Rattle.device.specs.Numbers.{actionOf, actionNumber}
 use Rattle.device.specs.State.{cuState, isActive}
@@ -87,7 +86,7 @@ module _ (base : RealAddress) (m₀ : List ℕ) (big : 8192 ≤ length m₀) whe
 
   -- the link, read after them, is that of the start
   end-link : (s : Setup) (c : ℕ) (ws : List Write) (status : ℕ) (q : List ℕ) → Sub (targets ws) (tdrOf c) → Same (uses base s m₀ c) q (marked base m₀ c)
-      → wordAt (apply (wordTo (place base (block c) blockStatusAt) status ∷ []) (apply ws q)) (place base (block c) blockLinkAt)
+      → wordAt (apply (ws ++ (wordTo (place base (block c) blockStatusAt) status ∷ [])) q) (place base (block c) blockLinkAt)
       ≡ wordAt m₀ (place base (block c) blockLinkAt)
   end-link s c ws status q h k =
       let last = wordTo (place base (block c) blockStatusAt) status ∷ [] in
@@ -95,18 +94,17 @@ module _ (base : RealAddress) (m₀ : List ℕ) (big : 8192 ≤ length m₀) whe
       let a : Same (from base c blockLinkAt 2) (apply (ws ++ last) q) q =
       apart-writes (from base c blockLinkAt 2) (ws ++ last) q
       (λ x y i j. link-apart (length q) (rw n big) base m₀ c x y i (end-writes c ws status h y j)) in
-      rw (← apply-append)
-      (same-field 2 (place base (block c) blockLinkAt) (sub-refl (from base c blockLinkAt 2))
-      (same-trans a (same-trans (same-part (link-in base s m₀ c) k) (marked-same base m₀ big c blockLinkAt 2 (omega arith) (omega arith)))))
+      same-field 2 (place base (block c) blockLinkAt) (sub-refl (from base c blockLinkAt 2))
+      (same-trans a (same-trans (same-part (link-in base s m₀ c) k) (marked-same base m₀ big c blockLinkAt 2 (omega arith) (omega arith))))
 
   -- ---- the unit that an end leaves
 
-  -- the end of the command at c: the unit, and memory
-  abbrev unitAfter : ℕ → Acted → List ℕ → Cu
-  unitAfter c a q = nextAfter base (begunBy (block c) (wordOf base m₀ c)) (a .status) (apply (a .writes) q)
-
+  -- the end of the command at c: its results, and the unit
   abbrev writesAt : ℕ → Acted → List Write
   writesAt c a = a .writes ++ (wordTo (place base (block c) blockStatusAt) (a .status) ∷ [])
+
+  abbrev unitAfter : ℕ → Acted → List ℕ → Cu
+  unitAfter c a q = nextAfter base (begunBy (block c) (wordOf base m₀ c)) (apply (writesAt c a) q)
 
   -- the last block's end leaves Active
   last-stops : (c : ℕ) (a : Acted) (q : List ℕ) → stops (wordOf base m₀ c) ≡ true → isActive (cuState (unitAfter c a q)) ≡ false

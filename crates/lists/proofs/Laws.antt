@@ -31,7 +31,7 @@ use Rattle.command.specs.End.{end, nextAfter, statusTo}
 use Rattle.command.specs.Part.{Part, Service, partOf, quietly}
 use Rattle.command.specs.Service.{serviceBy, service}
 use Rattle.chip.specs.Call.{reset, attention, arrive, turn}
-use Rattle.chip.specs.Turn.{servedBy, concluded, commandTurn, receiveTurn, turnBy, turnOf}
+use Rattle.chip.specs.Turn.{servedBy, isCommand, concluded, commandTurn, receiveTurn, turnBy, turnOf}
 use Rattle.chip.specs.Arrival.{arrivalOf}
 use Rattle.chip.specs.World.{World, afterwards}
 use Rattle.traces.specs.Event.{Event, call, host, isTurn, DuringList}
@@ -39,7 +39,7 @@ use Rattle.progress.specs.Machine.{Laws, Served, Passed, Between}
 use Rattle.progress.specs.Same.{In, here, there, range, Same}
 use Rattle.progress.proofs.Same.{in-left, in-right, same-part, same-apply, same-bytes, same-field}
 use Rattle.lists.specs.Uses.{block, from, addressLengthOf, headerBytes, argumentBytes, listedBytes, descriptorBytes}
-use Rattle.lists.specs.Unit.{noteBy, beginReads, dataReads, endReads, readsBy, goesToCommand, commandNext, machine}
+use Rattle.lists.specs.Unit.{noteBy, beginReads, dataReads, endReads, readsBy, commandNext, machine}
 
 -- ---- parts of a list of addresses
 
@@ -166,10 +166,8 @@ unfolding end nextAfter
 end-local p b a m q h =
     let L = endReads p (b .block .0) in
     let at = place (p .base) (b .block) blockLinkAt in
-    let now : List ℕ → List ℕ = λ x. apply (statusTo (p .base) b (a .status) ∷ []) (apply (a .writes) x) in
-    let link : wordAt (now m) at ≡ wordAt (now q) at =
-    same-at 2 at
-    (same-apply L (statusTo (p .base) b (a .status) ∷ []) (apply (a .writes) m) (apply (a .writes) q) (same-apply L (a .writes) m q h)) in
+    let results = a .writes ++ (statusTo (p .base) b (a .status) ∷ []) in
+    let link : wordAt (apply results m) at ≡ wordAt (apply results q) at = same-at 2 at (same-apply L results m q h) in
     rw link
 
 -- ---- buffer
@@ -280,9 +278,10 @@ received : (w : World) → Received w (afterwards (receiveTurn w))
 unfolding receiveTurn concluded
 received w = record { part = refl; turned = refl }
 
-serve-by : (c h l : Bool) (w : World) (r : ℕ) → isActive (cuState (w .device .units .cu)) ≡ c → goesToCommand c h l ≡ true
+serve-by : (c h l : Bool) (w : World) (r : ℕ) → isActive (cuState (w .device .units .cu)) ≡ c → isCommand (servedBy c h l) ≡ true
     → (isActive (cuState (w .device .units .cu)) ≡ true) × Commanded w r (afterwards (turnBy (servedBy c h l) w r))
-serve-by false h l w r a g = absurd (false≢true g)
+serve-by false false l w r a g = absurd (false≢true g)
+serve-by false true l w r a g = absurd (false≢true g)
 serve-by true false l w r a g = (a, commanded w r)
 serve-by true true true w r a g = (a, commanded w r)
 serve-by true true false w r a g = absurd (false≢true g)
@@ -307,7 +306,7 @@ record Waits (w v : World) : Type 0 where
       → (not (w .device .units .rulast) ≡ true) × (not (v .device .units .rulast) ≡ false)
 
 pass-by : (c h l : Bool) (w : World) (r : ℕ) → isActive (cuState (w .device .units .cu)) ≡ c → w .device .units .rulast ≡ l
-    → goesToCommand c h l ≡ false → Waits w (afterwards (turnBy (servedBy c h l) w r))
+    → isCommand (servedBy c h l) ≡ false → Waits w (afterwards (turnBy (servedBy c h l) w r))
 pass-by false false l w r a e g = record { part = refl; waits = λ b. absurd (true≢false (sym b ∙ a)) }
 pass-by false true l w r a e g = record { part = received w .part; waits = λ b. absurd (true≢false (sym b ∙ a)) }
 pass-by true false l w r a e g = absurd (true≢false g)

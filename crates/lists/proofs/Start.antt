@@ -9,18 +9,17 @@ use Rattle.memory.specs.Memory.{wordAt}
 use Rattle.memory.specs.Address.{offsetAt}
 use Rattle.memory.specs.declared.Offset.{Offset}
 use Rattle.memory.proofs.Laws.{length-apply}
-use Rattle.scb.specs.Control.{cuStart, cuNext}
-use Rattle.scb.specs.Words.{scbCommandAt, cblAt, cuc, resets}
-use Rattle.scb.specs.declared.CuState.{CuState}
+use Rattle.scb.specs.Control.{codeOf}
+use Rattle.scb.specs.Words.{scbCommandAt, cblAt, cuc}
 use Rattle.device.specs.State.{cuState, isActive}
 use Rattle.device.specs.declared.Cu.{Cu}
 use Rattle.device.specs.declared.Cu.the-variants as cu
 use Rattle.device.specs.declared.Device.{Device}
 use Rattle.device.specs.declared.Units.{Units}
 use Rattle.command.specs.Part.{Part, withUnit, partOf}
-use Rattle.control.specs.Control.{cuGoes}
-use Rattle.control.specs.Obey.{ofScb, cuFirst, obeyCuc}
-use Rattle.attention.specs.Attention.{Attended, unitsAfter, obey, attendBy, attend, attentionBy}
+use Rattle.control.specs.Control.{cuStart}
+use Rattle.control.specs.Obey.{ofScb, obeyCuc}
+use Rattle.attention.specs.Attention.{Attended, attendBy, attend, attentionBy}
 use Rattle.attention.specs.Attention as attentions
 use Rattle.chip.specs.Attention.{attentionOf}
 use Rattle.chip.specs.Call.{attention}
@@ -31,11 +30,7 @@ use Rattle.lists.specs.Done.{Starts, Started}
 
 -- ---- START is obeyed
 
-start-next : (code : ℕ) (s : CuState) → code ≡ 1 → cuNext code s ≡ cuStart s
-unfolding cuNext
-start-next code s e = rw e
-
-start-goes : (unit : Cu) (first : Offset) → isActive (cuState unit) ≡ false → cuGoes (cuStart (cuState unit)) first unit ≡ cu.Waiting first
+start-goes : (unit : Cu) (first : Offset) → isActive (cuState unit) ≡ false → cuStart first unit ≡ cu.Waiting first
 start-goes cu.Idle first h = refl
 start-goes (cu.Suspended o) first h = refl
 start-goes (cu.Waiting o) first h = absurd (true≢false h)
@@ -44,15 +39,10 @@ start-goes (cu.Sending b w) first h = absurd (true≢false h)
 start-goes (cu.Ending b n) first h = absurd (true≢false h)
 start-goes (cu.Failing b) first h = absurd (true≢false h)
 
-start-first : (u : Units) (command : ℕ) (m : List ℕ) → cuc command ≡ 1 → cuFirst u command m ≡ offsetAt m (ofScb u cblAt)
-unfolding cuFirst
-start-first u command m e = rw e
-
 start-obeyed : (u : Units) (command : ℕ) (m : List ℕ) → cuc command ≡ 1 → isActive (cuState (u .cu)) ≡ false
     → obeyCuc u command m .unit ≡ cu.Waiting (offsetAt m (ofScb u cblAt))
-unfolding obeyCuc
-start-obeyed u command m e h =
-    rw (start-next (cuc command) (cuState (u .cu)) e, start-first u command m e) (start-goes (u .cu) (offsetAt m (ofScb u cblAt)) h)
+unfolding obeyCuc codeOf
+start-obeyed u command m e h = rw e (start-goes (u .cu) (offsetAt m (ofScb u cblAt)) h)
 
 -- ---- the attention
 
@@ -70,30 +60,26 @@ abbrev leaves : World → Attended → World
 leaves w a = afterwards (writing w (a .writes) (a .outcome))
 
 obey-begins : (w : World) (command : ℕ) → cuc command ≡ 1 → isActive (cuState (w .device .units .cu)) ≡ false
-    → Begins w (leaves w (obey (w .device) command (w .memory)))
-unfolding obey unitsAfter
+    → Begins w (leaves w (attendBy false (w .device) command (w .memory)))
+unfolding attendBy
 obey-begins w command e h =
     record {
       part = ap (λ (u : Cu). withUnit (partOf (w .device) (w .outgoing)) u) (start-obeyed (w .device .units) command (w .memory) e h);
       order = refl;
-      size = length-apply (obey (w .device) command (w .memory) .writes) (w .memory);
+      size = length-apply (attendBy false (w .device) command (w .memory) .writes) (w .memory);
     }
-
-attend-on : (reset : Bool) (d : Device) (command : ℕ) (m : List ℕ) → reset ≡ false → attendBy reset d command m ≡ obey d command m
-attend-on true d command m e = absurd (true≢false e)
-attend-on false d command m e = refl
 
 attention-on : (initialised : Bool) (d : Device) (m : List ℕ) → initialised ≡ true → attentionBy initialised d m ≡ attend d m
 attention-on true d m e = refl
 attention-on false d m e = absurd (false≢true e)
 
 attended : (w : World) → Starts w
-    → attentions.attention (w .device) (w .memory) ≡ obey (w .device) (wordAt (w .memory) (ofScb (w .device .units) scbCommandAt)) (w .memory)
+    → attentions.attention (w .device) (w .memory) ≡ attendBy false (w .device) (wordAt (w .memory) (ofScb (w .device .units) scbCommandAt)) (w .memory)
 unfolding attentions.attention attend
 attended w s =
     let command = wordAt (w .memory) (ofScb (w .device .units) scbCommandAt) in
     attention-on (w .device .units .initialised) (w .device) (w .memory) (s .initialised)
-    ∙ attend-on (resets command) (w .device) command (w .memory) (s .unreset)
+    ∙ ap (λ (reset : Bool). attendBy reset (w .device) command (w .memory)) (s .unreset)
 
 pub begins : (w : World) → Starts w → Begins w (step (call attention) w)
 unfolding attentionOf

@@ -7,7 +7,7 @@ use lib.ListN.{take}
 use Rattle.memory.specs.Address.{place}
 use Rattle.memory.specs.Memory.{wordAt}
 use Rattle.device.specs.Numbers.{transmit}
-use Rattle.device.specs.State.{cuState, isActive, isHolding}
+use Rattle.device.specs.State.{cuWorks}
 use Rattle.device.specs.declared.Begun.{Begun}
 use Rattle.device.specs.declared.Cu.{Cu}
 use Rattle.device.specs.declared.Cu.the-variants as cu
@@ -19,6 +19,7 @@ use Rattle.command.specs.Buffer.{descriptorAt, fits}
 use Rattle.command.specs.Part.{Part, partOf}
 use Rattle.command.specs.Service.{service}
 use Rattle.chip.specs.World.{World}
+use Rattle.chip.specs.Turn.{servedOf, isCommand}
 use Rattle.traces.specs.Event.{Event, step, isTurn, report}
 use Rattle.progress.specs.Machine.{Machine, Tag, begun, done}
 use Rattle.progress.specs.Same.{range}
@@ -76,14 +77,9 @@ readsBy (cu.Failing b) p m = endReads p (b .block .0)
 
 -- ---- the machine
 
--- a turn now goes to the command unit: it has work, and either the receive unit has none or was served at the last working turn
-abbrev pub goesToCommand : (cuWorks ruWorks rulast : Bool) → Bool
-goesToCommand false ruWorks rulast = false
-goesToCommand true false rulast = true
-goesToCommand true true rulast = rulast
-
+-- a turn now goes to the command unit
 abbrev pub commandNext : Units → Bool
-commandNext u = goesToCommand (isActive (cuState (u .cu))) (isHolding (u .ru)) (u .rulast)
+commandNext u = isCommand (servedOf u)
 
 abbrev pub machine : Machine
 machine =
@@ -98,7 +94,7 @@ machine =
       report = report;
       view = λ w. partOf (w .device) (w .outgoing);
       mem = λ w. w .memory;
-      active = λ p. isActive (cuState (p .unit));
+      active = λ p. cuWorks (p .unit);
       served = λ w. commandNext (w .device .units);
       last = λ w. not (w .device .units .rulast);
       work = λ p m r. service p m r .part;

@@ -1,4 +1,6 @@
--- The control table: 01, "The SCB". A code and a unit's state give the next state; every other pair does nothing (ours). Assumes nothing.
+-- The control codes, and the tables: 01, "The SCB". A table has the state that a code leads a unit to, from each state; every other pair does
+-- nothing (ours). What a code does to a unit stands in the room control, over the unit's phases, and these tables follow from it (`control`,
+-- proofs/Table): where SUSPEND leads, a unit is at the end of a begun command or a held frame, else at once. Assumes nothing.
 use mathlib.Core.Bool.{cond}
 use Prim.Native.Nat.{ℕ}
 use lib.Dec.{eqb}
@@ -7,61 +9,45 @@ use Rattle.scb.specs.declared.CuState.the-variants as cu
 use Rattle.scb.specs.declared.RuState.{RuState}
 use Rattle.scb.specs.declared.RuState.the-variants as ru
 
+-- ---- the codes: 1 START, 2 RESUME, 3 SUSPEND, 4 ABORT
+
+pub data Code : Type 0 where
+  start : Code
+  resume : Code
+  suspend : Code
+  abort : Code
+  other : Code
+
+unfoldable pub codeOf : ℕ → Code
+codeOf n = cond (eqb n 1) start (cond (eqb n 2) resume (cond (eqb n 3) suspend (cond (eqb n 4) abort other)))
+
 -- ---- the command unit
 
--- 1 START: Idle, Suspended to Active
-abbrev pub cuStart : CuState → CuState
-cuStart cu.Idle = cu.Active
-cuStart cu.Suspended = cu.Active
-cuStart cu.Active = cu.Active
+-- a row: where a unit goes from Idle, from Suspended, from Active
+abbrev pub cuRow : (idle suspended active : CuState) → CuState → CuState
+cuRow i s a cu.Idle = i
+cuRow i s a cu.Suspended = s
+cuRow i s a cu.Active = a
 
--- 2 RESUME: Suspended to Active
-abbrev pub cuResume : CuState → CuState
-cuResume cu.Idle = cu.Idle
-cuResume cu.Suspended = cu.Active
-cuResume cu.Active = cu.Active
-
--- 3 SUSPEND: Active; whether at once or at the end of a begun command is not the table's to say
-abbrev pub cuSuspend : CuState → CuState
-cuSuspend cu.Idle = cu.Idle
-cuSuspend cu.Suspended = cu.Suspended
-cuSuspend cu.Active = cu.Suspended
-
--- 4 ABORT: any to Idle
-unfoldable pub cuNext : ℕ → CuState → CuState
-cuNext code s =
-    cond (eqb code 1) (cuStart s)
-    (cond (eqb code 2) (cuResume s)
-    (cond (eqb code 3) (cuSuspend s)
-    (cond (eqb code 4) cu.Idle s)))
+abbrev pub cuNext : Code → CuState → CuState
+cuNext start s = cuRow cu.Active cu.Active cu.Active s
+cuNext resume s = cuRow cu.Idle cu.Active cu.Active s
+cuNext suspend s = cuRow cu.Idle cu.Suspended cu.Suspended s
+cuNext abort s = cuRow cu.Idle cu.Idle cu.Idle s
+cuNext other s = cuRow cu.Idle cu.Suspended cu.Active s
 
 -- ---- the receive unit
 
--- 1 START: Idle, Suspended, No Resources to Ready
-abbrev pub ruStart : RuState → RuState
-ruStart ru.Idle = ru.Ready
-ruStart ru.Suspended = ru.Ready
-ruStart ru.NoResources = ru.Ready
-ruStart ru.Ready = ru.Ready
+-- a row: where a unit goes from Idle, from Suspended, from No Resources, from Ready
+abbrev pub ruRow : (idle suspended nores ready : RuState) → RuState → RuState
+ruRow i s n r ru.Idle = i
+ruRow i s n r ru.Suspended = s
+ruRow i s n r ru.NoResources = n
+ruRow i s n r ru.Ready = r
 
--- 2 RESUME: Suspended to Ready
-abbrev pub ruResume : RuState → RuState
-ruResume ru.Idle = ru.Idle
-ruResume ru.Suspended = ru.Ready
-ruResume ru.NoResources = ru.NoResources
-ruResume ru.Ready = ru.Ready
-
--- 3 SUSPEND: Ready; whether at once or at the end of a held frame is not the table's to say
-abbrev pub ruSuspend : RuState → RuState
-ruSuspend ru.Idle = ru.Idle
-ruSuspend ru.Suspended = ru.Suspended
-ruSuspend ru.NoResources = ru.NoResources
-ruSuspend ru.Ready = ru.Suspended
-
--- 4 ABORT: any to Idle
-unfoldable pub ruNext : ℕ → RuState → RuState
-ruNext code s =
-    cond (eqb code 1) (ruStart s)
-    (cond (eqb code 2) (ruResume s)
-    (cond (eqb code 3) (ruSuspend s)
-    (cond (eqb code 4) ru.Idle s)))
+abbrev pub ruNext : Code → RuState → RuState
+ruNext start s = ruRow ru.Ready ru.Ready ru.Ready ru.Ready s
+ruNext resume s = ruRow ru.Idle ru.Ready ru.NoResources ru.Ready s
+ruNext suspend s = ruRow ru.Idle ru.Suspended ru.NoResources ru.Suspended s
+ruNext abort s = ruRow ru.Idle ru.Idle ru.Idle ru.Idle s
+ruNext other s = ruRow ru.Idle ru.Suspended ru.NoResources ru.Ready s

@@ -89,42 +89,73 @@ pub fn resets(w: u16) -> bool
     is_set(w, RESET)
 }
 
-// ---- the control tables: a byte for each control code, 0 to 7, in which each state has two bits, Idle the lowest.
-// A table of eight bytes is one constant to the machine; a larger one would be laid out anew at each use.
-
-// From the left: Active, Suspended, Idle.
-const CU_NEXT: [u8; 8] = [
-    0b10_01_00, // 0
-    0b10_10_10, // 1 START
-    0b10_10_00, // 2 RESUME
-    0b01_01_00, // 3 SUSPEND
-    0b00_00_00, // 4 ABORT
-    0b10_01_00, // 5
-    0b10_01_00, // 6
-    0b10_01_00, // 7
-];
-
-// From the left: Ready, No Resources, Suspended, Idle.
-const RU_NEXT: [u8; 8] = [
-    0b11_10_01_00, // 0
-    0b11_11_11_11, // 1 START
-    0b11_10_11_00, // 2 RESUME
-    0b01_10_01_00, // 3 SUSPEND
-    0b00_00_00_00, // 4 ABORT
-    0b11_10_01_00, // 5
-    0b11_10_01_00, // 6
-    0b11_10_01_00, // 7
-];
+// ---- the control tables: for each control code, 0 to 7, a row with the state that it leads a unit to from each of its states.
+// A row is a byte, two bits to a state: a table of eight bytes is one constant to the machine, a larger one would be laid out anew at each use.
 
 // How wide an entry is, and the mask of one.
 const ENTRY_BITS: u8 = 2;
 
 const ENTRY: u8 = 3;
 
+// The states' numbers: the command unit's as CUS has them, the receive unit's by their columns.
+const IDLE: u8 = 0;
+
+const SUSPENDED: u8 = 1;
+
+const ACTIVE: u8 = 2;
+
+const NO_RESOURCES: u8 = 2;
+
+const READY: u8 = 3;
+
+// The command unit: from Idle, from Suspended, from Active.
+const CU_START: u8 = ACTIVE | ACTIVE << 2 | ACTIVE << 4;
+
+const CU_RESUME: u8 = IDLE | ACTIVE << 2 | ACTIVE << 4;
+
+const CU_SUSPEND: u8 = IDLE | SUSPENDED << 2 | SUSPENDED << 4;
+
+const CU_ABORT: u8 = IDLE | IDLE << 2 | IDLE << 4;
+
+const CU_STAYS: u8 = IDLE | SUSPENDED << 2 | ACTIVE << 4;
+
+const CU_NEXT: [u8; 8] = [
+    CU_STAYS,
+    CU_START,
+    CU_RESUME,
+    CU_SUSPEND,
+    CU_ABORT,
+    CU_STAYS,
+    CU_STAYS,
+    CU_STAYS,
+];
+
+// The receive unit: from Idle, from Suspended, from No Resources, from Ready.
+const RU_START: u8 = READY | READY << 2 | READY << 4 | READY << 6;
+
+const RU_RESUME: u8 = IDLE | READY << 2 | NO_RESOURCES << 4 | READY << 6;
+
+const RU_SUSPEND: u8 = IDLE | SUSPENDED << 2 | NO_RESOURCES << 4 | SUSPENDED << 6;
+
+const RU_ABORT: u8 = IDLE | IDLE << 2 | IDLE << 4 | IDLE << 6;
+
+const RU_STAYS: u8 = IDLE | SUSPENDED << 2 | NO_RESOURCES << 4 | READY << 6;
+
+const RU_NEXT: [u8; 8] = [
+    RU_STAYS,
+    RU_START,
+    RU_RESUME,
+    RU_SUSPEND,
+    RU_ABORT,
+    RU_STAYS,
+    RU_STAYS,
+    RU_STAYS,
+];
+
 // The number of the state that a command takes the command unit to from the state numbered `s`, as CUS has them.
 pub fn cu_goes(command: u16, s: u8) -> u8
     requires { ⌜ s < 4 ⌝ }
-    ensures { λ r. ⌜ ((x : CuState) → s ≡ words.cuNumber x → r ≡ words.cuNumber (control.cuNext (words.cuc command) x)) ⌝ }
+    ensures { λ r. ⌜ ((x : CuState) → s ≡ words.cuNumber x → r ≡ words.cuNumber (control.cuNext (control.codeOf (words.cuc command)) x)) ⌝ }
 {
     (CU_NEXT[cu_control(command) as usize] >> (ENTRY_BITS * s)) & ENTRY
 }
@@ -132,7 +163,7 @@ pub fn cu_goes(command: u16, s: u8) -> u8
 // The column of the state that a command takes the receive unit to from the state of column `s`.
 pub fn ru_goes(command: u16, s: u8) -> u8
     requires { ⌜ s < 4 ⌝ }
-    ensures { λ r. ⌜ ((x : RuState) → s ≡ numbers.ruColumn x → r ≡ numbers.ruColumn (control.ruNext (words.ruc command) x)) ⌝ }
+    ensures { λ r. ⌜ ((x : RuState) → s ≡ numbers.ruColumn x → r ≡ numbers.ruColumn (control.ruNext (control.codeOf (words.ruc command)) x)) ⌝ }
 {
     (RU_NEXT[ru_control(command) as usize] >> (ENTRY_BITS * s)) & ENTRY
 }

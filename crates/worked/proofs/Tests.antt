@@ -9,7 +9,7 @@ use lib.ListN.{length, replicate}
 use Rattle.memory.specs.Memory.{byteAt, putByte, bytesAt, putBytes, value, digits, fieldAt, apply}
 use Rattle.memory.specs.Address.{place, beyond}
 use Rattle.memory.specs.declared.RealAddress.{RealAddress}
-use Rattle.scb.specs.Control.{cuNext, ruNext}
+use Rattle.scb.specs.Control.{codeOf}
 use Rattle.scb.specs.Words.{bitsAt, joined, acknowledged, anyOf, eventBits, statusWord}
 use Rattle.device.specs.Answers.{counts}
 use Rattle.device.specs.Numbers.{actionOf, verdictOf}
@@ -26,13 +26,13 @@ use Rattle.receive.specs.Begin as receive-begin
 use Rattle.receive.specs.Buffer as receive-buffer
 use Rattle.receive.specs.End.{frameStatus, settles, close, lack}
 use Rattle.receive.specs.Service as receive-service
-use Rattle.control.specs.Obey.{cuFirst, obeyCuc, ruFirst, obeyRuc}
+use Rattle.control.specs.Obey.{obeyCuc, obeyRuc}
 use Rattle.attention.specs.Status.{statusTo}
 use Rattle.attention.specs.Attention as attentions
 use Rattle.chip.specs.World.{World, afterwards, resetOf}
 use Rattle.chip.specs.Attention.{attentionOf}
 use Rattle.chip.specs.Arrival as arrivals
-use Rattle.chip.specs.Turn.{concluded, commandTurn, receiveTurn, servedBy, turnBy, turnOf}
+use Rattle.chip.specs.Turn.{concluded, commandTurn, receiveTurn, servedBy, isCommand, turnBy, turnOf}
 use Rattle.chip.specs.Call.{attention, turn}
 use Rattle.traces.specs.Event.{Event, call, host, step, isCalm, DuringList}
 use Rattle.progress.specs.Same.{In, here, there, range, Same}
@@ -40,7 +40,7 @@ use Rattle.progress.specs.Trace.{run, AllMay}
 use Rattle.progress.specs.Machine.{Undisturbed, own}
 use Rattle.progress.proofs.Same.{Sub, same-part, same-refl}
 use Rattle.lists.specs.Uses.{addressLengthOf, headerBytes, headerLengthOf, marked, uses, setupAfter, listBytes, resultBytes, NoClash}
-use Rattle.lists.specs.Unit.{machine, commandNext, goesToCommand}
+use Rattle.lists.specs.Unit.{machine, commandNext}
 
 -- ---- two tests
 
@@ -78,7 +78,7 @@ same-ok L m q t =
 
 -- who unfolds this unfolds all definitions that a call runs through
 unfoldable pub keptb : List ℕ → List Event → World → Bool
-unfolding byteAt putByte bytesAt putBytes value digits fieldAt place beyond cuNext ruNext bitsAt joined acknowledged anyOf eventBits statusWord counts actionOf verdictOf agree isListed matches command-begin.begunBy command-begin.headerOf command-begin.begin command-buffer.descriptorAt command-buffer.buffer settingsBy listing act reported isSent sent nextAfter end command-service.service lengthOf judged fateOf arrival receive-begin.begunBy receive-begin.begin receive-buffer.descriptorAt receive-buffer.buffer frameStatus settles close lack receive-service.service statusTo resetOf attentions.iscpOf attentions.initialise attentions.resetBy cuFirst obeyCuc ruFirst obeyRuc attentions.unitsAfter attentions.obey attentions.attend attentions.attention attentionOf arrivals.arrival arrivals.arrivalOf concluded commandTurn receiveTurn turnOf range addressLengthOf headerBytes headerLengthOf marked uses setupAfter resultBytes
+unfolding byteAt putByte bytesAt putBytes value digits fieldAt place beyond codeOf bitsAt joined acknowledged anyOf eventBits statusWord counts actionOf verdictOf agree isListed matches command-begin.begunBy command-begin.headerOf command-begin.begin command-buffer.descriptorAt command-buffer.buffer settingsBy listing act reported isSent sent nextAfter end command-service.service lengthOf judged fateOf arrival receive-begin.begunBy receive-begin.begin receive-buffer.descriptorAt receive-buffer.buffer frameStatus settles close lack receive-service.service statusTo resetOf attentions.iscpOf attentions.initialise obeyCuc obeyRuc attentions.attendBy attentions.attend attentions.attention attentionOf arrivals.arrival arrivals.arrivalOf concluded commandTurn receiveTurn turnOf range addressLengthOf headerBytes headerLengthOf marked uses setupAfter resultBytes
 keptb L [] w = true
 keptb L (e ∷ es) w = sameb L (step e w .memory) (apply (own machine e w) (w .memory)) && keptb L es (step e w)
 
@@ -191,9 +191,10 @@ pub idle-turn : (w : World) (r : ℕ) → isActive (cuState (w .device .units .c
 unfolding turnOf
 idle-turn w r a b = idle-by (isActive (cuState (w .device .units .cu))) (isHolding (w .device .units .ru)) (w .device .units .rulast) w r a b
 
-not-next : (c h l : Bool) → c ≡ false → goesToCommand c h l ≡ false
+not-next : (c h l : Bool) → c ≡ false → isCommand (servedBy c h l) ≡ false
 not-next true h l e = absurd (true≢false e)
-not-next false h l e = refl
+not-next false true l e = refl
+not-next false false l e = refl
 
 idle-next : (r : ℕ) (L : List ℕ) (es : List Event) (w : World) → commandNext (w .device .units) ≡ false → Undisturbed machine L es w
     → Same L (w .memory) (apply (own machine (call (turn r)) w) (w .memory)) × Undisturbed machine L es w

@@ -18,6 +18,6 @@ end-spec =
     (λ c κs. search needs)
     (λ c. search needs)
     (λ c. record {
-      left = rw (c .before .offset-at .ensures, c .before .before .before .before .before .before .put-word .ensures, c .before .before .place2 .ensures, c .before .before .before .before .before .before .before .place .ensures, c .before .before .before .before .before .before .before .before .before .at-of .ensures) at (c .after-end .ensures);
+      left = rw (c .before .offset-at .ensures, c .before .before .place2 .ensures, c .before .before .before .before .before .before .before .before .before .at-of .ensures) at (c .after-end .ensures);
       memory = rw (← c .before .before .before .before .before .before .before .before .before .at-of .ensures, ← c .before .before .before .before .before .before .before .place .ensures) (c .before .before .before .before .before .before .put-word .ensures);
     }))
