@@ -9,7 +9,7 @@ use Rattle.image.specs.Image.{decodeOf, deviceAt}
 use Rattle.image.specs.Found as is
 use Rattle.chip.specs.World.{World, worldOf}
 use Rattle.chip.specs.Call.{Call, ran}
-use Rattle.calls.specs.Calls.{Areas, onBytes}
+use Rattle.calls.specs.Calls.{Areas, answerNumber, onBytes}
 use Rattle.traces.specs.Bytes.{called, number, sentLength, edge}
 use Rattle.closure.specs.Refusals.{TakesAll, Holds}
 
@@ -44,3 +44,5 @@ pub record Parts (answer : ℕ) (said : Answer) : Type 0 where
   pub length : sentLength answer ≡ said .length
   pub most : sentLength answer ≤ 2048
   pub edge : edge answer ≡ one (said .edge)
+  -- and nothing else
+  pub whole : answer ≡ answerNumber said

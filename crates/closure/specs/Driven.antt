@@ -4,7 +4,7 @@ use mathlib.Core.List.{List, [], _∷_, _++_}
 use Prim.Native.Nat.{ℕ, zero, suc}
 use Rattle.chip.specs.Call.{Call, turn}
 use Rattle.calls.specs.Calls.{Areas, turnCall, runCall}
-use Rattle.closure.specs.Turns.{turnsTaken}
+use Rattle.calls.specs.Answer.{turnsTaken}
 
 -- a call and the areas that it is lent
 pub record Lending : Type 0 where

@@ -1,9 +1,9 @@
 -- A run of turns on the areas that are lent, beside so many turns in a row. Assumes nothing.
 use mathlib.Core.Path.{_≡_}
 use mathlib.Core.Logic.{_⊎_}
-use Prim.Native.Nat.{ℕ, zero, suc, _/_, _%_, _≤_, _<_}
+use Prim.Native.Nat.{ℕ, zero, suc, _≤_, _<_}
+use Rattle.calls.specs.Answer.{sentLength, edge, turnsTaken, withoutTurns}
 use Rattle.calls.specs.Calls.{Areas, Called, turnCall}
-use Rattle.traces.specs.Bytes.{sentLength, edge}
 
 -- ---- turns in a row, each on what the one before left
 
@@ -15,14 +15,6 @@ turnsOn (suc k) a report = turnsOn k (turnCall a report .areas) report
 abbrev pub lastAnswer : ℕ → Areas → (report : ℕ) → ℕ
 lastAnswer zero a report = 0
 lastAnswer (suc k) a report = turnCall (turnsOn k a report) report .answer
-
--- ---- a run's answer taken apart: the number of turns taken, in bits 48 to 63, and the last turn's answer
-
-abbrev pub turnsTaken : ℕ → ℕ
-turnsTaken answer = answer / 281474976710656
-
-abbrev pub withoutTurns : ℕ → ℕ
-withoutTurns answer = answer % 281474976710656
 
 -- ---- a turn that ends a run, as the host sees it: it sent a frame, or reported an edge, or had no work, so that the record is as it was
 
