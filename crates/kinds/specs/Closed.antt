@@ -4,7 +4,7 @@ use mathlib.Core.Bool.{true}
 use lib.ListN.{length}
 use Rattle.memory.specs.Size.{Allowed}
 use Rattle.memory.proofs.Bytes.{Bytes}
-use Rattle.device.specs.Limits.{areaSize}
+use Rattle.device.specs.Limits.{holdingSize, outgoingSize}
 use Rattle.image.specs.Ranges.{inRange, Wide}
 use Rattle.chip.specs.World.{World, afterwards}
 use Rattle.chip.specs.Call.{Call, ran}
@@ -14,8 +14,8 @@ use Rattle.kinds.specs.Demands.{FrameOk}
 -- a state in range, and areas of bytes of the right lengths
 pub record Right (w : World) : Type 0 where
   pub size : Allowed (length (w .memory))
-  pub holding : length (w .holding) ≡ areaSize
-  pub outgoing : length (w .outgoing) ≡ areaSize
+  pub holding : length (w .holding) ≡ holdingSize
+  pub outgoing : length (w .outgoing) ≡ outgoingSize
   pub wide : Wide (w .device)
   pub range : inRange (w .device) ≡ true
   pub memory-bytes : Bytes (w .memory)

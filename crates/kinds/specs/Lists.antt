@@ -14,7 +14,7 @@ use Rattle.memory.proofs.Fields.{Apart}
 use Rattle.scb.specs.Words as scb
 use Rattle.scb.specs.Words.{bitsAt, bit, cuc, resets, cuNumber}
 use Rattle.scb.specs.declared.CuState.the-variants as cus
-use Rattle.device.specs.Limits.{areaSize}
+use Rattle.device.specs.Limits.{holdingSize, outgoingSize}
 use Rattle.device.specs.Numbers.{actionNumber}
 use Rattle.device.specs.State.{cuState, isActive, isHolding}
 use Rattle.device.specs.declared.Action.the-variants as action
@@ -89,8 +89,8 @@ started chip s es a = run chip s (call attention ∷ es) a
 -- any events: calls that are not to be refused for what they bring; areas of bytes of the right lengths, as the host leaves them
 pub record Hosted (m h out : List ℕ) : Type 0 where
   pub size : Allowed (length m)
-  pub holding : length h ≡ areaSize
-  pub outgoing : length out ≡ areaSize
+  pub holding : length h ≡ holdingSize
+  pub outgoing : length out ≡ outgoingSize
   pub memory-bytes : Bytes m
   pub holding-bytes : Bytes h
   pub outgoing-bytes : Bytes out

@@ -1,13 +1,12 @@
 -- Demand 3, first half, over the calls on the areas that are lent: refused calls stand anywhere and count for nothing. Assumes nothing: that a
 -- record which a call leaves holds the state which it leaves is `Carries`, an argument of each statement here.
 use mathlib.Core.Path.{_≡_, refl, sym, ap, _∙_, subst}
-use mathlib.Core.Bool.{Bool, true, false, true≢false}
+use mathlib.Core.Bool.{Bool, true, false}
 use mathlib.Core.List.{List, [], _∷_}
 use Prim.Native.Nat.{ℕ, _+_, _*_, _≤_}
 use native.Mathlib.Nat.{zero-add}
 use lib.ListN.{length}
 use Rattle.memory.specs.Memory.{wordAt}
-use Rattle.memory.specs.Size.{sizeAllowed}
 use Rattle.memory.proofs.Power.{allowed}
 use Rattle.scb.specs.Words.{cblAt}
 use Rattle.device.specs.declared.Device.{Device}
@@ -16,8 +15,8 @@ use Rattle.control.specs.Obey.{ofScb}
 use Rattle.chip.specs.Call.{Call, attention}
 use Rattle.chip.specs.Attention.{attentionOf}
 use Rattle.chip.specs.World.{World}
-use Rattle.calls.specs.Calls.{Areas, Called, answerNumber, attentionCall}
-use Rattle.calls.proofs.Laws.{bad-size}
+use Rattle.calls.specs.Calls.{Areas, Called, onBytes, attentionCall}
+use Rattle.calls.proofs.Laws.{lengths-of-accepted}
 use Rattle.traces.specs.Bytes.{called, isRefused}
 use Rattle.traces.specs.Event.{Event, call, host, step, isTurn}
 use Rattle.progress.specs.Machine.{Laws, Mays, Undisturbed, run, turns, bit}
@@ -47,13 +46,9 @@ turns-same (l ∷ ls) w = turns-by (refusedAt l) l ls w (turns-same ls)
 
 -- ---- an attention that is not refused has an allowed N
 
-size-by : (b : Bool) (a : Areas) → sizeAllowed (length (a .memory)) ≡ b → isRefused (called attention a) ≡ false → b ≡ true
-unfolding attentionCall answerNumber
-size-by true a s r = refl
-size-by false a s r = absurd (true≢false (sym (ap isRefused (bad-size a [] attentionOf s)) ∙ r))
-
 size-least : (a : Areas) → isRefused (called attention a) ≡ false → 8192 ≤ length (a .memory)
-size-least a r = allowed (length (a .memory)) (size-by (sizeAllowed (length (a .memory))) a refl r) .least
+unfolding attentionCall
+size-least a r = allowed (length (a .memory)) (lengths-of-accepted a [] (λ w. onBytes (attentionOf w)) r .memory) .least
 
 module _ (C : Carries) where
   open Carries C using (Holds, Given, carry)

@@ -10,9 +10,8 @@ use Rattle.memory.specs.Memory.{wordAt}
 use Rattle.memory.specs.Size.{Allowed}
 use Rattle.memory.proofs.Bytes.{Bytes}
 use Rattle.scb.specs.Words.{cblAt}
-use Rattle.device.specs.Limits.{areaSize}
+use Rattle.device.specs.Limits.{holdingSize, outgoingSize}
 use Rattle.device.specs.declared.Device.{Device}
-use Rattle.device.specs.declared.Refusal.the-variants as refusal
 use Rattle.command.specs.Part.{Part}
 use Rattle.control.specs.Obey.{ofScb}
 use Rattle.chip.specs.Call.{Call, reset, attention, arrive, turn, ran}
@@ -20,8 +19,8 @@ use Rattle.calls.specs.Calls.{Areas, areasOf}
 use Rattle.traces.specs.Bytes.{called, number, isRefused}
 use Rattle.traces.specs.Event.{Event, call, host, step}
 use Rattle.closure.specs.Sound.{Fit, Lent}
-use Rattle.closure.specs.Refusals.{AreasRight, FrameRight, Holds, When}
-use Rattle.closure.proofs.Refusals.{table}
+use Rattle.closure.specs.Refusals.{FrameRight, Holds}
+use Rattle.closure.proofs.Refusals.{table, AllRight, Unrefused, gives-none}
 use Rattle.closure.proofs.Carried.{carry, holds-length, lent-kept, areas-as-long}
 use Rattle.progress.specs.Machine.{Undisturbed, run}
 use Rattle.closure.specs.Driven.{Lending}
@@ -69,17 +68,28 @@ pub record Right (a : Areas) (d : Device) : Type 0 where
   pub bytes : Lent a
   pub holds : Holds (a .kept) d
   pub size : Allowed (length (a .memory))
-  pub lengths : AreasRight a
+  pub lengths : (length (a .holding) ≡ holdingSize) × (length (a .outgoing) ≡ outgoingSize)
 
-accepted-when : (c : Call) (a : Areas) (d : Device) → Right a d → FrameRight c → When refusal.Accepted c a
-accepted-when reset a d r f = (tt, (holds-length (a .kept) d (r .holds), tt), f, tt)
-accepted-when attention a d r f = (r .size, (holds-length (a .kept) d (r .holds), r .lengths), f, (d, r .holds))
-accepted-when (arrive x v) a d r f = (r .size, (holds-length (a .kept) d (r .holds), r .lengths), f, (d, r .holds))
-accepted-when (turn report) a d r f = (r .size, (holds-length (a .kept) d (r .holds), r .lengths), f, (d, r .holds))
+all-right : (c : Call) (a : Areas) (d : Device) → Right a d → FrameRight c → AllRight c a
+all-right c a d r f =
+    record {
+      size = r .size;
+      kept = holds-length (a .kept) d (r .holds);
+      holding = r .lengths .0;
+      outgoing = r .lengths .1;
+      frame = f;
+      image = (d, r .holds);
+    }
+
+unrefused : (c : Call) (a : Areas) (d : Device) → Right a d → FrameRight c → Unrefused c a
+unrefused reset a d r f = holds-length (a .kept) d (r .holds)
+unrefused attention a d r f = all-right attention a d r f
+unrefused (arrive x v) a d r f = all-right (arrive x v) a d r f
+unrefused (turn report) a d r f = all-right (turn report) a d r f
 
 pub accepts : (c : Call) (a : Areas) (d : Device) → Right a d → FrameRight c → isRefused (called c a) ≡ false
 accepts c a d r f =
-    ap not (eq-eqb (number (called c a .answer)) 0 (table c a (r .bytes .kept) refusal.Accepted .1 (accepted-when c a d r f)))
+    ap not (eq-eqb (number (called c a .answer)) 0 (table c a (r .bytes .kept) 0 .1 (gives-none c a (unrefused c a d r f))))
 
 -- what such a call leaves is so again
 pub right-again : (c : Call) (a : Areas) (d : Device) → Right a d → Fit c → FrameRight c
@@ -90,7 +100,7 @@ right-again c a d r f l =
       bytes = lent-kept c a f (r .bytes);
       holds = carry c a d f (r .bytes) (r .holds) (accepts c a d r l) .holds;
       size = subst Allowed (sym (long .memory)) (r .size);
-      lengths = record { holding = long .holding ∙ r .lengths .holding; outgoing = long .outgoing ∙ r .lengths .outgoing };
+      lengths = (long .holding ∙ r .lengths .0, long .outgoing ∙ r .lengths .1);
     }
 
 -- ---- a trace that is not refused: frames of at most 2,048 bytes; the host leaves areas of bytes, as long as they must be
@@ -100,7 +110,7 @@ pub record RightAreas (m h out : List ℕ) : Type 0 where
   pub held : Bytes h
   pub sent : Bytes out
   pub size : Allowed (length m)
-  pub lengths : (length h ≡ areaSize) × (length out ≡ areaSize)
+  pub lengths : (length h ≡ holdingSize) × (length out ≡ outgoingSize)
 
 abbrev pub Rights : List Event → Type 0
 Rights [] = Unit {0}
@@ -113,7 +123,7 @@ host-right m h out a d x r =
       bytes = record { memory = x .bytes; holding = x .held; outgoing = x .sent; kept = r .bytes .kept };
       holds = r .holds;
       size = x .size;
-      lengths = record { holding = x .lengths .0; outgoing = x .lengths .1 };
+      lengths = x .lengths;
     }
 
 pub all-accepted : (es : List Event) (a : Areas) (d : Device) → Right a d → Rights es → Accepted carries es a
