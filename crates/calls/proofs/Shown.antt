@@ -1,17 +1,18 @@
 -- Answers, lengths, refusals and reset: 01, "Calls, lent areas, refusals". Each is a computed case that another reading fails. Assumes nothing.
 use mathlib.Core.Bool.{Bool, true, false, _&&_, not}
-use mathlib.Core.List.{[], _∷_}
+use mathlib.Core.List.{List, [], _∷_}
 use Prim.Native.Nat.{ℕ}
-use lib.Dec.{T, eqb}
+use lib.Dec.{T, eqb, leb}
 use lib.ListN.{length, getD, replicate}
 use lib.Count.{ones}
 use Rattle.memory.specs.Size.{sizeAllowed}
 use Rattle.scb.specs.Words.{bitsAt}
 use Rattle.device.specs.Numbers.{refusalNumber}
+use Rattle.device.specs.declared.Refusal.{Refusal}
 use Rattle.device.specs.declared.Refusal.the-variants as refusal
 use Rattle.chip.specs.World.{resetOf}
 use Rattle.calls.specs.Answer.{answerNumber, withTurns, number, sentLength, edge, reason, turnsTaken, withoutTurns}
-use Rattle.calls.specs.Refusals.{isRight, rows, firstWrong}
+use Rattle.calls.specs.Refusals.{isRight, rows, resetRows, firstWrong}
 use Rattle.calls.specs.Calls.{refusedAnswer, resetCall}
 
 -- the number, the length sent from bit 16 on, the edge in bit 32
@@ -47,6 +48,14 @@ pub lowestFirst : T (eqb (given 0 0 0 0 2049 false) 1 && eqb (given 8192 2048 20
     && eqb (given 8192 2048 0 256 2049 false) 2 && eqb (given 8192 2048 2048 256 2049 false) 3)
 unfolding sizeAllowed ones
 lowestFirst = tt
+
+-- and the rows stand in the order of their numbers, from 1 on
+abbrev ascendFrom : ℕ → List Refusal → Bool
+ascendFrom n [] = true
+ascendFrom n (r ∷ rs) = leb n (refusalNumber r) && ascendFrom (refusalNumber r) rs
+
+pub rowsAscend : T (ascendFrom 1 rows && ascendFrom 1 resetRows)
+rowsAscend = tt
 
 -- reset takes the record alone: one of the wrong length is refusal 2, and stays; its content is ignored
 pub resetOfNoRecord : T (eqb (resetCall (7 ∷ []) .answer) 2 && eqb (length (resetCall (7 ∷ []) .kept)) 1 && eqb (getD (resetCall (7 ∷ []) .kept) 0 0) 7
