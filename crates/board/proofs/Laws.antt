@@ -1,15 +1,12 @@
 -- What is lent of memory, however long it is; what a board shows of a device; and that before the first reset no call is accepted, but for
 -- reset: `attention-4` and its like. Assumes nothing.
 use mathlib.Core.Path.{_≡_, refl, sym, ap, subst, _∙_}
-use mathlib.Core.Bool.{true}
 use mathlib.Core.List.{List, [], _∷_, _++_}
 use Prim.Native.Nat.{ℕ, zero, suc, _≤_, min}
 use native.Mathlib.Omega.{arith}
-use lib.Dec.{leb}
 use lib.ListN.{length, take, drop, length-take, take-append-drop}
-use Rattle.memory.specs.Size.{sizeAllowed}
 use Rattle.scb.specs.Words.{anyOf}
-use Rattle.device.specs.Limits.{longest}
+use Rattle.device.specs.Limits.{recordSize}
 use Rattle.device.specs.declared.Device.{Device}
 use Rattle.device.specs.declared.Refusal.the-variants as refusal
 use Rattle.memory.specs.Memory.{value}
@@ -20,7 +17,11 @@ use Rattle.image.proofs.Exact.{level}
 use Rattle.chip.specs.Attention.{attentionOf}
 use Rattle.chip.specs.Arrival.{arrivalOf}
 use Rattle.chip.specs.Turn.{turnOf}
+use Rattle.chip.specs.Run.{runOf}
+use Rattle.chip.specs.World.{World}
 use Rattle.calls.specs.Calls as exported
+use Rattle.calls.specs.Refusals.{Lengths}
+use Rattle.calls.proofs.Rows.{LengthsRight}
 use Rattle.calls.proofs.Laws.{no-image}
 use Rattle.board.specs.declared.Returned.{Returned}
 use Rattle.board.specs.Front.{areasWith, Fronted}
@@ -67,21 +68,21 @@ leaves x b n m h out l s m′ h′ out′ e f g =
       outgoing = k .outgoing;
     }
 
--- each call on a board is the exported one on what is lent of it
-each-call : (c : Call) (b : Board) (m h out : List ℕ) → leftBy b m (exportedOf c (lent b m h out)) ≡ onBoard c b m h out
+-- reset leaves memory and areas as they were
+pub reset-leaves : (b : Board) (m h out : List ℕ)
+    → onBoard reset b m h out
+    ≡ leftAs (saidOf b (record { bytes = exported.resetCall (b .kept .bytes) .kept }) (exported.resetCall (b .kept .bytes) .answer)) m h out
 unfolding onBoard exportedOf
-each-call reset b m h out = ap (λ (ys : List ℕ). leftAs (saidOf b (record { bytes = exported.resetCall (b .kept .bytes) .kept }) (exported.resetCall (b .kept .bytes) .answer)) ys h out) (take-append-drop (b .size) m)
-each-call attention b m h out = refl
-each-call (arrive f v) b m h out = refl
-each-call (turn report) b m h out = refl
-each-call (run report budget) b m h out = refl
+reset-leaves b m h out =
+    let r = exported.resetCall (b .kept .bytes) in
+    ap (λ (ys : List ℕ). leftAs (saidOf b (record { bytes = r .kept }) (r .answer)) ys h out) (take-append-drop (b .size) m)
 
 pub leaves-call : (c : Call) (b : Board) (n : ℕ) (m h out : List ℕ) (l : Returned) (s : Said) (m′ h′ out′ : List ℕ) → n ≡ min (b .size) (length m)
     → Fronted (exportedOf c (areasWith (b .kept) (take n m) h out)) (l .kept) (l .answer) m′ h′ out′
     → s ≡ saidOf b (l .kept) (l .answer)
     → Leaves (onBoard c b m h out) s (m′ ++ drop n m) h′ out′
-leaves-call c b n m h out l s m′ h′ out′ e f g =
-    subst (λ (x : Left). Leaves x s (m′ ++ drop n m) h′ out′) (each-call c b m h out) (leaves (exportedOf c) b n m h out l s m′ h′ out′ e f g)
+unfolding onBoard
+leaves-call c b n m h out l s m′ h′ out′ e f g = leaves (exportedOf c) b n m h out l s m′ h′ out′ e f g
 
 -- ---- what is shown
 
@@ -108,23 +109,27 @@ module _ (n : ℕ) (m h out : List ℕ) where
   unfolding exported.answerNumber
   same = ap (λ (ys : List ℕ). leftAs (saidOf before (before .kept) 4) ys h out) (take-append-drop n m)
 
-  module _ (size : sizeAllowed (length (take n m)) ≡ true) (areas : exported.areasRight (lent before m h out) ≡ true) where
-    pub attention-4 : onBoard attention before m h out ≡ answers-4
-    unfolding onBoard exported.attentionCall
-    attention-4 = ap (leftBy before m) (no-image (lent before m h out) [] attentionOf size areas refl zeros-foreign) ∙ same
+  -- a frame of so many bytes arrives, none of 0
+  abbrev lengths : ℕ → Lengths
+  lengths frame = record { memory = length (take n m); holding = length h; outgoing = length out; kept = recordSize; frame = frame }
 
-    pub arrival-4 : (f : List ℕ) (v : ℕ) → leb (length f) longest ≡ true → onBoard (arrive f v) before m h out ≡ answers-4
-    unfolding onBoard exported.arrivalCall
-    arrival-4 f v short = ap (leftBy before m) (no-image (lent before m h out) f (λ w. arrivalOf w f v) size areas short zeros-foreign) ∙ same
+  foreign : (f : List ℕ) (does : World → exported.Called) → LengthsRight (lengths (length f))
+      → leftBy before m (exported.unlessRefused (exported.refusalOf (lent before m h out) f) does (lent before m h out)) ≡ answers-4
+  foreign f does right = ap (leftBy before m) (no-image (lent before m h out) f right does zeros-foreign) ∙ same
+
+  module _ (right : LengthsRight (lengths 0)) where
+    pub attention-4 : onBoard attention before m h out ≡ answers-4
+    unfolding onBoard exportedOf exported.attentionCall
+    attention-4 = foreign [] (λ w. exported.onBytes (attentionOf w)) right
 
     pub turn-4 : (report : ℕ) → onBoard (turn report) before m h out ≡ answers-4
-    unfolding onBoard exported.turnCall
-    turn-4 report = ap (leftBy before m) (no-image (lent before m h out) [] (λ w. turnOf w report) size areas refl zeros-foreign) ∙ same
-
-    run-foreign : (report budget : ℕ) → exported.runCall (lent before m h out) report budget ≡ exported.refused refusal.Foreign (lent before m h out)
-    unfolding exported.runCall exported.refusalOf
-    run-foreign report budget = rw (size, areas, zeros-foreign)
+    unfolding onBoard exportedOf exported.turnCall
+    turn-4 report = foreign [] (λ w. exported.onBytes (turnOf w report)) right
 
     pub run-4 : (report budget : ℕ) → onBoard (run report budget) before m h out ≡ answers-4
-    unfolding onBoard
-    run-4 report budget = ap (leftBy before m) (run-foreign report budget) ∙ same
+    unfolding onBoard exportedOf exported.runCall
+    run-4 report budget = foreign [] (λ w. exported.runOnBytes (runOf budget w report)) right
+
+  pub arrival-4 : (f : List ℕ) (v : ℕ) → LengthsRight (lengths (length f)) → onBoard (arrive f v) before m h out ≡ answers-4
+  unfolding onBoard exportedOf exported.arrivalCall
+  arrival-4 f v right = foreign f (λ w. exported.onBytes (arrivalOf w f v)) right

@@ -74,25 +74,17 @@ abbrev pub leftBy : Board → List ℕ → exported.Called → Left
 leftBy b m r =
     leftAs (saidOf b (record { bytes = r .areas .kept }) (r .answer)) (r .areas .memory ++ drop (b .size) m) (r .areas .holding) (r .areas .outgoing)
 
--- reset takes the record alone
-abbrev pub renewedOn : Board → exported.Renewed → Said
-renewedOn b r = saidOf b (record { bytes = r .kept }) (r .answer)
-
--- each call is the exported one
-unfoldable pub onBoard : Call → Board → List ℕ → List ℕ → List ℕ → Left
-onBoard reset b m h out = leftAs (renewedOn b (exported.resetCall (b .kept .bytes))) m h out
-onBoard attention b m h out = leftBy b m (exported.attentionCall (lent b m h out))
-onBoard (arrive f v) b m h out = leftBy b m (exported.arrivalCall (lent b m h out) f v)
-onBoard (turn report) b m h out = leftBy b m (exported.turnCall (lent b m h out) report)
-onBoard (run report budget) b m h out = leftBy b m (exported.runCall (lent b m h out) report budget)
-
--- a call as a function of what is lent: reset leaves the areas alone
+-- each call is the exported one: reset takes the record alone
 unfoldable pub exportedOf : Call → exported.Areas → exported.Called
-exportedOf reset a = record { answer = exported.resetCall (a .kept) .answer; areas = exported.areasOf (a .memory) (a .holding) (a .outgoing) (exported.resetCall (a .kept) .kept) }
+exportedOf reset a = exported.renewedIn a (exported.resetCall (a .kept))
 exportedOf attention a = exported.attentionCall a
 exportedOf (arrive f v) a = exported.arrivalCall a f v
 exportedOf (turn report) a = exported.turnCall a report
 exportedOf (run report budget) a = exported.runCall a report budget
+
+-- on what is lent of the board
+unfoldable pub onBoard : Call → Board → List ℕ → List ℕ → List ℕ → Left
+onBoard c b m h out = leftBy b m (exportedOf c (lent b m h out))
 
 -- what the code that makes a call leaves
 pub record Leaves (left : Left) (s : Said) (m h out : List ℕ) : Type 0 where

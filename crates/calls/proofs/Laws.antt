@@ -1,53 +1,58 @@
--- What a call comes to, by what is lent: each refusal, and the call that is not refused. Assumes nothing.
-use mathlib.Core.Path.{_≡_}
-use mathlib.Core.Bool.{true, false}
+-- What a call comes to: refused, by the table; or what it does to the world that the record says. Assumes nothing.
+use mathlib.Core.Path.{_≡_, refl, sym, ap, _∙_}
+use mathlib.Core.Bool.{Bool, true, false, not, cond, true≢false}
 use mathlib.Core.List.{List}
 use Prim.Native.Nat.{ℕ}
-use lib.Dec.{leb}
-use lib.ListN.{length}
-use Rattle.memory.specs.Size.{sizeAllowed}
-use Rattle.device.specs.Limits.{longest}
+use borrow.Author.Tests.{eqb-true, ne-eqb}
+use lib.Dec.{eqb}
+use Rattle.device.specs.Numbers.{refusalNumber}
+use Rattle.device.specs.declared.Refusal.{Refusal}
 use Rattle.device.specs.declared.Refusal.the-variants as refusal
 use Rattle.device.specs.declared.Units.{Units}
 use Rattle.image.specs.Image.{decodeOf, deviceAt}
 use Rattle.image.specs.Found as is
-use Rattle.chip.specs.World.{World, Ran, worldOf}
-use Rattle.chip.specs.Run.{runOf}
-use Rattle.calls.specs.Calls.{Areas, areasRight, refusalOf, refused, onBytes, calledBy, runOnBytes, runCall}
+use Rattle.chip.specs.World.{World, worldOf}
+use Rattle.calls.specs.Calls.{Areas, Called, isImage, lengthsOf, refusalOf, refusedAnswer, refused, decodedOn, unlessRefused, isRefused}
+use Rattle.calls.proofs.Answer.{told-number}
+use Rattle.calls.proofs.Rows.{LengthsRight, rows-right, by-image}
 
-module _ (a : Areas) (f : List ℕ) (run : World → Ran) where
-  -- 1: N is not allowed
-  pub bad-size : sizeAllowed (length (a .memory)) ≡ false → calledBy (refusalOf a f) run a ≡ refused refusal.Memory a
-  unfolding refusalOf
-  bad-size s = rw s
+-- a number is given: nothing is done
+pub refuses : (r : Refusal) (does : World → Called) (a : Areas) → (refusalNumber r ≡ 0 → ⊥) → unlessRefused r does a ≡ refused r a
+refuses r does a n = rw (ne-eqb (refusalNumber r) 0 n)
 
-  -- 2: another lent area has the wrong length
-  pub bad-area : sizeAllowed (length (a .memory)) ≡ true → areasRight a ≡ false → calledBy (refusalOf a f) run a ≡ refused refusal.Area a
-  unfolding refusalOf
-  bad-area s r = rw (s, r)
+-- and the answer says so
+pub says-refused : (r : Refusal) (a : Areas) → eqb (refusalNumber r) 0 ≡ false → isRefused (refused r a) ≡ true
+says-refused r a e = ap (λ (n : ℕ). not (eqb n 0)) (told-number (refusedAnswer r)) ∙ ap not e
 
-  -- 3: an arriving frame exceeds 2,048 bytes
-  pub too-long : sizeAllowed (length (a .memory)) ≡ true → areasRight a ≡ true → leb (length f) longest ≡ false
-      → calledBy (refusalOf a f) run a ≡ refused refusal.Overlong a
-  unfolding refusalOf
-  too-long s r l = rw (s, r, l)
+-- none is given: lengths and record are right
+pub unrefused : (a : Areas) (f : List ℕ) → refusalNumber (refusalOf a f) ≡ 0 → LengthsRight (lengthsOf a f) × (isImage (decodeOf (a .kept)) ≡ true)
+unfolding refusalOf
+unrefused a f z = rows-right (lengthsOf a f) (isImage (decodeOf (a .kept))) z
 
+accepted-by : (x : Bool) (r : Refusal) (does : World → Called) (a : Areas) → eqb (refusalNumber r) 0 ≡ x
+    → isRefused (cond x (decodedOn does a (decodeOf (a .kept))) (refused r a)) ≡ false → refusalNumber r ≡ 0
+accepted-by true r does a e n = eqb-true _ _ e
+accepted-by false r does a e n = absurd (true≢false (sym (says-refused r a e) ∙ n))
+
+-- so are they if the answer does not say that a number is given
+pub lengths-of-accepted : (a : Areas) (f : List ℕ) (does : World → Called) → isRefused (unlessRefused (refusalOf a f) does a) ≡ false
+    → LengthsRight (lengthsOf a f)
+lengths-of-accepted a f does n = unrefused a f (accepted-by (eqb (refusalNumber (refusalOf a f)) 0) (refusalOf a f) does a refl n) .0
+
+-- ---- the lengths are right
+
+module _ (a : Areas) (f : List ℕ) (h : LengthsRight (lengthsOf a f)) (does : World → Called) where
   -- 4: the record is no image
-  pub no-image : sizeAllowed (length (a .memory)) ≡ true → areasRight a ≡ true → leb (length f) longest ≡ true → decodeOf (a .kept) ≡ is.Foreign
-      → calledBy (refusalOf a f) run a ≡ refused refusal.Foreign a
+  pub no-image : decodeOf (a .kept) ≡ is.Foreign → unlessRefused (refusalOf a f) does a ≡ refused refusal.Foreign a
   unfolding refusalOf
-  no-image s r l d = rw (s, r, l, d)
+  no-image d =
+      let e = by-image (lengthsOf a f) (isImage (decodeOf (a .kept))) h in
+      rw (e, d)
 
   -- not refused
-  pub accepted : (u : Units) → sizeAllowed (length (a .memory)) ≡ true → areasRight a ≡ true → leb (length f) longest ≡ true
-      → decodeOf (a .kept) ≡ is.Units u
-      → calledBy (refusalOf a f) run a ≡ onBytes (run (worldOf (deviceAt (a .kept) u) (a .memory) (a .holding) (a .outgoing)))
+  pub accepted : (u : Units) → decodeOf (a .kept) ≡ is.Units u
+      → unlessRefused (refusalOf a f) does a ≡ does (worldOf (deviceAt (a .kept) u) (a .memory) (a .holding) (a .outgoing))
   unfolding refusalOf
-  accepted u s r l d = rw (s, r, l, d, d)
-
--- ---- a run
-
-pub run-kept : (a : Areas) (report budget : ℕ) (u : Units) → sizeAllowed (length (a .memory)) ≡ true → areasRight a ≡ true → decodeOf (a .kept) ≡ is.Units u
-    → runCall a report budget ≡ runOnBytes (runOf budget (worldOf (deviceAt (a .kept) u) (a .memory) (a .holding) (a .outgoing)) report)
-unfolding runCall refusalOf
-run-kept a report budget u s r d = rw (s, r, d, d)
+  accepted u d =
+      let e = by-image (lengthsOf a f) (isImage (decodeOf (a .kept))) h in
+      rw (e, d)

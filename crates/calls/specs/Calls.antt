@@ -1,16 +1,12 @@
 -- The calls on numbers and byte areas: 01, "Calls, lent areas, refusals". Each exported call's promise cites one of these. Assumes nothing.
 use mathlib.Core.Path.{_≡_}
-use mathlib.Core.Bool.{Bool, true, false, _&&_}
+use mathlib.Core.Bool.{Bool, true, false, not, cond}
 use mathlib.Core.List.{List, []}
-use Prim.Native.Nat.{ℕ, _+_, _*_, _^_}
-use lib.Dec.{eqb, leb}
+use Prim.Native.Nat.{ℕ}
+use lib.Dec.{eqb}
 use lib.ListN.{length}
-use Rattle.memory.specs.Size.{sizeAllowed}
-use Rattle.scb.specs.Words.{one}
-use Rattle.device.specs.Limits.{areaSize, recordSize, longest}
 use Rattle.device.specs.Numbers.{refusalNumber}
 use Rattle.device.specs.declared.Answer.{Answer}
-use Rattle.device.specs.declared.Device.{Device}
 use Rattle.device.specs.declared.Refusal.{Refusal}
 use Rattle.device.specs.declared.Refusal.the-variants as refusal
 use Rattle.image.specs.Image.{imageOf, decodeOf, deviceAt}
@@ -21,6 +17,10 @@ use Rattle.chip.specs.Attention.{attentionOf}
 use Rattle.chip.specs.Arrival.{arrivalOf}
 use Rattle.chip.specs.Turn.{turnOf}
 use Rattle.chip.specs.Run.{Run, runOf}
+use Rattle.chip.specs.Call.{Call, reset, attention, arrive, turn}
+unfoldable pub use Rattle.calls.specs.Answer.{answerNumber}
+use Rattle.calls.specs.Answer.{withTurns, number}
+use Rattle.calls.specs.Refusals.{Lengths, isRight, rows, resetRows, firstWrong}
 
 -- ---- what is lent, and what is left
 
@@ -47,26 +47,7 @@ pub record Calls (said : Called) (a : ℕ) (m h out r : List ℕ) : Type 0 where
   pub outgoing : out ≡ said .areas .outgoing
   pub kept : r ≡ said .areas .kept
 
--- number + length * 65,536 + edge * 4,294,967,296
-unfoldable pub answerNumber : Answer → ℕ
-answerNumber a = refusalNumber (a .number) + a .length * 2 ^ 16 + one (a .edge) * 2 ^ 32
-
 -- ---- refusals
-
--- the lowest number that applies is given
-abbrev pub refusedBy : (size areas frame image : Bool) → Refusal
-refusedBy false areas frame image = refusal.Memory
-refusedBy true false frame image = refusal.Area
-refusedBy true true false image = refusal.Overlong
-refusedBy true true true false = refusal.Foreign
-refusedBy true true true true = refusal.Accepted
-
--- no other lent area has the wrong length
-abbrev pub lengthsRight : (holding outgoing kept : ℕ) → Bool
-lengthsRight holding outgoing kept = eqb kept recordSize && eqb holding areaSize && eqb outgoing areaSize
-
-unfoldable pub areasRight : Areas → Bool
-areasRight a = lengthsRight (length (a .holding)) (length (a .outgoing)) (length (a .kept))
 
 -- the record is the image of a state within docs/' ranges
 abbrev pub isImage : Found → Bool
@@ -74,9 +55,19 @@ isImage (is.Units u) = true
 isImage is.Foreign = false
 
 -- f: the arriving frame, empty for the other calls
+abbrev pub lengthsOf : Areas → List ℕ → Lengths
+lengthsOf a f =
+    record {
+      memory = length (a .memory);
+      holding = length (a .holding);
+      outgoing = length (a .outgoing);
+      kept = length (a .kept);
+      frame = length f;
+    }
+
+-- of a call that takes all four
 unfoldable pub refusalOf : Areas → List ℕ → Refusal
-refusalOf a f =
-    refusedBy (sizeAllowed (length (a .memory))) (areasRight a) (leb (length f) longest) (isImage (decodeOf (a .kept)))
+refusalOf a f = firstWrong (isRight (lengthsOf a f) (isImage (decodeOf (a .kept)))) rows
 
 -- length 0, no interrupt edge; a refusal changes nothing lent
 abbrev pub refusedAnswer : Refusal → Answer
@@ -99,12 +90,9 @@ abbrev pub decodedOn : (World → Called) → Areas → Found → Called
 decodedOn does a (is.Units u) = does (worldOf (deviceAt (a .kept) u) (a .memory) (a .holding) (a .outgoing))
 decodedOn does a is.Foreign = refused refusal.Foreign a
 
+-- number 0: not refused
 abbrev pub unlessRefused : Refusal → (World → Called) → Areas → Called
-unlessRefused refusal.Accepted does a = decodedOn does a (decodeOf (a .kept))
-unlessRefused refusal.Memory does a = refused refusal.Memory a
-unlessRefused refusal.Area does a = refused refusal.Area a
-unlessRefused refusal.Overlong does a = refused refusal.Overlong a
-unlessRefused refusal.Foreign does a = refused refusal.Foreign a
+unlessRefused r does a = cond (eqb (refusalNumber r) 0) (decodedOn does a (decodeOf (a .kept))) (refused r a)
 
 abbrev pub calledOn : (World → Ran) → Areas → Found → Called
 calledOn run a decoded = decodedOn (λ w. onBytes (run w)) a decoded
@@ -125,11 +113,11 @@ turnCall a report = calledBy (refusalOf a []) (λ w. turnOf w report) a
 
 -- ---- a run of turns
 
--- the answer of the last turn, with the number of turns taken in bits 48 to 63
+-- the answer of the last turn, with the number of turns taken
 abbrev pub runOnBytes : Run → Called
 runOnBytes r =
     record {
-      answer = answerNumber (r .answer) + r .taken * 2 ^ 48;
+      answer = withTurns (answerNumber (r .answer)) (r .taken);
       areas = areasOf (r .world .memory) (r .world .holding) (r .world .outgoing) (imageOf (r .world .device));
     }
 
@@ -148,10 +136,29 @@ pub record Renews (said : Renewed) (a : ℕ) (r : List ℕ) : Type 0 where
   pub answer : a ≡ said .answer
   pub kept : r ≡ said .kept
 
--- it ignores the record's content and writes a fresh one; a wrong length is refusal 2
-abbrev pub renewed : (right : Bool) → List ℕ → Renewed
-renewed true r = record { answer = answerNumber (resetOf .answer); kept = imageOf (resetOf .device) }
-renewed false r = record { answer = answerNumber (refusedAnswer refusal.Area); kept = r }
+-- it ignores the record's content and writes a fresh one
+abbrev pub renewed : Refusal → List ℕ → Renewed
+renewed x r =
+    cond (eqb (refusalNumber x) 0) (record { answer = answerNumber (resetOf .answer); kept = imageOf (resetOf .device) })
+    (record { answer = answerNumber (refusedAnswer x); kept = r })
 
+-- no other area is lent, and nothing is asked of the content
 unfoldable pub resetCall : List ℕ → Renewed
-resetCall r = renewed (eqb (length r) recordSize) r
+resetCall r =
+    renewed (firstWrong (isRight (record { memory = 0; holding = 0; outgoing = 0; kept = length r; frame = 0 }) true) resetRows) r
+
+-- ---- the four calls as one
+
+-- reset takes the record alone
+abbrev pub renewedIn : Areas → Renewed → Called
+renewedIn a r = record { answer = r .answer; areas = areasOf (a .memory) (a .holding) (a .outgoing) (r .kept) }
+
+abbrev pub called : Call → Areas → Called
+called reset a = renewedIn a (resetCall (a .kept))
+called attention a = attentionCall a
+called (arrive f v) a = arrivalCall a f v
+called (turn report) a = turnCall a report
+
+-- 0 if not refused
+abbrev pub isRefused : Called → Bool
+isRefused r = not (eqb (number (r .answer)) 0)

@@ -1,2 +1,4 @@
--- The calls on bytes.
+-- The calls on bytes: an answer as one number, the table of refusals, the calls.
+pub mod Answer
+pub mod Refusals
 pub mod Calls

@@ -10,7 +10,7 @@ use Rattle.memory.specs.Address.{place, beyond}
 use Rattle.scb.specs.Control.{codeOf}
 use Rattle.scb.specs.Words.{bitsAt, joined, acknowledged, anyOf, eventBits, statusWord}
 use Rattle.device.specs.Answers.{counts}
-use Rattle.device.specs.Limits.{areaSize}
+use Rattle.device.specs.Limits.{holdingSize, outgoingSize}
 use Rattle.device.specs.Numbers.{actionOf, verdictOf, refusalNumber}
 use Rattle.device.specs.State.{fresh}
 use Rattle.device.specs.declared.Answer.{Answer}
@@ -91,7 +91,7 @@ altered w s =
 -- a fresh device with a memory
 abbrev pub startOn : List ℕ → World
 startOn m =
-    record { device = fresh; memory = m; holding = replicate areaSize 0; outgoing = replicate areaSize 0 }
+    record { device = fresh; memory = m; holding = replicate holdingSize 0; outgoing = replicate outgoingSize 0 }
 
 -- 8,192 bytes of memory, zero but for the words given
 abbrev pub start : List Word → World

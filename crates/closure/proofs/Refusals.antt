@@ -1,272 +1,217 @@
--- Demand 1: each number is given exactly when the table says, and a refusal changes nothing lent. 01, "Calls, lent areas, refusals". Assumes nothing.
+-- Demand 1: each number is given exactly when the table says, and a refusal changes nothing lent. 01, "Calls, lent areas, refusals". First any
+-- list of rows, then each row's test, then the calls. Assumes nothing.
 use mathlib.Core.Path.{_≡_, refl, sym, ap, _∙_, subst}
-use mathlib.Core.Bool.{Bool, true, false, not, cond, _&&_, true≢false, false≢true}
-use mathlib.Core.List.{List, []}
-use Prim.Native.Nat.{ℕ, _+_, _*_, _/_, _%_, _≤_, _<_}
+use mathlib.Core.Bool.{Bool, true, false, not, cond, true≢false, false≢true}
+use mathlib.Core.List.{List, [], _∷_}
+use mathlib.Core.Logic.{_⊎_, inl, inr}
+use Prim.Native.Nat.{ℕ, _<_}
 use native.Mathlib.Omega.{arith}
 use borrow.Author.Tests.{leb-true, le-leb, eqb-true, eqb-false, eq-eqb}
-use lib.Dec.{eqb, leb}
+use lib.Dec.{eqb}
 use lib.ListN.{length}
-use Rattle.memory.specs.Size.{sizeAllowed, Allowed}
+use Rattle.memory.specs.Size.{Allowed}
 use Rattle.memory.proofs.Bytes.{Bytes}
 use Rattle.memory.proofs.Power.{allowed, size-allowed}
-use Rattle.scb.specs.Words.{one}
-use Rattle.device.specs.Limits.{areaSize, recordSize, longest}
+use Rattle.device.specs.Limits.{holdingSize, outgoingSize, recordSize, longest}
 use Rattle.device.specs.Numbers.{refusalNumber}
-use Rattle.device.specs.declared.Answer.{Answer}
 use Rattle.device.specs.declared.Device.{Device}
 use Rattle.device.specs.declared.Refusal.{Refusal}
 use Rattle.device.specs.declared.Refusal.the-variants as refusal
 use Rattle.device.specs.declared.Units.{Units}
-use Rattle.phases.proofs.Units.{both}
 use Rattle.image.specs.Image.{decodeOf, deviceAt}
 use Rattle.image.specs.Found.{Found}
 use Rattle.image.specs.Found as is
+use Rattle.image.proofs.Steps.{decode-other}
 use Rattle.image.proofs.Exact.{exact, foreign-exact}
 use Rattle.chip.specs.World.{World, Ran, worldOf, resetOf}
 use Rattle.chip.specs.Attention.{attentionOf}
 use Rattle.chip.specs.Arrival.{arrivalOf}
 use Rattle.chip.specs.Turn.{turnOf}
 use Rattle.chip.specs.Call.{Call, reset, attention, arrive, turn}
-use Rattle.calls.specs.Calls.{Areas, Called, answerNumber, areasRight, refusalOf, refusedAnswer, refused, onBytes, calledOn, calledBy, attentionCall, arrivalCall, turnCall, renewed, resetCall}
-use Rattle.calls.proofs.Laws.{bad-size, bad-area, too-long, no-image, accepted}
-use Rattle.traces.specs.Bytes.{renewedIn, called, number, sentLength, edge, isRefused}
-use Rattle.traces.specs.Areas.{Holds}
-use Rattle.closure.specs.Refusals.{SizeRight, AreasRight, LengthsRight, FrameRight, RecordRight, Lowest, When, Untouched}
+use Rattle.calls.specs.Refusals.{isRight, rows, firstWrong}
+use Rattle.calls.specs.Calls.{Areas, answerNumber, isImage, lengthsOf, refusalOf, refusedAnswer, refused, onBytes, calledOn, calledBy, attentionCall, arrivalCall, turnCall, renewedIn, renewed, resetCall}
+use Rattle.calls.proofs.Answer.{told-number, told-alone, told-whole}
+use Rattle.calls.proofs.Laws.{unrefused}
+use Rattle.traces.specs.Bytes.{called, number, isRefused}
+use Rattle.traces.specs.Areas.{arriving, Holds}
+use Rattle.closure.specs.Refusals.{FrameRight, Right, rowsOf, Lowest, When, Untouched}
 use Rattle.closure.proofs.Answers.{number-accepted}
 
--- ---- an answer taken apart gives back its number, its length and its edge
+-- ---- any rows, whose tests say what their conditions say
 
-pub refusal-below : (r : Refusal) → refusalNumber r < 5
-refusal-below refusal.Accepted = omega arith
-refusal-below refusal.Memory = omega arith
-refusal-below refusal.Area = omega arith
-refusal-below refusal.Overlong = omega arith
-refusal-below refusal.Foreign = omega arith
+record Decides (right : Bool) (Right : Type 0) : Type 0 where
+  sound : right ≡ true → Right
+  whole : Right → right ≡ true
 
-number-of : (r l e : ℕ) → r < 5 → (r + l * 65536 + e * 4294967296) % 65536 ≡ r
-number-of r l e h =
-    let d : r + l * 65536 + e * 4294967296 ≡ r + 65536 * (l + 65536 * e) = omega arith in
-    rw d (omega arith)
+module _ (right : Refusal → Bool) (Right : Refusal → Type 0) (decides : (r : Refusal) → Decides (right r) (Right r)) where
+  lowest-by : (x : Bool) (r : Refusal) (rs : List Refusal) → right r ≡ x → Lowest Right rs (refusalNumber (firstWrong right rs))
+      → Lowest Right (r ∷ rs) (refusalNumber (cond x (firstWrong right rs) r))
+  lowest-by true r rs e more = inr (decides r .sound e, more)
+  lowest-by false r rs e more = inl ((λ h. true≢false (sym (decides r .whole h) ∙ e)), refl)
 
-length-of : (r l e : ℕ) → r < 5 → l < 65536 → (r + l * 65536 + e * 4294967296) / 65536 % 65536 ≡ l
-length-of r l e h k =
-    let d : (r + l * 65536 + e * 4294967296) / 65536 ≡ l + 65536 * e = omega arith in
-    rw d (omega arith)
+  -- the first that is wrong has the lowest number that applies
+  lowest : (rs : List Refusal) → Lowest Right rs (refusalNumber (firstWrong right rs))
+  lowest [] = refl
+  lowest (r ∷ rs) = lowest-by (right r) r rs refl (lowest rs)
 
-edge-of : (r l e : ℕ) → r < 5 → l < 65536 → (r + l * 65536 + e * 4294967296) / 4294967296 ≡ e
-edge-of r l e h k = omega arith
+  only-by : (x : Bool) (r : Refusal) (rs : List Refusal) (n : ℕ) → right r ≡ x → (Lowest Right rs n → refusalNumber (firstWrong right rs) ≡ n)
+      → Lowest Right (r ∷ rs) n → refusalNumber (cond x (firstWrong right rs) r) ≡ n
+  only-by true r rs n e more (inl (wrong, q)) = absurd (wrong (decides r .sound e))
+  only-by true r rs n e more (inr (h, l)) = more l
+  only-by false r rs n e more (inl (wrong, q)) = sym q
+  only-by false r rs n e more (inr (h, l)) = absurd (true≢false (sym (decides r .whole h) ∙ e))
 
-pub told-number : (a : Answer) → number (answerNumber a) ≡ refusalNumber (a .number)
-unfolding answerNumber
-told-number a = number-of (refusalNumber (a .number)) (a .length) (one (a .edge)) (refusal-below (a .number))
+  -- and no other number has that
+  lowest-only : (rs : List Refusal) (n : ℕ) → Lowest Right rs n → refusalNumber (firstWrong right rs) ≡ n
+  lowest-only [] n l = sym l
+  lowest-only (r ∷ rs) n l = only-by (right r) r rs n refl (lowest-only rs n) l
 
-pub told-length : (a : Answer) → a .length < 65536 → sentLength (answerNumber a) ≡ a .length
-unfolding answerNumber
-told-length a h = length-of (refusalNumber (a .number)) (a .length) (one (a .edge)) (refusal-below (a .number)) h
+-- a number above 0 is that of a row that is not right
+pub wrong-row : (Right : Refusal → Type 0) (rs : List Refusal) (n : ℕ) → 0 < n → Lowest Right rs n
+    → (r : Refusal) × (n ≡ refusalNumber r) × (Right r → ⊥)
+wrong-row Right [] n z l = absurd (omega (arith, z, l))
+wrong-row Right (r ∷ rs) n z (inl (wrong, q)) = (r, q, wrong)
+wrong-row Right (r ∷ rs) n z (inr (h, l)) = wrong-row Right rs n z l
 
-pub told-edge : (a : Answer) → a .length < 65536 → edge (answerNumber a) ≡ one (a .edge)
-unfolding answerNumber
-told-edge a h = edge-of (refusalNumber (a .number)) (a .length) (one (a .edge)) (refusal-below (a .number)) h
+-- ---- each row's test is its condition
 
--- ---- the tests of the definitions are the table's conditions
+decoded-length-by : (x : Bool) (r : List ℕ) (u : Units) → eqb (length r) recordSize ≡ x → decodeOf r ≡ is.Units u → length r ≡ recordSize
+decoded-length-by true r u l e = eqb-true _ _ l
+decoded-length-by false r u l e = absurd (false≢true (ap isImage (decode-other r (eqb-false _ _ l) ∙ e)))
 
-size-right : (n : ℕ) → sizeAllowed n ≡ false → Allowed n → ⊥
-size-right n e h = true≢false (sym (size-allowed n h) ∙ e)
-
-lengths-right : (a : Areas) → areasRight a ≡ true → (length (a .kept) ≡ recordSize) × AreasRight a
-unfolding areasRight
-lengths-right a e =
-    let x = both (eqb (length (a .kept)) recordSize && eqb (length (a .holding)) areaSize) (eqb (length (a .outgoing)) areaSize) e in
-    let y = both (eqb (length (a .kept)) recordSize) (eqb (length (a .holding)) areaSize) (x .0) in
-    (eqb-true _ _ (y .0), record { holding = eqb-true _ _ (y .1); outgoing = eqb-true _ _ (x .1) })
-
-pub right-lengths : (a : Areas) → length (a .kept) ≡ recordSize → AreasRight a → areasRight a ≡ true
-unfolding areasRight
-right-lengths a k h =
-    rw (
-      eq-eqb (length (a .kept)) recordSize k,
-      eq-eqb (length (a .holding)) areaSize (h .holding),
-      eq-eqb (length (a .outgoing)) areaSize (h .outgoing),
-    )
-
-lengths-wrong : (a : Areas) → areasRight a ≡ false → (length (a .kept) ≡ recordSize) × AreasRight a → ⊥
-lengths-wrong a e h = true≢false (sym (right-lengths a (h .0) (h .1)) ∙ e)
+-- what is decoded has 256 bytes
+pub decoded-length : (r : List ℕ) (u : Units) → decodeOf r ≡ is.Units u → length r ≡ recordSize
+decoded-length r u e = decoded-length-by (eqb (length r) recordSize) r u refl e
 
 -- a record that is decoded is the image of a state in range
-pub holds-of : (r : List ℕ) → length r ≡ recordSize → Bytes r → (u : Units) → decodeOf r ≡ is.Units u → Holds r (deviceAt r u)
-holds-of r l b u e = let x = exact r l b u e in record { wide = x .wide; range = x .range; image = x .same }
+pub holds-of : (r : List ℕ) → Bytes r → (u : Units) → decodeOf r ≡ is.Units u → Holds r (deviceAt r u)
+holds-of r b u e = let x = exact r (decoded-length r u e) b u e in record { wide = x .wide; range = x .range; image = x .same }
 
 pub foreign-holds : (r : List ℕ) → decodeOf r ≡ is.Foreign → (d : Device) × Holds r d → ⊥
 foreign-holds r e h = foreign-exact r e (h .0) (h .1 .wide) (h .1 .range) (h .1 .image)
 
--- ---- one number, and one line of the table
+decides-image : (r : List ℕ) → Bytes r → (x : Found) → decodeOf r ≡ x → Decides (isImage x) ((d : Device) × Holds r d)
+decides-image r b (is.Units u) e = record { sound = λ y. (deviceAt r u, holds-of r b u e); whole = λ h. refl }
+decides-image r b is.Foreign e = record { sound = λ y. absurd (false≢true y); whole = λ h. absurd (foreign-holds r e h) }
 
-back : ℕ → Refusal
-back n =
-    cond (eqb n 1) refusal.Memory
-    (cond (eqb n 2) refusal.Area
-    (cond (eqb n 3) refusal.Overlong
-    (cond (eqb n 4) refusal.Foreign refusal.Accepted)))
+decides : (c : Call) (a : Areas) → Bytes (a .kept) → (r : Refusal)
+    → Decides (isRight (lengthsOf a (arriving c)) (isImage (decodeOf (a .kept))) r) (Right c a r)
+decides c a b refusal.Accepted = record { sound = λ e. tt; whole = λ h. refl }
+decides c a b refusal.Memory = record { sound = λ e. allowed (length (a .memory)) e; whole = λ h. size-allowed (length (a .memory)) h }
+decides c a b refusal.Record = record { sound = λ e. eqb-true _ _ e; whole = λ h. eq-eqb (length (a .kept)) recordSize h }
+decides c a b refusal.Holding = record { sound = λ e. eqb-true _ _ e; whole = λ h. eq-eqb (length (a .holding)) holdingSize h }
+decides c a b refusal.Outgoing = record { sound = λ e. eqb-true _ _ e; whole = λ h. eq-eqb (length (a .outgoing)) outgoingSize h }
+decides c a b refusal.Overlong = record { sound = λ e. leb-true _ _ e; whole = λ h. le-leb (length (arriving c)) longest h }
+decides c a b refusal.Foreign = decides-image (a .kept) b (decodeOf (a .kept)) refl
 
-back-same : (r : Refusal) → back (refusalNumber r) ≡ r
-unfolding back
-back-same refusal.Accepted = refl
-back-same refusal.Memory = refl
-back-same refusal.Area = refl
-back-same refusal.Overlong = refl
-back-same refusal.Foreign = refl
-
-one-number : (r q : Refusal) → refusalNumber r ≡ refusalNumber q → r ≡ q
-one-number r q e = sym (back-same r) ∙ ap back e ∙ back-same q
-
-module _ (S L F R : Type 0) where
-  -- no two lines apply at once
-  one-line : (r q : Refusal) → Lowest S L F R r → Lowest S L F R q → r ≡ q
-  one-line refusal.Memory refusal.Memory p q = refl
-  one-line refusal.Memory refusal.Area p q = absurd (p (q .0))
-  one-line refusal.Memory refusal.Overlong p q = absurd (p (q .0))
-  one-line refusal.Memory refusal.Foreign p q = absurd (p (q .0))
-  one-line refusal.Memory refusal.Accepted p q = absurd (p (q .0))
-  one-line refusal.Area refusal.Memory p q = absurd (q (p .0))
-  one-line refusal.Area refusal.Area p q = refl
-  one-line refusal.Area refusal.Overlong p q = absurd (p .1 (q .1))
-  one-line refusal.Area refusal.Foreign p q = absurd (p .1 (q .1))
-  one-line refusal.Area refusal.Accepted p q = absurd (p .1 (q .1))
-  one-line refusal.Overlong refusal.Memory p q = absurd (q (p .0))
-  one-line refusal.Overlong refusal.Area p q = absurd (q .1 (p .1))
-  one-line refusal.Overlong refusal.Overlong p q = refl
-  one-line refusal.Overlong refusal.Foreign p q = absurd (p .2 (q .2))
-  one-line refusal.Overlong refusal.Accepted p q = absurd (p .2 (q .2))
-  one-line refusal.Foreign refusal.Memory p q = absurd (q (p .0))
-  one-line refusal.Foreign refusal.Area p q = absurd (q .1 (p .1))
-  one-line refusal.Foreign refusal.Overlong p q = absurd (q .2 (p .2))
-  one-line refusal.Foreign refusal.Foreign p q = refl
-  one-line refusal.Foreign refusal.Accepted p q = absurd (p .3 (q .3))
-  one-line refusal.Accepted refusal.Memory p q = absurd (q (p .0))
-  one-line refusal.Accepted refusal.Area p q = absurd (q .1 (p .1))
-  one-line refusal.Accepted refusal.Overlong p q = absurd (q .2 (p .2))
-  one-line refusal.Accepted refusal.Foreign p q = absurd (q .3 (p .3))
-  one-line refusal.Accepted refusal.Accepted p q = refl
-
-  -- the number that a call gives, and the line of the table that gives it
-  record Given (x : Called) : Type 0 where
-    which : Refusal
-    given : number (x .answer) ≡ refusalNumber which
-    line : Lowest S L F R which
-
-  -- so the number and the line say the same
-  exactly : (x : Called) → Given x → (r : Refusal)
-      → (number (x .answer) ≡ refusalNumber r → Lowest S L F R r) × (Lowest S L F R r → number (x .answer) ≡ refusalNumber r)
-  exactly x g r = (
-    (λ e. subst (λ (q : Refusal). Lowest S L F R q) (one-number (g .which) r (sym (g .given) ∙ e)) (g .line)),
-    (λ l. g .given ∙ ap refusalNumber (one-line (g .which) r (g .line) l)),
-  )
-
--- ---- what a call that takes all four gives
-
-refused-number : (r : Refusal) (a : Areas) → number (refused r a .answer) ≡ refusalNumber r
-refused-number r a = told-number (refusedAnswer r)
+-- ---- the number that a call gives is that of the first row that is wrong
 
 kept-number : (x : Ran) → x .outcome .answer .number ≡ refusal.Accepted → number (onBytes x .answer) ≡ 0
 kept-number x e = told-number (x .outcome .answer) ∙ ap refusalNumber e
-
-abbrev GivenBy : Areas → List ℕ → Called → Type 0
-GivenBy a f x =
-    Given (Allowed (length (a .memory))) ((length (a .kept) ≡ recordSize) × AreasRight a) (length f ≤ longest) ((d : Device) × Holds (a .kept) d) x
 
 -- every run of the chip gives number 0
 abbrev Accepts : (World → Ran) → Type 0
 Accepts run = (w : World) → run w .outcome .answer .number ≡ refusal.Accepted
 
-module _ (a : Areas) (f : List ℕ) (run : World → Ran) (k : Bytes (a .kept)) (n : Accepts run) where
-  given-record : (x : Found) → decodeOf (a .kept) ≡ x → sizeAllowed (length (a .memory)) ≡ true → areasRight a ≡ true
-      → leb (length f) longest ≡ true
-      → GivenBy a f (calledBy (refusalOf a f) run a)
-  given-record (is.Units u) e s r l =
-      let d = deviceAt (a .kept) u in
-      let z = lengths-right a r in
-      record {
-        which = refusal.Accepted;
-        given =
-            ap (λ (x : Called). number (x .answer)) (accepted a f run u s r l e)
-            ∙ kept-number (run (worldOf d (a .memory) (a .holding) (a .outgoing))) (n (worldOf d (a .memory) (a .holding) (a .outgoing)));
-        line = (allowed (length (a .memory)) s, z, leb-true _ _ l, (d, holds-of (a .kept) (z .0) k u e));
-      }
-  given-record is.Foreign e s r l =
-      record {
-        which = refusal.Foreign;
-        given = ap (λ (x : Called). number (x .answer)) (no-image a f run s r l e) ∙ refused-number refusal.Foreign a;
-        line = (allowed (length (a .memory)) s, lengths-right a r, leb-true _ _ l, foreign-holds (a .kept) e);
-      }
+module _ (a : Areas) (f : List ℕ) (run : World → Ran) (n : Accepts run) where
+  number-on : (x : Found) → isImage x ≡ true → number (calledOn run a x .answer) ≡ 0
+  number-on (is.Units u) e =
+      let w = worldOf (deviceAt (a .kept) u) (a .memory) (a .holding) (a .outgoing) in kept-number (run w) (n w)
+  number-on is.Foreign e = absurd (false≢true e)
 
-  given-frame : (x : Bool) → leb (length f) longest ≡ x → sizeAllowed (length (a .memory)) ≡ true → areasRight a ≡ true
-      → GivenBy a f (calledBy (refusalOf a f) run a)
-  given-frame true l s r = given-record (decodeOf (a .kept)) refl s r l
-  given-frame false l s r =
-      record {
-        which = refusal.Overlong;
-        given = ap (λ (x : Called). number (x .answer)) (too-long a f run s r l) ∙ refused-number refusal.Overlong a;
-        line = (allowed (length (a .memory)) s, lengths-right a r, λ h. true≢false (sym (le-leb _ _ h) ∙ l));
-      }
+  number-by : (x : Bool) → eqb (refusalNumber (refusalOf a f)) 0 ≡ x
+      → number (cond x (calledOn run a (decodeOf (a .kept))) (refused (refusalOf a f) a) .answer) ≡ refusalNumber (refusalOf a f)
+  number-by true e =
+      let z = eqb-true (refusalNumber (refusalOf a f)) 0 e in number-on (decodeOf (a .kept)) (unrefused a f z .1) ∙ sym z
+  number-by false e = told-number (refusedAnswer (refusalOf a f))
 
-  given-areas : (x : Bool) → areasRight a ≡ x → sizeAllowed (length (a .memory)) ≡ true → GivenBy a f (calledBy (refusalOf a f) run a)
-  given-areas true r s = given-frame (leb (length f) longest) refl s r
-  given-areas false r s =
-      record {
-        which = refusal.Area;
-        given = ap (λ (x : Called). number (x .answer)) (bad-area a f run s r) ∙ refused-number refusal.Area a;
-        line = (allowed (length (a .memory)) s, lengths-wrong a r);
-      }
+  number-of : number (calledBy (refusalOf a f) run a .answer) ≡ refusalNumber (refusalOf a f)
+  number-of = number-by (eqb (refusalNumber (refusalOf a f)) 0) refl
 
-  given-size : (x : Bool) → sizeAllowed (length (a .memory)) ≡ x → GivenBy a f (calledBy (refusalOf a f) run a)
-  given-size true s = given-areas (areasRight a) refl s
-  given-size false s =
-      record {
-        which = refusal.Memory;
-        given = ap (λ (x : Called). number (x .answer)) (bad-size a f run s) ∙ refused-number refusal.Memory a;
-        line = size-right (length (a .memory)) s;
-      }
-
--- ---- reset, which takes the record alone
-
-abbrev GivenAt : List ℕ → Called → Type 0
-GivenAt r x = Given (Unit {0}) ((length r ≡ recordSize) × Unit {0}) (0 ≤ longest) (Unit {0}) x
-
-given-reset-by : (a : Areas) (x : Bool) → eqb (length (a .kept)) recordSize ≡ x → GivenAt (a .kept) (renewedIn a (renewed x (a .kept)))
+number-renewed : (a : Areas) (x : Bool) → number (renewed (cond x refusal.Accepted refusal.Record) (a .kept) .answer) ≡ refusalNumber (cond x refusal.Accepted refusal.Record)
 unfolding resetOf
-given-reset-by a true e =
-    record { which = refusal.Accepted; given = told-number (resetOf .answer); line = (tt, (eqb-true _ _ e, tt), omega arith, tt) }
-given-reset-by a false e =
-    record { which = refusal.Area; given = told-number (refusedAnswer refusal.Area); line = (tt, λ h. eqb-false _ _ e (h .0)) }
+number-renewed a true = told-number (resetOf .answer)
+number-renewed a false = told-number (refusedAnswer refusal.Record)
 
-given-reset : (a : Areas) → GivenAt (a .kept) (renewedIn a (resetCall (a .kept)))
-unfolding resetCall
-given-reset a = given-reset-by a (eqb (length (a .kept)) recordSize) refl
+abbrev firstOf : Call → Areas → Refusal
+firstOf c a = firstWrong (isRight (lengthsOf a (arriving c)) (isImage (decodeOf (a .kept)))) (rowsOf c)
+
+given : (c : Call) (a : Areas) → number (called c a .answer) ≡ refusalNumber (firstOf c a)
+unfolding attentionCall arrivalCall turnCall resetCall refusalOf
+given reset a = number-renewed a (eqb (length (a .kept)) recordSize)
+given attention a = number-of a [] attentionOf (number-accepted attention)
+given (arrive f v) a = number-of a f (λ w. arrivalOf w f v) (number-accepted (arrive f v))
+given (turn report) a = number-of a [] (λ w. turnOf w report) (number-accepted (turn report))
 
 -- ---- demand 1: each number is given exactly when document 01's table says, at every call
 
-given : (c : Call) (a : Areas) → Bytes (a .kept) → Given (SizeRight c a) (LengthsRight c a) (FrameRight c) (RecordRight c a) (called c a)
-unfolding attentionCall arrivalCall turnCall
-given reset a k = given-reset a
-given attention a k = given-size a [] attentionOf k (number-accepted attention) (sizeAllowed (length (a .memory))) refl
-given (arrive f v) a k = given-size a f (λ w. arrivalOf w f v) k (number-accepted (arrive f v)) (sizeAllowed (length (a .memory))) refl
-given (turn report) a k = given-size a [] (λ w. turnOf w report) k (number-accepted (turn report)) (sizeAllowed (length (a .memory))) refl
+-- both ways: a number that is given is the lowest that applies, and the lowest that applies is given
+pub table : (c : Call) (a : Areas) → Bytes (a .kept) → (n : ℕ)
+    → (number (called c a .answer) ≡ n → When n c a) × (When n c a → number (called c a .answer) ≡ n)
+table c a k n =
+    let test = isRight (lengthsOf a (arriving c)) (isImage (decodeOf (a .kept))) in (
+      (λ e. subst (λ (m : ℕ). When m c a) (sym (given c a) ∙ e) (lowest test (Right c a) (decides c a k) (rowsOf c))),
+      (λ l. given c a ∙ lowest-only test (Right c a) (decides c a k) (rowsOf c) n l),
+    )
 
--- both ways: where the number is given its line applies, and where a line applies its number is given
-pub table : (c : Call) (a : Areas) → Bytes (a .kept) → (r : Refusal)
-    → (number (called c a .answer) ≡ refusalNumber r → When r c a) × (When r c a → number (called c a .answer) ≡ refusalNumber r)
-table c a k r = exactly (SizeRight c a) (LengthsRight c a) (FrameRight c) (RecordRight c a) (called c a) (given c a k) r
+-- ---- a call that is not refused
 
--- and at every call one of the lines applies: no other number is given
-pub some-line : (c : Call) (a : Areas) → Bytes (a .kept) → (r : Refusal) × (number (called c a .answer) ≡ refusalNumber r)
-some-line c a k = let g = given c a k in (g .which, g .given)
+-- what is lent with one that takes all four
+pub record AllRight (c : Call) (a : Areas) : Type 0 where
+  pub size : Allowed (length (a .memory))
+  pub kept : length (a .kept) ≡ recordSize
+  pub holding : length (a .holding) ≡ holdingSize
+  pub outgoing : length (a .outgoing) ≡ outgoingSize
+  pub frame : FrameRight c
+  pub image : (d : Device) × Holds (a .kept) d
+
+abbrev pub Unrefused : Call → Areas → Type 0
+Unrefused reset a = length (a .kept) ≡ recordSize
+Unrefused attention a = AllRight attention a
+Unrefused (arrive f v) a = AllRight (arrive f v) a
+Unrefused (turn report) a = AllRight (turn report) a
+
+-- a row's condition, if no number is given, and what is asked after it
+right : (P : Type 0) (k : ℕ) (Rest : Type 0) → 0 < k → ((P → ⊥) × (0 ≡ k)) ⊎ (P × Rest) → P × Rest
+right P k Rest z (inl (wrong, q)) = absurd (omega (arith, z, q))
+right P k Rest z (inr x) = x
+
+all-right : (c : Call) (a : Areas) → Lowest (Right c a) rows 0 → AllRight c a
+all-right c a l =
+    let m = right (Right c a refusal.Memory) 1 _ (omega arith) l in
+    let k = right (Right c a refusal.Record) 2 _ (omega arith) (m .1) in
+    let h = right (Right c a refusal.Holding) 2 _ (omega arith) (k .1) in
+    let o = right (Right c a refusal.Outgoing) 2 _ (omega arith) (h .1) in
+    let f = right (Right c a refusal.Overlong) 3 _ (omega arith) (o .1) in
+    let i = right (Right c a refusal.Foreign) 4 _ (omega arith) (f .1) in
+    record { size = m .0; kept = k .0; holding = h .0; outgoing = o .0; frame = f .0; image = i .0 }
+
+pub none-given : (c : Call) (a : Areas) → When 0 c a → Unrefused c a
+none-given reset a l = right (Right reset a refusal.Record) 2 _ (omega arith) l .0
+none-given attention a l = all-right attention a l
+none-given (arrive f v) a l = all-right (arrive f v) a l
+none-given (turn report) a l = all-right (turn report) a l
+
+none-wrong : (c : Call) (a : Areas) → AllRight c a → Lowest (Right c a) rows 0
+none-wrong c a r = inr (r .size, inr (r .kept, inr (r .holding, inr (r .outgoing, inr (r .frame, inr (r .image, refl))))))
+
+pub gives-none : (c : Call) (a : Areas) → Unrefused c a → When 0 c a
+gives-none reset a r = inr (r, refl)
+gives-none attention a r = none-wrong attention a r
+gives-none (arrive f v) a r = none-wrong (arrive f v) a r
+gives-none (turn report) a r = none-wrong (turn report) a r
 
 -- ---- demand 1: a refusal changes no lent byte, and gives length 0 and no edge
 
 refused-untouched : (r : Refusal) (a : Areas) → Untouched a (refused r a)
 refused-untouched r a =
-    record { areas = refl; length = told-length (refusedAnswer r) (omega arith); edge = told-edge (refusedAnswer r) (omega arith) }
+    let t = told-alone (refusedAnswer r) (omega arith) in
+    record {
+      areas = refl;
+      length = t .sent;
+      edge = t .edged;
+      whole = told-whole (refusedAnswer r) refl refl ∙ sym (told-number (refusedAnswer r));
+    }
 
 not-zero : (x : ℕ) → x ≡ 0 → not (eqb x 0) ≡ true → ⊥
 not-zero x e h = false≢true (sym (ap not (eq-eqb x 0 e)) ∙ h)
@@ -278,22 +223,24 @@ module _ (a : Areas) (run : World → Ran) (n : Accepts run) where
       absurd (not-zero (number (onBytes (run w) .answer)) (kept-number (run w) (n w)) h)
   on-untouched is.Foreign h = refused-untouched refusal.Foreign a
 
-  by-untouched : (r : Refusal) → isRefused (calledBy r run a) ≡ true → Untouched a (calledBy r run a)
-  by-untouched refusal.Accepted h = on-untouched (decodeOf (a .kept)) h
-  by-untouched refusal.Memory h = refused-untouched refusal.Memory a
-  by-untouched refusal.Area h = refused-untouched refusal.Area a
-  by-untouched refusal.Overlong h = refused-untouched refusal.Overlong a
-  by-untouched refusal.Foreign h = refused-untouched refusal.Foreign a
+  by-untouched : (x : Bool) (r : Refusal) → isRefused (cond x (calledOn run a (decodeOf (a .kept))) (refused r a)) ≡ true
+      → Untouched a (cond x (calledOn run a (decodeOf (a .kept))) (refused r a))
+  by-untouched true r h = on-untouched (decodeOf (a .kept)) h
+  by-untouched false r h = refused-untouched r a
 
-reset-untouched : (a : Areas) (x : Bool) → isRefused (renewedIn a (renewed x (a .kept))) ≡ true → Untouched a (renewedIn a (renewed x (a .kept)))
+  run-untouched : (r : Refusal) → isRefused (calledBy r run a) ≡ true → Untouched a (calledBy r run a)
+  run-untouched r h = by-untouched (eqb (refusalNumber r) 0) r h
+
+reset-untouched : (a : Areas) (x : Bool) → let r = cond x refusal.Accepted refusal.Record in
+    isRefused (renewedIn a (renewed r (a .kept))) ≡ true → Untouched a (renewedIn a (renewed r (a .kept)))
 unfolding resetOf
 reset-untouched a true h = absurd (not-zero (number (answerNumber (resetOf .answer))) (told-number (resetOf .answer)) h)
 reset-untouched a false h =
-    let x = refused-untouched refusal.Area a in record { areas = refl; length = x .length; edge = x .edge }
+    let x = refused-untouched refusal.Record a in record { areas = refl; length = x .length; edge = x .edge; whole = x .whole }
 
 pub untouched : (c : Call) (a : Areas) → isRefused (called c a) ≡ true → Untouched a (called c a)
 unfolding attentionCall arrivalCall turnCall resetCall
 untouched reset a h = reset-untouched a (eqb (length (a .kept)) recordSize) h
-untouched attention a h = by-untouched a attentionOf (number-accepted attention) (refusalOf a []) h
-untouched (arrive f v) a h = by-untouched a (λ w. arrivalOf w f v) (number-accepted (arrive f v)) (refusalOf a f) h
-untouched (turn report) a h = by-untouched a (λ w. turnOf w report) (number-accepted (turn report)) (refusalOf a []) h
+untouched attention a h = run-untouched a attentionOf (number-accepted attention) (refusalOf a []) h
+untouched (arrive f v) a h = run-untouched a (λ w. arrivalOf w f v) (number-accepted (arrive f v)) (refusalOf a f) h
+untouched (turn report) a h = run-untouched a (λ w. turnOf w report) (number-accepted (turn report)) (refusalOf a []) h

@@ -1,21 +1,18 @@
 -- A run of turns is refused as a turn is; else it leaves what so many turns in a row leave, with the last one's answer, and how many is exactly
 -- said. Assumes nothing.
 use mathlib.Core.Path.{_≡_, refl, sym, ap, _∙_, subst}
-use mathlib.Core.Bool.{Bool, true, false, not, false≢true}
+use mathlib.Core.Bool.{Bool, true, false, not, cond, false≢true}
 use mathlib.Core.List.{[]}
 use mathlib.Core.Logic.{_⊎_, inl, inr, ⊎-elim}
-use Prim.Native.Nat.{ℕ, zero, suc, _+_, _*_, _%_, _≤_, _<_}
+use Prim.Native.Nat.{ℕ, zero, suc, _≤_, _<_}
 use native.Mathlib.Omega.{arith}
 use borrow.Author.Tests.{eq-eqb}
 use lib.Dec.{eqb}
-use lib.ListN.{length}
 use Rattle.memory.specs.Size.{Allowed}
 use Rattle.memory.proofs.Bytes.{Bytes, bytes-nil}
-use Rattle.memory.proofs.Power.{size-allowed}
-use Rattle.scb.specs.Words.{one}
+use Rattle.scb.specs.Words.{bitsAt, one}
 use Rattle.device.specs.Answers.{answered}
 use Rattle.device.specs.Numbers.{refusalNumber}
-use Rattle.device.specs.declared.Answer.{Answer}
 use Rattle.device.specs.declared.Device.{Device}
 use Rattle.device.specs.declared.Refusal.{Refusal}
 use Rattle.device.specs.declared.Refusal.the-variants as refusal
@@ -30,18 +27,19 @@ use Rattle.chip.specs.Call.{turn}
 use Rattle.chip.proofs.Moves.{unchanged-stops}
 use Rattle.chip.proofs.Run.{Cause, going-quiet, sent-stops, edge-stops, stops-cause}
 use Rattle.chip.proofs.Run as cause
-use Rattle.calls.specs.Calls.{Areas, areasOf, Called, answerNumber, refusalOf, onBytes, decodedOn, unlessRefused, calledOn, calledBy, runOnBytes, turnCall, runCall}
-use Rattle.calls.proofs.Laws as laws
-use Rattle.traces.specs.Bytes.{number, edge, isRefused, turnsTaken, withoutTurns}
-use Rattle.closure.specs.Sound.{Sound}
+use Rattle.calls.specs.Answer.{turnsTaken, withoutTurns}
+use Rattle.calls.specs.Calls.{Areas, areasOf, Called, answerNumber, refusalOf, refused, onBytes, decodedOn, calledOn, runOnBytes, turnCall, runCall}
+use Rattle.calls.proofs.Answer.{told, told-number, told-number-of-run}
+use Rattle.traces.specs.Bytes.{number, edge, isRefused}
 use Rattle.traces.specs.Areas.{AreBytes, Holds, worldIn, Shows}
-use Rattle.closure.specs.Refusals.{AreasRight, Untouched, When}
+use Rattle.closure.specs.Sound.{Sound}
+use Rattle.closure.specs.Refusals.{Untouched}
 use Rattle.closure.specs.Carried.{Parts}
 use Rattle.closure.specs.Turns.{turnsOn, lastAnswer, Ends, sent, edged, workless, AsTurns}
 use Rattle.closure.proofs.Closed.{closed}
 use Rattle.closure.proofs.Answers.{number-accepted, sent-most}
-use Rattle.closure.proofs.Refusals.{refusal-below, told-number, right-lengths, table, untouched}
-use Rattle.closure.proofs.Carried.{holds-decoded, holds-back, holds-length, not-refused, lent-kept, areas-as-long, answer-parts}
+use Rattle.closure.proofs.Refusals.{table, AllRight, gives-none, untouched}
+use Rattle.closure.proofs.Carried.{not-refused, same-by, lent-kept, areas-as-long, answer-parts}
 use Rattle.closure.proofs.Runs.{shows-world, carry-shown}
 
 -- ---- what a run answers on states
@@ -72,31 +70,10 @@ run-length (suc n) w report s =
     length-by (stopsAt w report) (turnOf w report) (runOf n (afterwards (turnOf w report)) report) (sent-most (turn report) w s)
     (run-length n (afterwards (turnOf w report)) report (closed (turn report) w bytes-nil s))
 
--- ---- the answer as one number, taken apart
-
-low-part : (p t : ℕ) → (p + t * 281474976710656) % 65536 ≡ p % 65536
-low-part p t =
-    let d : p + t * 281474976710656 ≡ p + 65536 * (t * 4294967296) = omega arith in
-    rw d (omega arith)
-
-one-below : (b : Bool) → one b < 2
-one-below true = omega arith
-one-below false = omega arith
-
-answerNumber-below : (x : Answer) → x .length ≤ 2048 → answerNumber x < 281474976710656
-unfolding answerNumber
-answerNumber-below x l = omega (arith, one-below (x .edge), refusal-below (x .number))
-
-count-of : (p t : ℕ) → p < 281474976710656 → turnsTaken (p + t * 281474976710656) ≡ t
-count-of p t l = omega arith
-
-rest-of : (p t : ℕ) → p < 281474976710656 → withoutTurns (p + t * 281474976710656) ≡ p
-rest-of p t l = omega arith
-
 -- ---- refusals: those of a turn
 
 kept-number : (r : Run) → r .answer .number ≡ refusal.Accepted → number (runOnBytes r .answer) ≡ 0
-kept-number r e = low-part (answerNumber (r .answer)) (r .taken) ∙ told-number (r .answer) ∙ ap refusalNumber e
+kept-number r e = told-number-of-run (r .answer) (r .taken) ∙ ap refusalNumber e
 
 turned-number : (r : Ran) → r .outcome .answer .number ≡ refusal.Accepted → number (onBytes r .answer) ≡ 0
 turned-number r e = told-number (r .outcome .answer) ∙ ap refusalNumber e
@@ -113,16 +90,15 @@ module _ (a : Areas) (report budget : ℕ) where
       both-taken (kept-number (runOf budget w report) (run-number budget w report)) (turned-number (turnOf w report) (number-accepted (turn report) w))
   like-on is.Foreign = both-refused refl
 
-  like-by : (r : Refusal) → Like (unlessRefused r (λ w. runOnBytes (runOf budget w report)) a) (calledBy r (λ w. turnOf w report) a)
-  like-by refusal.Accepted = like-on (decodeOf (a .kept))
-  like-by refusal.Memory = both-refused refl
-  like-by refusal.Area = both-refused refl
-  like-by refusal.Overlong = both-refused refl
-  like-by refusal.Foreign = both-refused refl
+  like-by : (x : Bool) (r : Refusal)
+      → Like (cond x (decodedOn (λ w. runOnBytes (runOf budget w report)) a (decodeOf (a .kept))) (refused r a))
+      (cond x (calledOn (λ w. turnOf w report) a (decodeOf (a .kept))) (refused r a))
+  like-by true r = like-on (decodeOf (a .kept))
+  like-by false r = both-refused refl
 
   like : Like (runCall a report budget) (turnCall a report)
   unfolding runCall turnCall
-  like = like-by (refusalOf a [])
+  like = like-by (eqb (refusalNumber (refusalOf a [])) 0) (refusalOf a [])
 
 same-number : (x y : Called) → Like x y → number (x .answer) ≡ number (y .answer)
 same-number x y (both-refused e) = ap (λ (c : Called). number (c .answer)) e
@@ -172,16 +148,18 @@ next-accepted a w report l s e =
     let x = not-refused (turn report) a (l .kept) e in
     let long = areas-as-long (turn report) a bytes-nil l in
     let v = carry-shown (turn report) a w bytes-nil l s e .0 in
-    let z : When refusal.Accepted (turn report) b = (
-      subst Allowed (sym (long .memory)) (x .0),
-      (
-        long .kept ∙ x .1 .0,
-        record { holding = long .holding ∙ x .1 .1 .holding; outgoing = long .outgoing ∙ x .1 .1 .outgoing },
-      ),
-      x .2,
-      (turnOf w report .outcome .device, v .kept),
-    ) in
-    ap not (eq-eqb (number (turnCall b report .answer)) 0 (table (turn report) b (lent-kept (turn report) a bytes-nil l .kept) refusal.Accepted .1 z))
+    let z : AllRight (turn report) b =
+    record {
+      size = subst Allowed (sym (long .memory)) (x .size);
+      kept = long .kept ∙ x .kept;
+      holding = long .holding ∙ x .holding;
+      outgoing = long .outgoing ∙ x .outgoing;
+      frame = x .frame;
+      image = (turnOf w report .outcome .device, v .kept);
+    }
+    in
+    ap not (eq-eqb (number (turnCall b report .answer)) 0
+    (table (turn report) b (lent-kept (turn report) a bytes-nil l .kept) 0 .1 (gives-none (turn report) b z)))
 
 parts-shown : (a : Areas) (w : World) (report : ℕ) → AreBytes a → Shows a w → isRefused (turnCall a report) ≡ false
     → Parts (turnCall a report .answer) (turnOf w report .outcome .answer)
@@ -285,18 +263,16 @@ took (suc n) a w report l s e =
 
 -- ---- a run on the areas
 
-run-same : (a : Areas) (d : Device) (report budget : ℕ) → Holds (a .kept) d → Allowed (length (a .memory)) → AreasRight a
+run-same : (a : Areas) (d : Device) (report budget : ℕ) → Holds (a .kept) d → AllRight (turn report) a
     → runCall a report budget ≡ runOnBytes (runOf budget (worldIn d a) report)
-run-same a d report budget h s r =
-    laws.run-kept a report budget (d .units) (size-allowed (length (a .memory)) s) (right-lengths a (holds-length (a .kept) d h) r)
-    (holds-decoded (a .kept) d h)
-    ∙ ap (λ (x : Device). runOnBytes (runOf budget (worldIn x a) report)) (holds-back (a .kept) d h)
+unfolding runCall
+run-same a d report budget h r = same-by (turn report) a (λ w. runOnBytes (runOf budget w report)) d h r
 
 as-turns : (a : Areas) (report budget : ℕ) (r : Run) → Took budget a report r → r .answer .length ≤ 2048 → AsTurns a report budget (runOnBytes r)
 as-turns a report budget r t l =
-    let b = answerNumber-below (r .answer) l in
-    let k : turnsTaken (runOnBytes r .answer) ≡ r .taken = count-of (answerNumber (r .answer)) (r .taken) b in
-    let p : withoutTurns (runOnBytes r .answer) ≡ answerNumber (r .answer) = rest-of (answerNumber (r .answer)) (r .taken) b in
+    let q = told (r .answer) (r .taken) (omega (arith, l)) in
+    let k : turnsTaken (runOnBytes r .answer) ≡ r .taken = q .taken in
+    let p : withoutTurns (runOnBytes r .answer) ≡ answerNumber (r .answer) = q .last in
     record {
       areas = t .areas ∙ ap (λ (n : ℕ). turnsOn n a report) (sym k);
       answer = p ∙ t .answer ∙ ap (λ (n : ℕ). lastAnswer n a report) (sym k);
@@ -313,16 +289,17 @@ pub run-is-turns : (a : Areas) (report budget : ℕ) → AreBytes a → isRefuse
 run-is-turns a report budget l e =
     let t : isRefused (turnCall a report) ≡ false = sym (run-refused-as a report budget) ∙ e in
     let x = not-refused (turn report) a (l .kept) t in
-    let d = x .3 .0 in
+    let d = x .image .0 in
     let w = worldIn d a in
-    let s : Shows a w = record { memory = refl; holding = refl; outgoing = refl; kept = x .3 .1 } in
-    subst (λ (c : Called). AsTurns a report budget c) (sym (run-same a d report budget (x .3 .1) (x .0) (x .1 .1)))
+    let s : Shows a w = record { memory = refl; holding = refl; outgoing = refl; kept = x .image .1 } in
+    subst (λ (c : Called). AsTurns a report budget c) (sym (run-same a d report budget (x .image .1) x))
     (as-turns a report budget (runOf budget w report) (took budget a w report l s t) (run-length budget w report (shown-sound a w l s)))
 
 -- ---- what that settles
 
 -- budget 0 takes no turn: answer 0, nothing changed
 pub run-none : (a : Areas) (report : ℕ) → AreBytes a → isRefused (runCall a report 0) ≡ false → runCall a report 0 ≡ record { answer = 0; areas = a }
+unfolding bitsAt
 run-none a report l e =
     let r = runCall a report 0 in
     let t = run-is-turns a report 0 l e in
@@ -340,6 +317,7 @@ same-count a report budget x y s t l =
     (λ (e : (j : ℕ) × (turnsTaken (x .answer) ≡ suc j) × Ends (turnsOn j a report) report). t .going (e .0) (omega (arith, l, e .1)) (e .2)) (s .ended)
 
 pub one-run : (a : Areas) (report budget : ℕ) (x y : Called) → AsTurns a report budget x → AsTurns a report budget y → x ≡ y
+unfolding bitsAt
 one-run a report budget x y s t =
     let k : turnsTaken (x .answer) ≡ turnsTaken (y .answer) =
     omega (arith, same-count a report budget x y s t, same-count a report budget y x t s) in
@@ -352,7 +330,8 @@ one-run a report budget x y s t =
 
 taken-by : (x : Bool) (a : Areas) (report budget k : ℕ) → isRefused (runCall a report budget) ≡ x
     → turnsTaken (runCall a report budget .answer) ≡ suc k → x ≡ false
-taken-by true a report budget k e t = absurd (omega (arith, t, run-untouched a report budget e .edge))
+unfolding bitsAt
+taken-by true a report budget k e t = absurd (omega (arith, t, run-untouched a report budget e .whole))
 taken-by false a report budget k e t = refl
 
 -- a run that took a turn was not refused, nor is a turn there
@@ -366,7 +345,7 @@ pub turn-again : (a : Areas) (report : ℕ) → AreBytes a → isRefused (turnCa
     → isRefused (turnCall (turnCall a report .areas) report) ≡ false
 turn-again a report l e =
     let x = not-refused (turn report) a (l .kept) e in
-    next-accepted a (worldIn (x .3 .0) a) report l (record { memory = refl; holding = refl; outgoing = refl; kept = x .3 .1 }) e
+    next-accepted a (worldIn (x .image .0) a) report l (record { memory = refl; holding = refl; outgoing = refl; kept = x .image .1 }) e
 
 -- and where a turn is not refused, neither is a run
 pub run-accepted : (a : Areas) (report budget : ℕ) → isRefused (turnCall a report) ≡ false → isRefused (runCall a report budget) ≡ false
@@ -392,10 +371,10 @@ pub run-again : (a : Areas) (report budget : ℕ) → AreBytes a → isRefused (
     → (d : Device) × Holds (runCall a report budget .areas .kept) d
 run-again a report budget l e =
     let x = not-refused (turn report) a (l .kept) (sym (run-refused-as a report budget) ∙ e) in
-    let w = worldIn (x .3 .0) a in
-    let s : Shows a w = record { memory = refl; holding = refl; outgoing = refl; kept = x .3 .1 } in
+    let w = worldIn (x .image .0) a in
+    let s : Shows a w = record { memory = refl; holding = refl; outgoing = refl; kept = x .image .1 } in
     let g = run-closed budget w report (shown-sound a w l s) in
-    let same = run-same a (x .3 .0) report budget (x .3 .1) (x .0) (x .1 .1) in
+    let same = run-same a (x .image .0) report budget (x .image .1) x in
     (runOf budget w report .world .device, record { wide = g .wide; range = g .range; image = ap (λ (c : Called). c .areas .kept) same })
 
 turns-lent : (k : ℕ) (a : Areas) (report : ℕ) → AreBytes a → AreBytes (turnsOn k a report)

@@ -2,8 +2,8 @@
 use mathlib.Core.Path.{_≡_}
 use mathlib.Core.Logic.{_⊎_}
 use Prim.Native.Nat.{ℕ, zero, suc, _≤_, _<_}
+use Rattle.calls.specs.Answer.{sentLength, edge, turnsTaken, withoutTurns}
 use Rattle.calls.specs.Calls.{Areas, Called, turnCall}
-use Rattle.traces.specs.Bytes.{sentLength, edge, turnsTaken, withoutTurns}
 
 -- ---- turns in a row, each on what the one before left
 

@@ -1,10 +1,12 @@
 -- What is asked, as the call that C makes: each is one of `askedCall`. Assumes nothing.
 use mathlib.Core.Path.{_≡_, refl, ap, _∙_}
+use mathlib.Core.Bool.{cond}
 use mathlib.Core.List.{List, []}
-use Prim.Native.Nat.{ℕ, _+_, _*_, _<_}
+use Prim.Native.Nat.{ℕ, _+_, _*_, _^_, _<_}
+use lib.Dec.{eqb}
 use native.Mathlib.Omega.{arith}
+use Rattle.device.specs.Numbers.{refusalNumber}
 use Rattle.device.specs.declared.Refusal.{Refusal}
-use Rattle.device.specs.declared.Refusal.the-variants as refusal
 use Rattle.image.specs.Image.{decodeOf, deviceAt}
 use Rattle.image.specs.Found.{Found}
 use Rattle.image.specs.Found as is
@@ -12,7 +14,7 @@ use Rattle.chip.specs.World.{World, worldOf}
 use Rattle.chip.specs.Turn.{turnOf}
 use Rattle.chip.specs.Run.{runOf}
 use Rattle.chip.proofs.Run.{run-one}
-use Rattle.calls.specs.Calls.{Areas, Called, Calls, refusalOf, onBytes, decodedOn, unlessRefused, runOnBytes, attentionCall, arrivalCall, turnCall, runCall, answerNumber}
+use Rattle.calls.specs.Calls.{Areas, Called, Calls, refusalOf, refused, onBytes, decodedOn, unlessRefused, runOnBytes, attentionCall, arrivalCall, turnCall, runCall, answerNumber}
 use Rattle.code_calls.specs.declared.Asked.the-variants as asked
 use Rattle.code_calls.specs.Inner.{keptTurns, askedCall}
 
@@ -28,7 +30,7 @@ pub asks-arrival : (a : Areas) (f : List ℕ) (v : ℕ) → askedCall asked.Arri
 unfolding askedCall arrivalCall
 asks-arrival a f v = refl
 
-pub asks-run : (a : Areas) (report budget : ℕ) → report < 65536 → askedCall asked.Turns a [] report budget 281474976710656 ≡ runCall a report budget
+pub asks-run : (a : Areas) (report budget : ℕ) → report < 65536 → askedCall asked.Turns a [] report budget (2 ^ 48) ≡ runCall a report budget
 unfolding askedCall runCall
 asks-run a report budget h = ap (λ (x : ℕ). unlessRefused (refusalOf a []) (λ w. runOnBytes (runOf budget w x)) a) (omega arith)
 
@@ -42,11 +44,7 @@ one-on (is.Units u) a report = one-kept (worldOf (deviceAt (a .kept) u) (a .memo
 one-on is.Foreign a report = refl
 
 one-by : (r : Refusal) (a : Areas) (report : ℕ) → unlessRefused r (λ w. keptTurns 0 (runOf 1 w report)) a ≡ unlessRefused r (λ w. onBytes (turnOf w report)) a
-one-by refusal.Accepted a report = one-on (decodeOf (a .kept)) a report
-one-by refusal.Memory a report = refl
-one-by refusal.Area a report = refl
-one-by refusal.Overlong a report = refl
-one-by refusal.Foreign a report = refl
+one-by r a report = ap (λ (x : Called). cond (eqb (refusalNumber r) 0) x (refused r a)) (one-on (decodeOf (a .kept)) a report)
 
 -- a run of one turn, uncounted, is a turn
 pub asks-turn : (a : Areas) (report : ℕ) → report < 65536 → askedCall asked.Turns a [] report 1 0 ≡ turnCall a report

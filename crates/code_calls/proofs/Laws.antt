@@ -1,17 +1,13 @@
 -- What the inner functions come to: a call whatever is asked, and the record that numbers go back to. Assumes nothing.
 use mathlib.Core.Path.{_≡_, refl, sym, ap, subst, _∙_}
-use mathlib.Core.Bool.{Bool, true, false, _&&_}
+use mathlib.Core.Bool.{Bool, true, false}
 use mathlib.Core.List.{List, [], _++_}
 use Prim.Native.Nat.{ℕ, zero, suc, _+_, _*_, _<_}
 use native.Mathlib.Omega.{arith}
-use borrow.Author.Tests.{eqb-true}
-use lib.Dec.{eqb, leb}
 use lib.ListN.{length, take, drop, replicate, take-append-drop}
-use Rattle.memory.specs.Size.{sizeAllowed}
 use Rattle.memory.proofs.Bytes.{Bytes}
 use Rattle.device.specs.Numbers.{refusalNumber}
 use Rattle.device.specs.declared.Answer.{Answer}
-use Rattle.device.specs.Limits.{recordSize, longest}
 use Rattle.device.specs.declared.Device.{Device}
 use Rattle.device.specs.declared.Refusal.{Refusal}
 use Rattle.device.specs.declared.Refusal.the-variants as refusal
@@ -24,7 +20,6 @@ use Rattle.code_attention.proofs.States.{setup-length}
 use Rattle.code_chip.specs.Does.{DeviceIs, toldOf}
 use Rattle.image.specs.Image.{front, unitBytes, imageOf, decodeOf, deviceFrom, deviceAt, storedUnits}
 use Rattle.image.proofs.Lent.{its-image, its-numbers, its-setup, setup-lent, setup-returned, first-part}
-use Rattle.image.specs.Found.{Found}
 use Rattle.image.specs.Found as is
 use Rattle.chip.specs.World.{World, Ran, worldOf, afterwards}
 use Rattle.chip.specs.Attention.{attentionOf}
@@ -34,62 +29,37 @@ use Rattle.chip.specs.Run.{Run, stopsAt, continued, runOf}
 use Rattle.chip.proofs.Run.{run-one}
 use Rattle.code_chip.proofs.Loop.{holding-kept}
 use Rattle.code_calls.proofs.Answers.{Plain, run-plain}
-use Rattle.calls.specs.Calls.{Areas, Called, Calls, areasRight, refusedBy, isImage, refusalOf, refused, onBytes, decodedOn, unlessRefused, calledBy, runOnBytes, attentionCall, arrivalCall, turnCall, runCall, answerNumber}
+use Rattle.calls.specs.Calls.{Areas, isImage, lengthsOf, refusalOf, refused, unlessRefused, answerNumber}
+use Rattle.calls.proofs.Rows.{LengthsRight, rows-right, by-length}
+use Rattle.calls.proofs.Laws.{refuses, no-image, accepted}
 use Rattle.code_calls.specs.declared.Asked.{Asked}
 use Rattle.code_calls.specs.declared.Asked.the-variants as asked
-use Rattle.code_calls.specs.Inner.{Finds, keptTurns, askedOn, askedCall}
+use Rattle.code_calls.specs.Inner.{byLengths, Finds, keptTurns, askedOn, askedCall}
 
 -- ---- a call, whatever is asked
 
--- refused for a length: the record was not looked at
-early : (does : World → Called) (a : Areas) (s l w i : Bool) (r : Refusal) → r ≡ refusedBy s l w true → (refusalNumber r ≡ 0 → ⊥)
-    → unlessRefused (refusedBy s l w i) does a ≡ refused r a
-early does a false l w i r e n = ap (λ (x : Refusal). refused x a) (sym e)
-early does a true false w i r e n = ap (λ (x : Refusal). refused x a) (sym e)
-early does a true true false i r e n = ap (λ (x : Refusal). refused x a) (sym e)
-early does a true true true i r e n = absurd (n (ap refusalNumber e))
-
--- not refused for a length
-pub record LengthsRight (s l w : Bool) : Type 0 where
-  pub size : s ≡ true
-  pub areas : l ≡ true
-  pub frame : w ≡ true
-
-lengths-right : (s l w : Bool) (r : Refusal) → r ≡ refusedBy s l w true → refusalNumber r ≡ 0 → LengthsRight s l w
-lengths-right false l w r e n = let q : refusalNumber r ≡ 1 = ap refusalNumber e in absurd (omega (arith, q, n))
-lengths-right true false w r e n = let q : refusalNumber r ≡ 2 = ap refusalNumber e in absurd (omega (arith, q, n))
-lengths-right true true false r e n = let q : refusalNumber r ≡ 3 = ap refusalNumber e in absurd (omega (arith, q, n))
-lengths-right true true true r e n = record { size = refl; areas = refl; frame = refl }
-
+-- r: what the lengths give
 module _ (x : Asked) (a : Areas) (f : List ℕ) (line budget unit : ℕ) (r : Refusal)
-    (e : r ≡ refusedBy (sizeAllowed (length (a .memory))) (areasRight a) (leb (length f) longest) true) where
+    (e : r ≡ byLengths (length (a .memory)) (length (a .holding)) (length (a .outgoing)) (length (a .kept)) (length f)) where
+  -- refused for a length: the record was not looked at
   pub asked-early : (refusalNumber r ≡ 0 → ⊥) → askedCall x a f line budget unit ≡ refused r a
   unfolding askedCall refusalOf
-  asked-early n = early (askedOn x f line budget unit) a (sizeAllowed (length (a .memory))) (areasRight a) (leb (length f) longest) (isImage (decodeOf (a .kept))) r e n
+  asked-early n =
+      let d : refusalOf a f ≡ r = by-length (lengthsOf a f) (isImage (decodeOf (a .kept))) (λ z. n (ap refusalNumber e ∙ z)) ∙ sym e in
+      ap (λ (y : Refusal). unlessRefused y (askedOn x f line budget unit) a) d ∙ refuses r (askedOn x f line budget unit) a n
 
   module _ (n : refusalNumber r ≡ 0) where
-    pub asked-right : LengthsRight (sizeAllowed (length (a .memory))) (areasRight a) (leb (length f) longest)
-    asked-right = lengths-right (sizeAllowed (length (a .memory))) (areasRight a) (leb (length f) longest) r e n
+    pub asked-right : LengthsRight (lengthsOf a f)
+    asked-right = rows-right (lengthsOf a f) true (sym (ap refusalNumber e) ∙ n) .0
 
     pub asked-foreign : decodeOf (a .kept) ≡ is.Foreign → askedCall x a f line budget unit ≡ refused refusal.Foreign a
-    unfolding askedCall refusalOf
-    asked-foreign d = let h = asked-right in rw (h .size, h .areas, h .frame, d)
+    unfolding askedCall
+    asked-foreign d = no-image a f asked-right (askedOn x f line budget unit) d
 
     pub asked-accepted : (u : Units) → decodeOf (a .kept) ≡ is.Units u
         → askedCall x a f line budget unit ≡ askedOn x f line budget unit (worldOf (deviceAt (a .kept) u) (a .memory) (a .holding) (a .outgoing))
-    unfolding askedCall refusalOf
-    asked-accepted u d = let h = asked-right in rw (h .size, h .areas, h .frame, d, d)
-
--- ---- a record
-
-and-first : (x y z : Bool) → (x && y && z) ≡ true → x ≡ true
-and-first true y z e = refl
-and-first false y z e = e
-
--- a record that is not refused has 256 bytes
-pub record-length : (a : Areas) → areasRight a ≡ true → length (a .kept) ≡ 256
-unfolding areasRight
-record-length a r = eqb-true _ _ (and-first (eqb (length (a .kept)) recordSize) _ _ r)
+    unfolding askedCall
+    asked-accepted u d = accepted a f asked-right (askedOn x f line budget unit) u d
 
 -- ---- numbers that go to a record
 

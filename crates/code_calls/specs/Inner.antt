@@ -1,7 +1,9 @@
 -- The shapes of the contracts of the code's inner functions: a call on a record that is an image. Assumes nothing.
 use mathlib.Core.Path.{_≡_}
+use mathlib.Core.Bool.{true}
 use mathlib.Core.List.{List}
 use Prim.Native.Nat.{ℕ, _+_, _*_, _%_}
+use Rattle.device.specs.declared.Refusal.{Refusal}
 use Rattle.device.specs.declared.Units.{Units}
 use Rattle.packed.specs.Packed.{packedOf}
 use Rattle.packed.specs.declared.Packed.{Packed}
@@ -11,9 +13,15 @@ use Rattle.chip.specs.World.{World, worldOf}
 use Rattle.chip.specs.Attention.{attentionOf}
 use Rattle.chip.specs.Arrival.{arrivalOf}
 use Rattle.chip.specs.Run.{Run, runOf}
+use Rattle.calls.specs.Refusals.{isRight, rows, firstWrong}
 use Rattle.calls.specs.Calls.{Areas, Called, areasOf, answerNumber, refusalOf, unlessRefused, onBytes}
 use Rattle.code_calls.specs.declared.Asked.{Asked}
 use Rattle.code_calls.specs.declared.Asked.the-variants as asked
+
+-- why a call is refused by the lengths alone: the record is not looked at
+abbrev pub byLengths : (memory holding outgoing kept frame : ℕ) → Refusal
+byLengths memory holding outgoing kept frame =
+    firstWrong (isRight (record { memory = memory; holding = holding; outgoing = outgoing; kept = kept; frame = frame }) true) rows
 
 -- a record is the image of a device with these units, whose numbers these are
 pub record Finds (r : List ℕ) (k : Packed) (u : Units) : Type 0 where
@@ -32,7 +40,7 @@ pub record ArrivesOn (u : Units) (m h r f : List ℕ) (v : ℕ) (a : ℕ) (m′ 
   pub holding : (out : List ℕ) → h′ ≡ arrivalOf (worldOf (deviceAt r u) m h out) f v .holding
   pub kept : (out : List ℕ) → r′ ≡ imageOf (arrivalOf (worldOf (deviceAt r u) m h out) f v .outcome .device)
 
--- turns in a row, each of which adds a unit to the answer: none for a turn, that of bit 48 for a run
+-- turns in a row, each of which adds a unit to the answer: none for a turn, 2 ^ 48 for a run
 abbrev pub keptTurns : (unit : ℕ) → Run → Called
 keptTurns unit r =
     record {

@@ -6,14 +6,11 @@ use image::Decoded;
 use packed::Packed;
 use packed::record;
 ghost use mathlib.Core.Path.{_≡_};
-ghost use mathlib.Core.Bool.{true};
-ghost use Prim.Native.Nat.{_+_, _*_, _<_, _≤_};
-ghost use lib.Dec.{leb};
+ghost use Prim.Native.Nat.{_+_, _*_, _^_, _<_, _≤_};
 ghost use lib.ListN.{length};
-ghost use Rattle.memory.specs.Size.{sizeAllowed};
 ghost use Rattle.scb.specs.Words as words;
 ghost use Rattle.device.specs.Answers as answers;
-ghost use Rattle.device.specs.Limits.{longest, recordSize};
+ghost use Rattle.device.specs.Limits.{recordSize};
 ghost use Rattle.device.specs.declared.Units.{Units};
 ghost use Rattle.calls.specs.Calls as calls;
 ghost use Rattle.code_calls.specs.Inner as inner;
@@ -26,12 +23,17 @@ fn one(b: bool) -> u64
     if b { 1 } else { 0 }
 }
 
+// What the length and the edge count in an answer: bits 16 and 32.
+const LENGTH: u64 = 1 << 16;
+
+const EDGE: u64 = 1 << 32;
+
 // Number in bits 0 to 15, length in 16 to 31, edge in 32.
 fn answer_number(a: Answer) -> u64
     ensures { λ r. ⌜ r ≡ calls.answerNumber a ⌝ }
 {
     let number = a.number;
-    device::refusal_number(number) as u64 + a.length as u64 * 65536 + one(a.edge) * 4294967296
+    device::refusal_number(number) as u64 + a.length as u64 * LENGTH + one(a.edge) * EDGE
 }
 
 // The answer of a refused call: its number, length 0, no edge.
@@ -45,24 +47,30 @@ fn refuse(r: Refusal) -> u64
     })
 }
 
-// Whether the areas beside memory have their lengths.
-fn lengths_right(holding: usize, outgoing: usize, kept: usize) -> bool
-    ensures { λ r. ⌜ r ≡ calls.lengthsRight holding outgoing kept ⌝ }
-{
-    (kept == record::SIZE) & (holding == 2048) & (outgoing == 2048)
-}
+// How long the lent areas are beside the record, and the longest frame that may arrive.
+const HOLDING: usize = 2048;
 
-// Why a call is refused, if it is not for its record: the lowest number that applies, by the lengths of what is lent and of the frame.
+const OUTGOING: usize = 2048;
+
+const LONGEST: usize = 2048;
+
+// Why a call is refused, if it is not for its record: the rows of the table in their order, by the lengths of what is lent and of the frame.
 fn refusal(memory: usize, holding: usize, outgoing: usize, kept: usize, frame: usize) -> Refusal
-    ensures { λ r. ⌜ r ≡ calls.refusedBy (sizeAllowed memory) (calls.lengthsRight holding outgoing kept) (leb frame longest) true ⌝ }
+    ensures { λ r. ⌜ r ≡ inner.byLengths memory holding outgoing kept frame ⌝ }
 {
     if !memory::size_allowed(memory) {
         return Refusal::Memory;
     }
-    if !lengths_right(holding, outgoing, kept) {
-        return Refusal::Area;
+    if kept != record::SIZE {
+        return Refusal::Record;
     }
-    if frame > 2048 {
+    if holding != HOLDING {
+        return Refusal::Holding;
+    }
+    if outgoing != OUTGOING {
+        return Refusal::Outgoing;
+    }
+    if frame > LONGEST {
         return Refusal::Overlong;
     }
     Refusal::Accepted
@@ -80,9 +88,6 @@ fn answer_of(edge: bool) -> u64
 }
 
 // ---- the calls on a record that is an image: the setup is lent as it stands there, the units' numbers go back at the end
-
-// Where in an answer stands what a turn tells.
-const TOLD: u64 = 1 << 16;
 
 // An attention to the device of the numbers k.
 fn attention_on(memory: &mut [u8], kept: &mut [u8], k: Packed) -> u64
@@ -105,7 +110,9 @@ fn arrival_on(
     verdict: u32,
 ) -> u64
     requires { ⌜ length (now kept) ≡ recordSize ⌝ }
-    ensures { λ r. ⌜ ((u : Units) → inner.Finds (now (kept .entry)) k u → inner.ArrivesOn u (now (memory .entry)) (now (holding .entry)) (now (kept .entry)) (now (frame .entry)) verdict r (now (memory .exit)) (now (holding .exit)) (now (kept .exit))) ⌝ }
+    ensures { λ r. ⌜ ((u : Units) → inner.Finds (now (kept .entry)) k u → inner.ArrivesOn u
+        (now (memory .entry)) (now (holding .entry)) (now (kept .entry)) (now (frame .entry)) verdict r
+        (now (memory .exit)) (now (holding .exit)) (now (kept .exit))) ⌝ }
 {
     let after = code_chip::arrival(
         memory,
@@ -119,12 +126,12 @@ fn arrival_on(
     answer_of(false)
 }
 
-// The answer of turns: what the last one told, and as many units as turns.
+// The answer of turns: what the last one told, its length and the edge above it; and as many units as turns.
 fn answer_told(told: u32, taken: u16, unit: u64) -> u64
-    requires { ⌜ unit ≤ 281474976710656 ⌝ }
-    ensures { λ r. ⌜ r ≡ told * 65536 + taken * unit ⌝ }
+    requires { ⌜ unit ≤ 2 ^ 48 ⌝ }
+    ensures { λ r. ⌜ r ≡ told * 2 ^ 16 + taken * unit ⌝ }
 {
-    told as u64 * TOLD + taken as u64 * unit
+    told as u64 * LENGTH + taken as u64 * unit
 }
 
 // Turns of the device of the numbers k. Each adds `unit` to the answer.
@@ -138,8 +145,10 @@ fn turns_on(
     budget: u16,
     unit: u64,
 ) -> u64
-    requires { ⌜ (length (now kept) ≡ recordSize) × (unit ≤ 281474976710656) ⌝ }
-    ensures { λ r. ⌜ ((u : Units) → inner.Finds (now (kept .entry)) k u → inner.RunsOn u (now (memory .entry)) (now (holding .entry)) (now (outgoing .entry)) (now (kept .entry)) report budget unit r (now (memory .exit)) (now (outgoing .exit)) (now (kept .exit))) ⌝ }
+    requires { ⌜ (length (now kept) ≡ recordSize) × (unit ≤ 2 ^ 48) ⌝ }
+    ensures { λ r. ⌜ ((u : Units) → inner.Finds (now (kept .entry)) k u → inner.RunsOn u
+        (now (memory .entry)) (now (holding .entry)) (now (outgoing .entry)) (now (kept .entry)) report budget unit r
+        (now (memory .exit)) (now (outgoing .exit)) (now (kept .exit))) ⌝ }
 {
     let t = code_chip::run(
         memory,
@@ -165,7 +174,7 @@ pub fn reset(kept: &mut [u8]) -> u64
         image::renew(kept);
         return answer_of(false);
     }
-    refuse(Refusal::Area)
+    refuse(Refusal::Record)
 }
 
 // What is asked of the chip.
@@ -188,8 +197,10 @@ pub fn call(
     budget: u16,
     unit: u64,
 ) -> u64
-    requires { ⌜ unit ≤ 281474976710656 ⌝ }
-    ensures { λ r. ⌜ calls.Calls (inner.askedCall asked (calls.areasOf (now (memory .entry)) (now (holding .entry)) (now (outgoing .entry)) (now (kept .entry))) (now (frame .entry)) line budget unit) r (now (memory .exit)) (now (holding .exit)) (now (outgoing .exit)) (now (kept .exit)) ⌝ }
+    requires { ⌜ unit ≤ 2 ^ 48 ⌝ }
+    ensures { λ r. ⌜ calls.Calls (inner.askedCall asked
+        (calls.areasOf (now (memory .entry)) (now (holding .entry)) (now (outgoing .entry)) (now (kept .entry))) (now (frame .entry)) line budget unit)
+        r (now (memory .exit)) (now (holding .exit)) (now (outgoing .exit)) (now (kept .exit)) ⌝ }
 {
     let r = refusal(
         memory.len(),

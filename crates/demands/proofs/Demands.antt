@@ -9,13 +9,11 @@ use Rattle.memory.specs.Memory.{wordAt}
 use Rattle.memory.specs.declared.Offset.{Offset}
 use Rattle.memory.proofs.Bytes.{Bytes}
 use Rattle.scb.specs.Words.{cblAt}
-use Rattle.device.specs.Numbers.{refusalNumber}
 use Rattle.device.specs.State.{isHolding, heldIn, isGood}
 use Rattle.device.specs.declared.Counter.the-variants as counter
 use Rattle.device.specs.declared.Device.{Device}
 use Rattle.device.specs.declared.Fate.the-variants as fate
 use Rattle.device.specs.declared.Frame.{Frame}
-use Rattle.device.specs.declared.Refusal.{Refusal}
 use Rattle.device.specs.declared.Ru.the-variants as ru
 use Rattle.device.specs.declared.Verdict.the-variants as verdict
 use Rattle.image.specs.Ranges.{inRange}
@@ -69,8 +67,8 @@ use Rattle.kinds.proofs.Closing as closing
 -- ---- demand 1
 
 -- "Bad lengths, overlong frames and foreign records are refused with document 01's numbers": each number is given exactly when the table says
-pub refused-by-the-table : (c : Call) (a : Areas) → Bytes (a .kept) → (r : Refusal)
-    → (number (called c a .answer) ≡ refusalNumber r → When r c a) × (When r c a → number (called c a .answer) ≡ refusalNumber r)
+pub refused-by-the-table : (c : Call) (a : Areas) → Bytes (a .kept) → (n : ℕ)
+    → (number (called c a .answer) ≡ n → When n c a) × (When n c a → number (called c a .answer) ≡ n)
 refused-by-the-table = refusals.table
 
 -- "and a refused call changes no lent byte", with length 0 and no edge

@@ -6,7 +6,7 @@ use lib.ListN.{length, replicate}
 use Rattle.memory.specs.Memory.{byteAt, putByte, bytesAt, putBytes, value, digits, fieldAt, apply}
 use Rattle.memory.specs.Address.{place}
 use Rattle.device.specs.Answers.{counterOf, counts}
-use Rattle.device.specs.Limits.{header, areaSize, recordSize, longest, mostBuffers, mostListed, fcs}
+use Rattle.device.specs.Limits.{header, holdingSize, outgoingSize, recordSize, longest, mostBuffers, mostListed, fcs}
 use Rattle.device.specs.Numbers.{verdictNumber, verdictOf, refusalNumber, counterPlace}
 use Rattle.device.specs.State.{goodBy, ruWorks, cuWorks, fresh}
 use Rattle.device.specs.declared.Counter.{Counter}
@@ -23,8 +23,8 @@ unfolding verdictOf
 othersMisaligned = tt
 
 -- 01, "Calls, lent areas, refusals": 1 N, 2 another area, 3 an arriving frame, 4 the record; 0 if not refused
-pub refusalsNumbered : T (eqb (refusalNumber refusal.Accepted) 0 && eqb (refusalNumber refusal.Memory) 1 && eqb (refusalNumber refusal.Area) 2
-    && eqb (refusalNumber refusal.Overlong) 3 && eqb (refusalNumber refusal.Foreign) 4)
+pub refusalsNumbered : T (eqb (refusalNumber refusal.Accepted) 0 && eqb (refusalNumber refusal.Memory) 1 && eqb (refusalNumber refusal.Record) 2
+    && eqb (refusalNumber refusal.Holding) 2 && eqb (refusalNumber refusal.Outgoing) 2 && eqb (refusalNumber refusal.Overlong) 3 && eqb (refusalNumber refusal.Foreign) 4)
 refusalsNumbered = tt
 
 -- 01, "The SCB": +8 CRCERRS, +10 ALNERRS, +12 RSCERRS, +14 OVRNERRS. Each is increased alone: what the four come to, with an SCB at 0 and
@@ -55,7 +55,7 @@ unfolding value
 afterReset = tt
 
 -- the sizes and limits
-pub limits : T (eqb header 14 && eqb areaSize 2048 && eqb recordSize 256 && eqb longest 2048
+pub limits : T (eqb header 14 && eqb holdingSize 2048 && eqb outgoingSize 2048 && eqb recordSize 256 && eqb longest 2048
     && eqb mostBuffers 64 && eqb mostListed 16 && eqb fcs 4)
 limits = tt
 

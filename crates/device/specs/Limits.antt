@@ -15,9 +15,12 @@ header = addressLength + addressLength + typeLength
 abbrev pub heldFrom : ℕ
 heldFrom = 0
 
--- 01, "Calls, lent areas, refusals": holding and outgoing area have 2,048 bytes, the record 256
-abbrev pub areaSize : ℕ
-areaSize = 2048
+-- 01, "Calls, lent areas, refusals": "holding area, 2,048 bytes; outgoing area, 2,048 bytes; device record, 256 bytes"
+abbrev pub holdingSize : ℕ
+holdingSize = 2048
+
+abbrev pub outgoingSize : ℕ
+outgoingSize = 2048
 
 abbrev pub recordSize : ℕ
 recordSize = 256

@@ -42,11 +42,13 @@ verdictNumber verdict.Misaligned = 2
 unfoldable pub verdictOf : ℕ → Verdict
 verdictOf n = cond (eqb n 0) verdict.Good (cond (eqb n 1) verdict.Crc verdict.Misaligned)
 
--- 01, "Calls, lent areas, refusals": the number, 0 if not refused
+-- 01, "Calls, lent areas, refusals": the number, 0 if not refused. Another lent area than memory is the record, the holding or the outgoing area
 abbrev pub refusalNumber : Refusal → ℕ
 refusalNumber refusal.Accepted = 0
 refusalNumber refusal.Memory = 1
-refusalNumber refusal.Area = 2
+refusalNumber refusal.Record = 2
+refusalNumber refusal.Holding = 2
+refusalNumber refusal.Outgoing = 2
 refusalNumber refusal.Overlong = 3
 refusalNumber refusal.Foreign = 4
 

@@ -118,11 +118,13 @@ pub struct Device {
 
 // ---- what a call answers
 
-// Why a call is refused.
+// Why a call is refused: a case for each row of the table of refusals.
 pub enum Refusal {
     Accepted,
     Memory,
-    Area,
+    Record,
+    Holding,
+    Outgoing,
     Overlong,
     Foreign,
 }
@@ -169,7 +171,9 @@ pub fn refusal_number(r: Refusal) -> u16
     match r {
         Refusal::Accepted => 0,
         Refusal::Memory => 1,
-        Refusal::Area => 2,
+        Refusal::Record => 2,
+        Refusal::Holding => 2,
+        Refusal::Outgoing => 2,
         Refusal::Overlong => 3,
         Refusal::Foreign => 4,
     }

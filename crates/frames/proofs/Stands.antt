@@ -12,7 +12,7 @@ use Rattle.memory.proofs.Laws.{apply-append, length-apply, length-putBytes}
 use Rattle.memory.proofs.Power.{allowed}
 use Rattle.memory.specs.declared.Offset.{Offset}
 use Rattle.scb.specs.Words.{bit, scbStatusAt}
-use Rattle.device.specs.Limits.{header, areaSize}
+use Rattle.device.specs.Limits.{header, holdingSize}
 use Rattle.device.specs.State.{heldIn, isGood}
 use Rattle.device.specs.declared.Frame.{Frame}
 use Rattle.device.specs.declared.Ru.{Ru}
@@ -97,7 +97,7 @@ word-by false false verdict.Misaligned f a b = rw (a, b)
 -- ---- stored
 
 pub stored-stands : (lacking : Bool) (s : Storing) (rest : List Write) (w : World) (r : Ran) → Stored lacking s rest w r
-    → length (w .holding) ≡ areaSize
+    → length (w .holding) ≡ holdingSize
     → header ≤ length (w .memory)
     → Separate (length (w .memory)) (headerTo w s ∷ markTo w s (frameStatus lacking (s .frame)) ∷ rest)
     → StoredStands lacking s w r
@@ -171,7 +171,7 @@ word-piece : (a v : ℕ) → pieceOf (wordTo a v) ≡ piece a 2
 unfolding pieceOf
 word-piece a v = ap (piece a) (length-digits 2 v)
 
-header-piece : (w : World) (s : Storing) → length (w .holding) ≡ areaSize → pieceOf (headerTo w s) ≡ piece (inFrame w s 8) header
+header-piece : (w : World) (s : Storing) → length (w .holding) ≡ holdingSize → pieceOf (headerTo w s) ≡ piece (inFrame w s 8) header
 unfolding pieceOf
 header-piece w s h = ap (piece (inFrame w s 8)) (length-take-le header (w .holding) (omega arith))
 
@@ -187,7 +187,7 @@ front3 x y z t = ap₂ (λ (p : Piece) (l : List Piece). p ∷ l) x (front2 y z 
 
 -- ---- the writes of an end turn lie where the pieces are
 
-ending-pieces : (b : Bool) (w : World) (s : Storing) (status : ℕ) (rest : List Write) (ps : List Piece) → length (w .holding) ≡ areaSize
+ending-pieces : (b : Bool) (w : World) (s : Storing) (status : ℕ) (rest : List Write) (ps : List Piece) → length (w .holding) ≡ holdingSize
     → piecesOf rest ≡ ps
     → piecesOf (headerTo w s ∷ markTo w s status ∷ (bareMark b (inFrame w s 6) ++ rest))
     ≡ piece (inFrame w s 8) header ∷ piece (inFrame w s 0) 2 ∷ (barePiece b w s ++ ps)
@@ -215,7 +215,7 @@ counted-pieces w r s v = front2 (word-piece (inFrame w s 0) 0x0000) (word-piece 
 
 -- ---- so where no piece lies over another, neither does a write
 
-closing-separate : (n : ℕ) (w : World) (r : Ran) (s : Storing) (free : Offset) (full : Bool) → length (w .holding) ≡ areaSize
+closing-separate : (n : ℕ) (w : World) (r : Ran) (s : Storing) (free : Offset) (full : Bool) → length (w .holding) ≡ holdingSize
     → NoOverlap n (pieces (ru.Closing s free full) w)
     → Separate n (headerTo w s ∷ markTo w s (frameStatus false (s .frame)) ∷ (bareTo w s ++ (onward w s free full ++ statusAfter w r)))
 closing-separate n w r s free full h p =
@@ -226,7 +226,7 @@ closing-separate n w r s free full h p =
     (onwardPiece (s .el || full) w s ++ piece (inScb w scbStatusAt) 2 ∷ []) h (onward-pieces (s .el || full) w r s free)))
     p)
 
-both-separate : (n : ℕ) (w : World) (r : Ran) (s : Storing) (v : ℕ) → length (w .holding) ≡ areaSize → NoOverlap n (lackingPieces true w s)
+both-separate : (n : ℕ) (w : World) (r : Ran) (s : Storing) (v : ℕ) → length (w .holding) ≡ holdingSize → NoOverlap n (lackingPieces true w s)
     → Separate n (headerTo w s ∷ markTo w s (frameStatus true (s .frame)) ∷ (bareTo w s ++ (wordTo (inScb w 12) v ∷ statusAfter w r)))
 both-separate n w r s v h p =
     separate n (headerTo w s ∷ markTo w s (frameStatus true (s .frame)) ∷ (bareTo w s ++ (wordTo (inScb w 12) v ∷ statusAfter w r)))
@@ -243,7 +243,7 @@ counted-separate n w r s v p =
 
 -- ---- the demand, as facts about memory at exit
 
-exit-of : (c : Call) (w : World) (f : Frame) → length (w .holding) ≡ areaSize → header ≤ length (w .memory)
+exit-of : (c : Call) (w : World) (f : Frame) → length (w .holding) ≡ holdingSize → header ≤ length (w .memory)
     → NoOverlap (length (w .memory)) (pieces (unitOf w) w)
     → GoodFate f c w
     → GoodExit f c w
@@ -315,14 +315,14 @@ lacking-counters true w s = refl
 lacking-counters false w s = refl
 
 -- the writes of an end turn, and the counters behind them
-with-counters : (n : ℕ) (w : World) (s : Storing) (status : ℕ) (rest : List Write) (ps : List Piece) → length (w .holding) ≡ areaSize
+with-counters : (n : ℕ) (w : World) (s : Storing) (status : ℕ) (rest : List Write) (ps : List Piece) → length (w .holding) ≡ holdingSize
     → piecesOf rest ≡ ps
     → NoOverlap n (piece (inFrame w s 8) header ∷ piece (inFrame w s 0) 2 ∷ (barePiece (isBare (s .frame)) w s ++ ps ++ piece (inScb w 8) 8 ∷ []))
     → NoOverlap n (piecesOf (headerTo w s ∷ markTo w s status ∷ (bareTo w s ++ rest)) ++ piece (inScb w 8) 8 ∷ [])
 with-counters n w s status rest ps h e p =
     subst (λ (l : List Piece). NoOverlap n (l ++ piece (inScb w 8) 8 ∷ [])) (sym (ending-pieces (isBare (s .frame)) w s status rest ps h e)) p
 
-saved-stands : (lacking : Bool) (s : Storing) (rest : List Write) (w : World) (r : Ran) → length (w .holding) ≡ areaSize → header ≤ length (w .memory)
+saved-stands : (lacking : Bool) (s : Storing) (rest : List Write) (w : World) (r : Ran) → length (w .holding) ≡ holdingSize → header ≤ length (w .memory)
     → NoOverlap (length (w .memory))
     (piecesOf (headerTo w s ∷ markTo w s (frameStatus lacking (s .frame)) ∷ rest) ++ piece (inScb w 8) 8 ∷ [])
     → Stored lacking s rest w r
@@ -341,7 +341,7 @@ saved-stands lacking s rest w r h l p k =
 abbrev Behind : World → Storing → List Piece → Type 0
 Behind w s ps = NoOverlap (length (w .memory)) (piece (inFrame w s 8) header ∷ piece (inFrame w s 0) 2 ∷ ps)
 
-bad-exit-of : (c : Call) (w : World) (f : Frame) → length (w .holding) ≡ areaSize → header ≤ length (w .memory)
+bad-exit-of : (c : Call) (w : World) (f : Frame) → length (w .holding) ≡ holdingSize → header ≤ length (w .memory)
     → NoOverlap (length (w .memory)) (badPieces (unitOf w) w)
     → BadFate f c w
     → BadExit f c w

@@ -11,7 +11,7 @@ use Rattle.memory.specs.declared.Offset.{Offset}
 use Rattle.memory.proofs.Fields.{Apart}
 use Rattle.device.specs.Answers.{answered}
 use Rattle.device.specs.Change.{withRu, withUnits}
-use Rattle.device.specs.Limits.{header, areaSize, longest, fcs}
+use Rattle.device.specs.Limits.{header, holdingSize, longest, fcs}
 use Rattle.device.specs.Numbers.{verdictOf}
 use Rattle.device.specs.State.{isHolding}
 use Rattle.device.specs.declared.Counter.{Counter}
@@ -32,7 +32,7 @@ use Rattle.chip.specs.World.{World, Ran}
 -- 01, "Calls, lent areas, refusals": what the lengths are where neither 1, 2 nor 3 is given
 pub record RightLengths (w : World) (f : List ℕ) : Type 0 where
   pub size : sizeAllowed (length (w .memory)) ≡ true
-  pub area : length (w .holding) ≡ areaSize
+  pub area : length (w .holding) ≡ holdingSize
   pub frame : length f ≤ longest
 
 abbrev pub settingsOf : World → Settings

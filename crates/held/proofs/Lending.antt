@@ -11,7 +11,9 @@ use lib.ListN.{length, getD, replicate, length-replicate}
 use Rattle.memory.specs.Memory.{digits, wordTo, apply}
 use Rattle.memory.specs.Size.{sizeAllowed}
 use Rattle.memory.proofs.Bytes.{Bytes, bytes-nil, put-bytes, digits-bytes}
-use Rattle.device.specs.Limits.{recordSize, areaSize}
+use Rattle.scb.specs.Words.{bitsAt}
+use Rattle.device.specs.Limits.{holdingSize, outgoingSize, recordSize}
+use Rattle.device.specs.Numbers.{refusalNumber}
 use Rattle.device.specs.State.{isActive, cuState, isHolding, heldIn}
 use Rattle.device.specs.declared.Answer.{Answer}
 use Rattle.device.specs.declared.Device.{Device}
@@ -27,7 +29,9 @@ use Rattle.chip.specs.Call.{reset, attention, turn}
 use Rattle.chip.specs.Cases.{Word, _is_, put, passes}
 use Rattle.chip.specs.Turn.{servedBy, concluded, commandTurn, receiveTurn, turnBy, turnOf}
 use Rattle.chip.specs.World.{World, worldOf}
-use Rattle.calls.specs.Calls.{Areas, areasOf, Called, answerNumber, areasRight, refusalOf, onBytes, attentionCall, turnCall, resetCall}
+use Rattle.calls.specs.Calls.{Areas, areasOf, Called, answerNumber, lengthsOf, refusalOf, onBytes, attentionCall, turnCall, resetCall}
+use Rattle.calls.proofs.Answer.{told-number}
+use Rattle.calls.proofs.Rows.{LengthsRight}
 use Rattle.calls.proofs.Laws.{accepted}
 use Rattle.progress.specs.Trace.{bit, turns}
 use Rattle.traces.specs.Bytes.{number, isRefused}
@@ -46,14 +50,18 @@ unfoldable pub memory : List ℕ
 memory = put (0x86 is 0xB0 ∷ []) (given .memory)
 
 abbrev pub area : List ℕ
-area = replicate areaSize 0
+area = replicate holdingSize 0
+
+-- the outgoing area beside a holding area, filled as that begins
+abbrev pub sentBeside : List ℕ → List ℕ
+sentBeside h = replicate outgoingSize (getD h 0 0)
 
 -- a state on a memory m and areas h, and a turn that is lent these and the state's record
 abbrev pub on : List ℕ → List ℕ → Device → World
-on m h d = worldOf d m h h
+on m h d = worldOf d m h (sentBeside h)
 
 abbrev pub lentOn : List ℕ → List ℕ → Device → Areas
-lentOn m h d = areasOf m h h (imageOf d)
+lentOn m h d = areasOf m h (sentBeside h) (imageOf d)
 
 abbrev pub turnOn : List ℕ → List ℕ → Device → Lending
 turnOn m h d = lending (turn 0) (lentOn m h d)
@@ -75,7 +83,7 @@ pub record Right (m h : List ℕ) : Type 0 where
   pub memory : Bytes m
   pub area : Bytes h
   pub size : sizeAllowed (length m) ≡ true
-  pub long : length h ≡ areaSize
+  pub long : length h ≡ holdingSize
 
 all-below : (v n i : ℕ) → v < 256 → getD (replicate n v) i 0 < 256
 all-below v zero i l = omega arith
@@ -99,7 +107,7 @@ unfolding memory passes sizeAllowed ones
 memory-size = refl
 
 memory-right : Right memory area
-memory-right = record { memory = memory-bytes; area = filled-bytes 0 areaSize (lit≤ tt); size = memory-size; long = refl }
+memory-right = record { memory = memory-bytes; area = filled-bytes 0 holdingSize (lit≤ tt); size = memory-size; long = refl }
 
 -- ---- the state is in range
 
@@ -142,12 +150,20 @@ turn-accepted w report =
     turn-number (isActive (cuState (w .device .units .cu))) (isHolding (w .device .units .ru)) (w .device .units .rulast) w report
 
 number-zero : (a : Answer) → a .number ≡ refusal.Accepted → number (answerNumber a) ≡ 0
-unfolding answerNumber
-number-zero a e = rw e (omega arith)
+number-zero a e = told-number a ∙ ap refusalNumber e
 
-lengths : (h : List ℕ) (m : List ℕ) (d : Device) → length h ≡ areaSize → Wide d → areasRight (lentOn m h d) ≡ true
-unfolding areasRight
-lengths h m d l w = rw (length-image d (w .own) (w .listed), l)
+sent-bytes : (h : List ℕ) → Bytes h → Bytes (sentBeside h)
+sent-bytes h b = filled-bytes (getD h 0 0) outgoingSize (b .each 0)
+
+lengths : (m h : List ℕ) (d : Device) → Right m h → Wide d → LengthsRight (lengthsOf (lentOn m h d) [])
+lengths m h d r w =
+    record {
+      memory = r .size;
+      holding = r .long;
+      outgoing = length-replicate outgoingSize (getD h 0 0);
+      kept = length-image d (w .own) (w .listed);
+      frame = lit≤ tt;
+    }
 
 module _ (m h : List ℕ) (r : Right m h) (d : Device) (g : Good d) where
   back : worldSaid (lentOn m h d) ≡ on m h d
@@ -156,7 +172,7 @@ module _ (m h : List ℕ) (r : Right m h) (d : Device) (g : Good d) where
   same : turnCall (lentOn m h d) 0 ≡ onBytes (turnOf (on m h d) 0)
   unfolding turnCall
   same =
-      accepted (lentOn m h d) [] (λ w. turnOf w 0) (d .units) (r .size) (lengths h m d (r .long) (g .wide)) refl (decode-image d (g .wide) (g .range))
+      accepted (lentOn m h d) [] (lengths m h d r (g .wide)) (λ w. onBytes (turnOf w 0)) (d .units) (decode-image d (g .wide) (g .range))
       ∙ ap (λ (x : Device). onBytes (turnOf (on m h x) 0)) (device-back d (g .wide))
 
   taken : refusedAt (turnOn m h d) ≡ false
@@ -169,7 +185,7 @@ module _ (m h : List ℕ) (r : Right m h) (d : Device) (g : Good d) where
   lends a k =
       record {
         frame = bytes-nil;
-        bytes = record { memory = r .memory; holding = r .area; outgoing = r .area; kept = image-bytes d (g .wide) };
+        bytes = record { memory = r .memory; holding = r .area; outgoing = sent-bytes h (r .area); kept = image-bytes d (g .wide) };
         kept = sym k;
         leaves = refl;
         may = refl;
@@ -189,7 +205,7 @@ quiet (suc n) d = not (anySettles (turnOf (on memory area d) 0 .outcome .fates))
 module _ (k : Closed) where
   good-next : (m h : List ℕ) → Right m h → (d : Device) → Good d → Good (next m h d)
   good-next m h r d g =
-      let x = k (turn 0) (on m h d) bytes-nil (g .range) (g .wide) (r .memory) (r .area) (r .area) in record { range = x .0; wide = x .1 }
+      let x = k (turn 0) (on m h d) bytes-nil (g .range) (g .wide) (r .memory) (r .area) (sent-bytes h (r .area)) in record { range = x .0; wide = x .1 }
 
   good-on : (d : Device) → Good d → Good (next memory area d)
   good-on d g = good-next memory area memory-right d g
@@ -265,7 +281,7 @@ abbrev pub renewed : Lending
 renewed = lending reset (areasOf [] [] [] [])
 
 abbrev pub turned : Lending
-turned = lending (turn 0) (areasOf memory area area (replicate recordSize 0))
+turned = lending (turn 0) (areasOf memory area (sentBeside area) (replicate recordSize 0))
 
 abbrev pub refusals : List Lending → List Lending
 refusals ls = attended ∷ renewed ∷ turned ∷ ls
@@ -275,7 +291,7 @@ abbrev pub memoryAt : ℕ → List ℕ
 memoryAt n = replicate (8192 * 2 ^ (n % 3)) (n % 256)
 
 abbrev pub areaAt : ℕ → List ℕ
-areaAt n = replicate areaSize (n % 255)
+areaAt n = replicate holdingSize (n % 255)
 
 abbrev pub restless : ℕ → Device → List Lending
 restless zero d = []
@@ -292,9 +308,9 @@ right-at : (n : ℕ) → Right (memoryAt n) (areaAt n)
 right-at n =
     record {
       memory = filled-bytes (n % 256) (8192 * 2 ^ (n % 3)) (omega arith);
-      area = filled-bytes (n % 255) areaSize (omega arith);
+      area = filled-bytes (n % 255) holdingSize (omega arith);
       size = rw (length-replicate (8192 * 2 ^ (n % 3)) (n % 256)) (size-by (n % 3) (omega arith));
-      long = length-replicate areaSize (n % 255);
+      long = length-replicate holdingSize (n % 255);
     }
 
 -- a refused call may stand anywhere
@@ -305,15 +321,15 @@ turns-refused : (l : Lending) (ls : List Lending) → refusedAt l ≡ true → t
 turns-refused l ls e = ap (λ (b : Bool). bit (not b && isTurn (call (l .made))) + turns isTaken ls) e ∙ omega arith
 
 no-memory : refusedAt attended ≡ true
-unfolding attentionCall refusalOf sizeAllowed answerNumber
+unfolding attentionCall refusalOf sizeAllowed answerNumber bitsAt
 no-memory = refl
 
 no-record : refusedAt renewed ≡ true
-unfolding resetCall answerNumber
+unfolding resetCall answerNumber bitsAt
 no-record = refl
 
 no-image : refusedAt turned ≡ true
-unfolding memory passes sizeAllowed ones turnCall refusalOf areasRight answerNumber decodeOf decodeFull shaped headShaped places.field places.bytesFrom
+unfolding memory passes sizeAllowed ones turnCall refusalOf answerNumber bitsAt decodeOf decodeFull shaped headShaped places.field places.bytesFrom
 no-image = refl
 
 among-fair : (ls : List Lending) (a : Areas) → AllFair WhileHeld ls a → AllFair WhileHeld (refusals ls) a

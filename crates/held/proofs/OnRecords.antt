@@ -1,7 +1,7 @@
 -- Demand 3, second half, over the calls on byte areas: what holds of states holds of the records that the calls leave. That a call leaves a
 -- state in range is a premise of each statement here, `Closed`. Assumes nothing.
 use mathlib.Core.Path.{_≡_, refl, sym, ap, _∙_}
-use mathlib.Core.Bool.{Bool, true, false, not, _&&_, _||_, true≢false, false≢true}
+use mathlib.Core.Bool.{Bool, true, false, not, cond, _&&_, _||_, true≢false, false≢true}
 use mathlib.Core.List.{List, [], _∷_, _++_, nil≢cons, head-eq-of-cons-eq}
 use Prim.Native.Nat.{ℕ, _≤_, _<_}
 use native.Mathlib.Omega.{arith}
@@ -10,6 +10,7 @@ use lib.Dec.{eqb, leb, ltb, lit≤}
 use lib.ListN.{length}
 use Rattle.memory.proofs.Bytes.{Bytes}
 use Rattle.device.specs.Limits.{header, recordSize}
+use Rattle.device.specs.Numbers.{refusalNumber}
 use Rattle.device.specs.State.{isHolding, heldIn}
 use Rattle.device.specs.declared.Device.{Device}
 use Rattle.device.specs.declared.Fate.{Fate}
@@ -29,7 +30,8 @@ use Rattle.chip.specs.World.{World, Ran}
 use Rattle.chip.specs.Arrival.{arrivalOf}
 use Rattle.chip.specs.Call.{Call, reset, attention, arrive, turn, ran}
 use Rattle.chip.specs.Turn.{turnOf}
-use Rattle.calls.specs.Calls.{Areas, Called, answerNumber, isImage, refusalOf, onBytes, calledOn, calledBy, arrivalCall, turnCall}
+use Rattle.calls.specs.Calls.{Areas, Called, isImage, refusalOf, refused, onBytes, calledOn, calledBy, arrivalCall, turnCall}
+use Rattle.calls.proofs.Laws.{says-refused}
 use Rattle.progress.specs.Trace.{run, turns}
 use Rattle.progress.specs.Holder.{Holder, Went, ended, goes, Stays, Ends}
 use Rattle.progress.specs.Holder as ending
@@ -55,17 +57,17 @@ pub record Taken (run : World → Ran) (a : Areas) (c : Called) : Type 0 where
 
 taken-on : (d : Found) (run : World → Ran) (a : Areas) → decodeOf (a .kept) ≡ d → isRefused (calledOn run a d) ≡ false
     → Taken run a (calledOn run a (decodeOf (a .kept)))
-unfolding answerNumber
 taken-on (is.Units u) run a e n = record { decoded = rw e; leaves = rw e }
-taken-on is.Foreign run a e n = absurd (true≢false n)
+taken-on is.Foreign run a e n = absurd (true≢false (sym (says-refused refusal.Foreign a refl) ∙ n))
 
-taken-by : (x : Refusal) (run : World → Ran) (a : Areas) → isRefused (calledBy x run a) ≡ false → Taken run a (calledBy x run a)
-unfolding answerNumber
-taken-by refusal.Accepted run a n = taken-on (decodeOf (a .kept)) run a refl n
-taken-by refusal.Memory run a n = absurd (true≢false n)
-taken-by refusal.Area run a n = absurd (true≢false n)
-taken-by refusal.Overlong run a n = absurd (true≢false n)
-taken-by refusal.Foreign run a n = absurd (true≢false n)
+taken-if : (x : Bool) (r : Refusal) (run : World → Ran) (a : Areas) → eqb (refusalNumber r) 0 ≡ x
+    → isRefused (cond x (calledOn run a (decodeOf (a .kept))) (refused r a)) ≡ false
+    → Taken run a (cond x (calledOn run a (decodeOf (a .kept))) (refused r a))
+taken-if true r run a e n = taken-on (decodeOf (a .kept)) run a refl n
+taken-if false r run a e n = absurd (true≢false (sym (says-refused r a e) ∙ n))
+
+taken-by : (r : Refusal) (run : World → Ran) (a : Areas) → isRefused (calledBy r run a) ≡ false → Taken run a (calledBy r run a)
+taken-by r run a n = taken-if (eqb (refusalNumber r) 0) r run a refl n
 
 not-refused : (b : Bool) → not b ≡ true → b ≡ false
 not-refused true e = absurd (false≢true e)

@@ -4,11 +4,11 @@ use mathlib.Core.Bool.{true}
 use mathlib.Core.List.{List, []}
 use Prim.Native.Nat.{ℕ, _≤_}
 use native.Mathlib.Omega.{arith}
-use borrow.Author.Tests.{le-leb, eq-eqb}
+use borrow.Author.Tests.{eq-eqb}
 use lib.ListN.{length}
 use Rattle.memory.specs.Size.{Allowed}
 use Rattle.memory.proofs.Power.{size-allowed}
-use Rattle.device.specs.Limits.{areaSize, recordSize, longest}
+use Rattle.device.specs.Limits.{holdingSize, outgoingSize, recordSize, longest}
 use Rattle.device.specs.declared.Device.{Device}
 use Rattle.image.specs.Image.{imageOf}
 use Rattle.image.specs.Ranges.{inRange, Wide}
@@ -19,23 +19,18 @@ use Rattle.chip.specs.Attention.{attentionOf}
 use Rattle.chip.specs.Arrival.{arrivalOf}
 use Rattle.chip.specs.Turn.{turnOf}
 use Rattle.chip.specs.Call.{Call, reset, attention, arrive, turn, ran}
-use Rattle.calls.specs.Calls.{Areas, areasRight, refusalOf, onBytes, calledBy, attentionCall, arrivalCall, turnCall, resetCall}
+use Rattle.calls.specs.Calls.{refusalOf, onBytes, calledBy, attentionCall, arrivalCall, turnCall, resetCall}
 use Rattle.calls.proofs.Laws.{accepted}
 use Rattle.traces.specs.Bytes.{called}
 use Rattle.kinds.specs.Demands.{Acceptable, lentOf}
 
-pub lengths-right : (a : Areas) → length (a .holding) ≡ areaSize → length (a .outgoing) ≡ areaSize → length (a .kept) ≡ recordSize
-    → areasRight a ≡ true
-unfolding areasRight
-lengths-right a p q r = rw (eq-eqb _ _ p, eq-eqb _ _ q, eq-eqb _ _ r)
-
 module _ (d : Device) (m h out : List ℕ) where
-  any-run : (f : List ℕ) (run : World → Ran) → Allowed (length m) → length h ≡ areaSize → length out ≡ areaSize → length f ≤ longest → Wide d
-      → inRange d ≡ true → calledBy (refusalOf (lentOf d m h out) f) run (lentOf d m h out) ≡ onBytes (run (worldOf d m h out))
+  any-run : (f : List ℕ) (run : World → Ran) → Allowed (length m) → length h ≡ holdingSize → length out ≡ outgoingSize → length f ≤ longest
+      → Wide d → inRange d ≡ true → calledBy (refusalOf (lentOf d m h out) f) run (lentOf d m h out) ≡ onBytes (run (worldOf d m h out))
   any-run f run n p q l w e =
-      accepted (lentOf d m h out) f run (d .units) (size-allowed (length m) n)
-      (lengths-right (lentOf d m h out) p q (length-image d (w .own) (w .listed)))
-      (le-leb (length f) longest l) (decode-image d w e)
+      accepted (lentOf d m h out) f
+      (record { memory = size-allowed (length m) n; holding = p; outgoing = q; kept = length-image d (w .own) (w .listed); frame = l })
+      (λ x. onBytes (run x)) (d .units) (decode-image d w e)
       ∙ ap (λ (x : Device). onBytes (run (worldOf x m h out))) (device-back d w)
 
   pub accepted-call : (c : Call) → Acceptable c d m h out → called c (lentOf d m h out) ≡ onBytes (ran c (worldOf d m h out))

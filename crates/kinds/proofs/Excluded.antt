@@ -9,7 +9,6 @@ use Rattle.memory.specs.Address.{place}
 use Rattle.device.specs.State.{fresh}
 use Rattle.device.specs.Numbers.{counterPlace}
 use Rattle.device.specs.declared.Device.{Device}
-use Rattle.device.specs.declared.Refusal.the-variants as refusal
 use Rattle.image.specs.Image.{imageOf}
 use Rattle.image.proofs.Exact.{fresh-range, fresh-wide}
 use Rattle.image.proofs.Steps.{length-image}
@@ -18,28 +17,33 @@ use Rattle.chip.specs.World.{Ran}
 use Rattle.chip.specs.Call.{attention, turn}
 use Rattle.calls.specs.Calls.{Called}
 use Rattle.traces.specs.Bytes.{number, sentLength, edge}
+use Rattle.closure.proofs.Refusals.{gives-none}
 use Rattle.kinds.specs.Chips.{Chip, Meets}
 use Rattle.kinds.specs.Demands.{Demand1, lentOf, AsDefined, Demand2}
 use Rattle.kinds.specs.Kinds.{RefusesAll, OneAnswer, MemoryAsLent, settingsIn, SetsNothing, MeasuresNothing, SendsNothing, MarksOnly, Invented, anotherCounter, anotherEdge, Invents}
 use Rattle.kinds.proofs.Ours.{has-demand1, has-demand2}
-use Rattle.kinds.proofs.Witness.{zeros, area, attending, turning, acceptable-on, handed-on, firstly, idly, first-answer, idle-answer, first-status, zero-status, block, withUnit, turned, settingUp, setting-wide, setting-range, setting-done, was-set, is-set, measuring, measuring-wide, measuring-range, measuring-done, measured, begun, sending, sending-wide, sending-range, sending-done, sent-length, not-done, not-measured}
+use Rattle.kinds.proofs.Witness.{zeros, heldArea, sentArea, attending, turning, acceptable-on, handed-on, firstly, idly, first-answer, idle-answer, first-status, zero-status, block, withUnit, turned, settingUp, setting-wide, setting-range, setting-done, was-set, is-set, measuring, measuring-wide, measuring-range, measuring-done, measured, begun, sending, sending-wide, sending-range, sending-done, sent-length, not-done, not-measured}
 
 module _ (chip : Chip) where
   -- ---- refuses everything: table of refusals, demand 1. A fresh record is to be given 0 at a turn
 
   pub refuses-lacks-1 : RefusesAll chip → Demand1 chip → ⊥
   refuses-lacks-1 k d =
-      let a = lentOf fresh zeros area area in
+      let a = lentOf fresh zeros heldArea sentArea in
       let l = handed-on (turn 0) fresh turning fresh-wide in
       let s = acceptable-on (turn 0) fresh (omega arith) fresh-wide fresh-range in
-      let more : 0 < number (chip .calls (chip .first) (turn 0) a .answer) = k .each (chip .first) (turn 0) fresh zeros area area s l in
+      let more : 0 < number (chip .calls (chip .first) (turn 0) a .answer) = k .each (chip .first) (turn 0) fresh zeros heldArea sentArea s l in
       let none : number (chip .calls (chip .first) (turn 0) a .answer) ≡ 0 =
-      d .each (chip .first) (turn 0) a l .given refusal.Accepted (
-        s .size,
-        (length-image fresh (fresh-wide .own) (fresh-wide .listed), record { holding = s .holding; outgoing = s .outgoing }),
-        omega arith,
-        (fresh, record { wide = fresh-wide; range = fresh-range; image = refl }),
-      )
+      d .each (chip .first) (turn 0) a l .given 0
+      (gives-none (turn 0) a
+      (record {
+        size = s .size;
+        kept = length-image fresh (fresh-wide .own) (fresh-wide .listed);
+        holding = s .holding;
+        outgoing = s .outgoing;
+        frame = omega arith;
+        image = (fresh, record { wide = fresh-wide; range = fresh-range; image = refl });
+      }))
       in
       omega (arith, more, none)
 
@@ -49,24 +53,24 @@ module _ (chip : Chip) where
   -- ---- a constant answer: demand 2. The first attention reports an edge, a turn before it does not
 
   module _ (d : Demand2 chip) where
-    at-first : AsDefined firstly (chip .calls (chip .first) attention (lentOf fresh zeros area area))
+    at-first : AsDefined firstly (chip .calls (chip .first) attention (lentOf fresh zeros heldArea sentArea))
     at-first =
-        d .each (chip .first) attention fresh zeros area area (acceptable-on attention fresh (omega arith) fresh-wide fresh-range)
+        d .each (chip .first) attention fresh zeros heldArea sentArea (acceptable-on attention fresh (omega arith) fresh-wide fresh-range)
         (handed-on attention fresh attending fresh-wide)
 
-    at-turn : AsDefined idly (chip .calls (chip .first) (turn 0) (lentOf fresh zeros area area))
+    at-turn : AsDefined idly (chip .calls (chip .first) (turn 0) (lentOf fresh zeros heldArea sentArea))
     at-turn =
-        d .each (chip .first) (turn 0) fresh zeros area area (acceptable-on (turn 0) fresh (omega arith) fresh-wide fresh-range)
+        d .each (chip .first) (turn 0) fresh zeros heldArea sentArea (acceptable-on (turn 0) fresh (omega arith) fresh-wide fresh-range)
         (handed-on (turn 0) fresh turning fresh-wide)
 
   pub one-answer-lacks-2 : OneAnswer chip → Demand2 chip → ⊥
   one-answer-lacks-2 k d =
       let x =
-      k .each (chip .first) attention fresh zeros area area (acceptable-on attention fresh (omega arith) fresh-wide fresh-range)
+      k .each (chip .first) attention fresh zeros heldArea sentArea (acceptable-on attention fresh (omega arith) fresh-wide fresh-range)
       (handed-on attention fresh attending fresh-wide)
       in
       let y =
-      k .each (chip .first) (turn 0) fresh zeros area area (acceptable-on (turn 0) fresh (omega arith) fresh-wide fresh-range)
+      k .each (chip .first) (turn 0) fresh zeros heldArea sentArea (acceptable-on (turn 0) fresh (omega arith) fresh-wide fresh-range)
       (handed-on (turn 0) fresh turning fresh-wide)
       in
       let p : k .answer ≡ 4294967296 = sym x ∙ at-first d .answer ∙ first-answer in
@@ -81,7 +85,7 @@ module _ (chip : Chip) where
   pub as-lent-lacks-2 : MemoryAsLent chip → Demand2 chip → ⊥
   as-lent-lacks-2 k d =
       let x =
-      k .each (chip .first) attention fresh zeros area area (acceptable-on attention fresh (omega arith) fresh-wide fresh-range)
+      k .each (chip .first) attention fresh zeros heldArea sentArea (acceptable-on attention fresh (omega arith) fresh-wide fresh-range)
       (handed-on attention fresh attending fresh-wide)
       in
       let same : firstly .memory ≡ zeros = sym (at-first d .memory) ∙ x in
@@ -97,9 +101,9 @@ module _ (chip : Chip) where
   sets-nothing-lacks-2 k d =
       let s = acceptable-on (turn 0) (withUnit settingUp) (omega arith) setting-wide setting-range in
       let l = handed-on (turn 0) (withUnit settingUp) turning setting-wide in
-      let r = d .each (chip .first) (turn 0) (withUnit settingUp) zeros area area s l in
+      let r = d .each (chip .first) (turn 0) (withUnit settingUp) zeros heldArea sentArea s l in
       let x =
-      k .each (chip .first) 0 (withUnit settingUp) zeros area area block s l
+      k .each (chip .first) 0 (withUnit settingUp) zeros heldArea sentArea block s l
       (record { begun = refl; before = not-done; after = rw (r .memory) setting-done })
       in
       let e : settingsIn (imageOf (turned settingUp .outcome .device)) ≡ settingsIn (imageOf (withUnit settingUp)) =
@@ -112,9 +116,9 @@ module _ (chip : Chip) where
   measures-nothing-lacks-2 k d =
       let s = acceptable-on (turn 0) (withUnit measuring) (omega arith) measuring-wide measuring-range in
       let l = handed-on (turn 0) (withUnit measuring) turning measuring-wide in
-      let r = d .each (chip .first) (turn 0) (withUnit measuring) zeros area area s l in
+      let r = d .each (chip .first) (turn 0) (withUnit measuring) zeros heldArea sentArea s l in
       let x =
-      k .each (chip .first) 0 (withUnit measuring) zeros area area block s l
+      k .each (chip .first) 0 (withUnit measuring) zeros heldArea sentArea block s l
       (record { begun = refl; before = not-done; after = rw (r .memory) measuring-done }) begun refl
       in
       let z = sym (ap (λ (m : List ℕ). wordAt m (place (record { 0 = 0 }) block 6)) (r .memory)) ∙ x in
@@ -124,9 +128,9 @@ module _ (chip : Chip) where
   sends-nothing-lacks-2 k d =
       let s = acceptable-on (turn 0) (withUnit sending) (omega arith) sending-wide sending-range in
       let l = handed-on (turn 0) (withUnit sending) turning sending-wide in
-      let r = d .each (chip .first) (turn 0) (withUnit sending) zeros area area s l in
+      let r = d .each (chip .first) (turn 0) (withUnit sending) zeros heldArea sentArea s l in
       let x =
-      k .each (chip .first) 0 (withUnit sending) zeros area area block s l
+      k .each (chip .first) 0 (withUnit sending) zeros heldArea sentArea block s l
       (record { begun = refl; before = not-done; after = rw (r .memory) sending-done })
       in
       let z = sym (ap sentLength (r .answer)) ∙ x in

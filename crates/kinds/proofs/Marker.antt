@@ -25,7 +25,7 @@ use Rattle.calls.specs.Calls.{Areas, areasOf, Called}
 use Rattle.kinds.specs.Chips.{Chip}
 use Rattle.kinds.specs.Demands.{lentOf}
 use Rattle.kinds.specs.Kinds.{InWork, Completes, settingsIn, MarksOnly}
-use Rattle.kinds.proofs.Witness.{zeros, area, block, withUnit, measuring, measuring-wide, measuring-range, not-done}
+use Rattle.kinds.proofs.Witness.{zeros, heldArea, sentArea, block, withUnit, measuring, measuring-wide, measuring-range, not-done}
 
 abbrev marks : RealAddress → Cu → List Write
 marks base cu.Idle = []
@@ -75,6 +75,7 @@ module _ (d : Device) (m h out : List ℕ) (wide : Wide d) (range : inRange d �
   marked-memory = ap (λ (x : Found). marked x (lentOf d m h out) .memory) (decode-image d wide range)
 
 pub marker-marks-only : MarksOnly marker
+unfolding bitsAt
 marker-marks-only =
     record {
       settings = record { each = λ s report d m h out o k l c. ap settingsIn (record-kept (decodeOf (imageOf d)) (lentOf d m h out)) };
@@ -93,7 +94,7 @@ marked-done : bit (wordAt (apply (marks (record { 0 = 0 }) measuring) zeros) (pl
 unfolding byteAt putByte bytesAt putBytes value digits fieldAt place bitsAt
 marked-done = refl
 
-pub marker-completes : Completes (withUnit measuring) zeros (marker .calls tt (turn 0) (lentOf (withUnit measuring) zeros area area)) block
+pub marker-completes : Completes (withUnit measuring) zeros (marker .calls tt (turn 0) (lentOf (withUnit measuring) zeros heldArea sentArea)) block
 marker-completes =
-    let e = marked-memory (withUnit measuring) zeros area area measuring-wide measuring-range in
+    let e = marked-memory (withUnit measuring) zeros heldArea sentArea measuring-wide measuring-range in
     record { begun = refl; before = not-done; after = rw e marked-done }

@@ -1,27 +1,21 @@
 -- What follows from the promises for every chip that meets them, ours among them: demand 1 and demand 2. Assumes nothing.
 use mathlib.Core.Path.{_≡_, refl, sym, _∙_}
 use mathlib.Core.Bool.{Bool, true, false, not}
-use Prim.Native.Nat.{ℕ, _<_}
+use Prim.Native.Nat.{ℕ, zero, suc, _<_}
 use native.Mathlib.Omega.{arith}
 use borrow.Author.Tests.{eq-eqb, eqb-true}
 use lib.Dec.{eqb}
 use lib.ListN.{length}
-use Rattle.memory.specs.Size.{Allowed}
 use Rattle.device.specs.Limits.{recordSize}
-use Rattle.device.specs.Numbers.{refusalNumber}
 use Rattle.device.specs.State.{fresh}
-use Rattle.device.specs.declared.Device.{Device}
-use Rattle.device.specs.declared.Refusal.{Refusal}
-use Rattle.device.specs.declared.Refusal.the-variants as refusal
 use Rattle.image.proofs.Exact.{level}
 use Rattle.chip.specs.World.{Ran, worldOf}
 use Rattle.chip.specs.Call.{Call, reset, attention, arrive, turn, ran}
 use Rattle.calls.specs.Calls.{Areas, Called, refused, onBytes, renewed, resetCall}
-use Rattle.traces.specs.Bytes.{called, number, sentLength, edge}
+use Rattle.traces.specs.Bytes.{called, number}
 use Rattle.kinds.specs.Chips.{Chip, ours, Handed, Meets}
-use Rattle.traces.specs.Areas.{Holds}
-use Rattle.closure.specs.Refusals.{AreasRight, FrameRight, When, Untouched}
-use Rattle.closure.proofs.Refusals.{table, some-line, untouched}
+use Rattle.closure.specs.Refusals.{When, Untouched}
+use Rattle.closure.proofs.Refusals.{table, AllRight, Unrefused, none-given, untouched}
 use Rattle.kinds.specs.Demands.{Tabled, Demand1, Acceptable, lentOf, AsDefined, Demand2}
 use Rattle.kinds.proofs.Equal.{permits, ours-meets, as-called}
 use Rattle.kinds.proofs.Accepted.{accepted-call}
@@ -36,7 +30,6 @@ above n false e z = refl
 pub called-tabled : (c : Call) (a : Areas) → Handed c a → Tabled c a (called c a)
 called-tabled c a l =
     record {
-      known = some-line c a (l .areas .kept);
       given = λ k q. table c a (l .areas .kept) k .1 q;
       only = λ k q. table c a (l .areas .kept) k .0 q;
       refused = λ z. untouched c a (above (number (called c a .answer)) (eqb (number (called c a .answer)) 0) refl z);
@@ -73,23 +66,21 @@ ours-demand2 = has-demand2 ours ours-meets
 
 -- ---- and the other way: the two demands together are the promises
 
-same-answer : (x y : ℕ) → number x ≡ number y → sentLength x ≡ 0 → sentLength y ≡ 0 → edge x ≡ 0 → edge y ≡ 0 → x ≡ y
-same-answer x y n p q d e = omega arith
-
 both-untouched : (a : Areas) (x y : Called) → number (x .answer) ≡ number (y .answer) → Untouched a x → Untouched a y → x ≡ y
 both-untouched a x y n p q =
-    rw (same-answer (x .answer) (y .answer) n (p .length) (q .length) (p .edge) (q .edge), p .areas ∙ sym (q .areas))
+    rw (p .whole ∙ n ∙ sym (q .whole), p .areas ∙ sym (q .areas))
 
 defined-kept : (x : Ran) (r : Called) → AsDefined x r → r ≡ onBytes x
 defined-kept x r p = rw (p .answer, p .memory, p .holding, p .outgoing, p .kept)
 
 module _ (chip : Chip) (one : Demand1 chip) (two : Demand2 chip) (s : chip .Inner) where
-  on-state : (c : Call) (a : Areas) → Handed c a → Allowed (length (a .memory)) → AreasRight a → FrameRight c → (d : Device) × Holds (a .kept) d
-      → chip .calls s c a ≡ called c a
-  on-state c a l n g f (d, i) =
+  on-state : (c : Call) (a : Areas) → Handed c a → AllRight c a → chip .calls s c a ≡ called c a
+  on-state c a l g =
+      let d = g .image .0 in
+      let i = g .image .1 in
       let m = a .memory in
       let k : Acceptable c (d) m (a .holding) (a .outgoing) =
-      record { size = n; holding = g .holding; outgoing = g .outgoing; frame = f; wide = i .wide; range = i .range }
+      record { size = g .size; holding = g .holding; outgoing = g .outgoing; frame = g .frame; wide = i .wide; range = i .range }
       in
       let at = lentOf (d) m (a .holding) (a .outgoing) in
       let same : a ≡ at = rw (i .image) in
@@ -98,33 +89,26 @@ module _ (chip : Chip) (one : Demand1 chip) (two : Demand2 chip) (s : chip .Inne
       (defined-kept _ _ (two .each s c (d) m (a .holding) (a .outgoing) k lent)
       ∙ sym (accepted-call (d) m (a .holding) (a .outgoing) c k))
 
-  accepting : (c : Call) (a : Areas) → Handed c a → When refusal.Accepted c a → chip .calls s c a ≡ called c a
-  accepting reset a l p = defined-kept _ _ (two .renewed s a l (p .1 .0)) ∙ sym (reset-called a (p .1 .0))
-  accepting attention a l p = on-state attention a l (p .0) (p .1 .1) (p .2) (p .3)
-  accepting (arrive f v) a l p = on-state (arrive f v) a l (p .0) (p .1 .1) (p .2) (p .3)
-  accepting (turn report) a l p = on-state (turn report) a l (p .0) (p .1 .1) (p .2) (p .3)
+  accepting : (c : Call) (a : Areas) → Handed c a → Unrefused c a → chip .calls s c a ≡ called c a
+  accepting reset a l p = defined-kept _ _ (two .renewed s a l p) ∙ sym (reset-called a p)
+  accepting attention a l p = on-state attention a l p
+  accepting (arrive f v) a l p = on-state (arrive f v) a l p
+  accepting (turn report) a l p = on-state (turn report) a l p
 
-  refusing : (c : Call) (a : Areas) (k : Refusal) → Handed c a → When k c a → 0 < refusalNumber k → chip .calls s c a ≡ called c a
-  refusing c a k l p n =
+  either : (c : Call) (a : Areas) (n : ℕ) → Handed c a → When n c a → chip .calls s c a ≡ called c a
+  either c a zero l p = accepting c a l (none-given c a p)
+  either c a (suc n) l p =
       let t = one .each s c a l in
       let u = called-tabled c a l in
-      let x = t .given k p in
-      let y = u .given k p in
-      both-untouched a (chip .calls s c a) (called c a) (x ∙ sym y) (t .refused (rw x n)) (u .refused (rw y n))
-
-  either : (c : Call) (a : Areas) (k : Refusal) → Handed c a → When k c a → chip .calls s c a ≡ called c a
-  either c a refusal.Accepted l p = accepting c a l p
-  either c a refusal.Memory l p = refusing c a refusal.Memory l p (omega arith)
-  either c a refusal.Area l p = refusing c a refusal.Area l p (omega arith)
-  either c a refusal.Overlong l p = refusing c a refusal.Overlong l p (omega arith)
-  either c a refusal.Foreign l p = refusing c a refusal.Foreign l p (omega arith)
+      let x = t .given (suc n) p in
+      let y = u .given (suc n) p in
+      both-untouched a (chip .calls s c a) (called c a) (x ∙ sym y) (t .refused (omega (arith, x))) (u .refused (omega (arith, y)))
 
 pub demands-meet : (chip : Chip) → Demand1 chip → Demand2 chip → Meets chip
 demands-meet chip p q =
     record {
       each =
           λ s c a l.
-          let t = p .each s c a l in
-          let k = t .known .0 in
-          rw (either chip p q s c a k l (t .only k (t .known .1))) (permits c a);
+          let n = number (chip .calls s c a .answer) in
+          rw (either chip p q s c a n l (p .each s c a l .only n refl)) (permits c a);
     }

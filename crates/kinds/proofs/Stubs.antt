@@ -6,6 +6,7 @@ use native.Mathlib.Omega.{arith}
 use Rattle.memory.specs.Address.{place}
 use Rattle.memory.specs.Memory.{wordAt}
 use Rattle.memory.specs.declared.Offset.{Offset}
+use Rattle.scb.specs.Words.{bitsAt}
 use Rattle.device.specs.State.{fresh}
 use Rattle.image.proofs.Exact.{fresh-range, fresh-wide}
 use Rattle.chip.specs.Call.{turn}
@@ -14,13 +15,14 @@ use Rattle.traces.specs.Bytes.{edge}
 use Rattle.kinds.specs.Chips.{Chip, chipRun}
 use Rattle.kinds.specs.Lists.{All, turnsOf}
 use Rattle.kinds.specs.Kinds.{RefusesAll, OneAnswer, MemoryAsLent, FirstOnly, anotherEdge, Invents}
-use Rattle.kinds.proofs.Witness.{zeros, area, turning, acceptable-on, handed-on, idly, idle-answer}
+use Rattle.kinds.proofs.Witness.{zeros, heldArea, sentArea, turning, acceptable-on, handed-on, idly, idle-answer}
 
 -- it leaves all as lent and answers n
 abbrev pub stub : ℕ → Chip
 stub n = record { Inner = Unit {0}; first = tt; calls = λ s c a. record { answer = n; areas = a }; next = λ s c a. tt }
 
 pub stub-refuses : RefusesAll (stub 1)
+unfolding bitsAt
 stub-refuses = record { each = λ s c d m h out k l. omega arith }
 
 pub stub-constant : (n : ℕ) → OneAnswer (stub n)
@@ -47,14 +49,15 @@ stub-first-only n =
 
 -- a turn before the first attention reports no edge
 pub stub-invents : Invents (stub 4294967296)
+unfolding bitsAt
 stub-invents =
     record {
       inner = tt;
       call = turn 0;
       device = fresh;
       memory = zeros;
-      holding = area;
-      outgoing = area;
+      holding = heldArea;
+      outgoing = sentArea;
       acceptable = acceptable-on (turn 0) fresh (omega arith) fresh-wide fresh-range;
       lent = handed-on (turn 0) fresh turning fresh-wide;
       invented =

@@ -13,7 +13,7 @@ use Rattle.memory.proofs.Fields.{Apart, up, down}
 use Rattle.memory.proofs.Laws.{length-apply}
 use Rattle.scb.specs.Control.{codeOf}
 use Rattle.scb.specs.Words.{bitsAt, bit, joined, acknowledged, anyOf, eventBits, statusWord}
-use Rattle.device.specs.Limits.{areaSize}
+use Rattle.device.specs.Limits.{holdingSize, outgoingSize}
 use Rattle.device.specs.Numbers.{actionOf}
 use Rattle.device.specs.declared.Action.the-variants as action
 use Rattle.device.specs.declared.Cu.{Cu}
@@ -43,7 +43,7 @@ use Rattle.kinds.specs.Lists.{Starting, turnsOf, AllReports, started, De
 use Rattle.kinds.specs.Kinds.{FirstOnly}
 use Rattle.kinds.proofs.Equal.{all-areas}
 use Rattle.kinds.proofs.Ours.{has-demand2}
-use Rattle.kinds.proofs.Witness.{zeros, area, zero-bytes, smallest, attending, turning, withUnit, wide-with, range-with}
+use Rattle.kinds.proofs.Witness.{zeros, heldArea, sentArea, zero-bytes, smallest, attending, turning, withUnit, wide-with, range-with}
 
 -- ---- the memory: SCB at 30h with START and the CBL offset 40h; NOPs at 40h and, with EL, at 50h
 
@@ -71,22 +71,22 @@ two-bytes =
 
 -- ---- what is lent, whatever writes have been made
 
-pub acceptable-two : (c : Call) (d : Device) (m : List ℕ) → FrameRight c → length m ≡ 8192 → Wide d → inRange d ≡ true → Acceptable c d m area area
+pub acceptable-two : (c : Call) (d : Device) (m : List ℕ) → FrameRight c → length m ≡ 8192 → Wide d → inRange d ≡ true → Acceptable c d m heldArea sentArea
 acceptable-two c d m f n w e =
     record {
       size = rw n smallest;
-      holding = length-replicate {A = ℕ} areaSize 0;
-      outgoing = length-replicate {A = ℕ} areaSize 0;
+      holding = length-replicate {A = ℕ} holdingSize 0;
+      outgoing = length-replicate {A = ℕ} outgoingSize 0;
       frame = f;
       wide = w;
       range = e;
     }
 
-pub handed-two : (c : Call) (d : Device) (m : List ℕ) → Given c → Bytes m → Wide d → Handed c (lentOf d m area area)
+pub handed-two : (c : Call) (d : Device) (m : List ℕ) → Given c → Bytes m → Wide d → Handed c (lentOf d m heldArea sentArea)
 handed-two c d m g b w =
     record {
       given = g;
-      areas = record { memory = b; holding = zero-bytes areaSize; outgoing = zero-bytes areaSize; kept = image-bytes d w };
+      areas = record { memory = b; holding = zero-bytes holdingSize; outgoing = zero-bytes outgoingSize; kept = image-bytes d w };
     }
 
 pub idle-wide : Wide idle
@@ -151,9 +151,9 @@ module _ (chip : Chip) where
       let s = acceptable-two attention idle two (omega arith) two-size idle-wide idle-range in
       let l = handed-two attention idle two attending two-bytes idle-wide in
       let n = length-replicate {A = ℕ} 264 0 in
-      let same = k .each (chip .first) idle two area area one (other ∷ []) (replicate 264 0) s l starting (zero-reports 264) .0 in
+      let same = k .each (chip .first) idle two heldArea sentArea one (other ∷ []) (replicate 264 0) s l starting (zero-reports 264) .0 in
       let done =
-      d .within (chip .first) idle two area area one (other ∷ []) (replicate 264 0) s l starting (zero-reports 264) (omega (arith, n)) .done .1 .0
+      d .within (chip .first) idle two heldArea sentArea one (other ∷ []) (replicate 264 0) s l starting (zero-reports 264) (omega (arith, n)) .done .1 .0
       in
       no-c (rw (same, other-clear) at done)
 
@@ -176,10 +176,10 @@ m4 = apply (wordTo 0x50 0x4000 ∷ []) m3
 
 -- a call takes the one state and memory to the other, and leaves the zero areas
 record Goes (c : Call) (d : Device) (m : List ℕ) (d′ : Device) (m′ : List ℕ) : Type 0 where
-  pub device : ran c (worldOf d m area area) .outcome .device ≡ d′
-  pub memory : ran c (worldOf d m area area) .memory ≡ m′
-  pub holding : ran c (worldOf d m area area) .holding ≡ area
-  pub outgoing : ran c (worldOf d m area area) .outgoing ≡ area
+  pub device : ran c (worldOf d m heldArea sentArea) .outcome .device ≡ d′
+  pub memory : ran c (worldOf d m heldArea sentArea) .memory ≡ m′
+  pub holding : ran c (worldOf d m heldArea sentArea) .holding ≡ heldArea
+  pub outgoing : ran c (worldOf d m heldArea sentArea) .outgoing ≡ sentArea
 
 starts : Goes attention idle two (withUnit (cu.Waiting one)) m1
 unfolding byteAt putByte bytesAt putBytes value digits fieldAt place bitsAt joined acknowledged anyOf eventBits statusWord codeOf obeyCuc obeyRuc statusTo attentions.attendBy attentions.attend attentions.attention attentionOf
@@ -193,7 +193,7 @@ ends : Goes (turn 0) (withUnit nop) m2 (withUnit (cu.Waiting other)) m3
 unfolding byteAt putByte bytesAt putBytes value digits fieldAt place bitsAt anyOf act nextAfter end service concluded commandTurn turnOf
 ends = record { device = refl; memory = refl; holding = refl; outgoing = refl }
 
-goes-on : ran (turn 0) (worldOf (withUnit (cu.Waiting other)) m3 area area) .memory ≡ m4
+goes-on : ran (turn 0) (worldOf (withUnit (cu.Waiting other)) m3 heldArea sentArea) .memory ≡ m4
 unfolding byteAt putByte bytesAt putBytes value digits fieldAt place bitsAt anyOf actionOf begunBy begin service concluded commandTurn turnOf
 goes-on = refl
 
@@ -238,42 +238,42 @@ size3 = length-apply (wordTo 0x40 0xA000 ∷ []) m2 ∙ size2
 module _ (chip : Chip) (q : Demand2 chip) where
   -- a chip that has demand 2 goes the same way
   leads : (s : chip .Inner) (c : Call) (cs : List Event) (d : Device) (m : List ℕ) (d′ : Device) (m′ : List ℕ) → Goes c d m d′ m′
-      → Acceptable c d m area area → Handed c (lentOf d m area area)
-      → chipRun chip s (call c ∷ cs) (lentOf d m area area) ≡ chipRun chip (chip .next s c (lentOf d m area area)) cs (lentOf d′ m′ area area)
+      → Acceptable c d m heldArea sentArea → Handed c (lentOf d m heldArea sentArea)
+      → chipRun chip s (call c ∷ cs) (lentOf d m heldArea sentArea) ≡ chipRun chip (chip .next s c (lentOf d m heldArea sentArea)) cs (lentOf d′ m′ heldArea sentArea)
   leads s c cs d m d′ m′ g k l =
-      let r = q .each s c d m area area k l in
-      ap (chipRun chip (chip .next s c (lentOf d m area area)) cs)
-      (all-areas (chip .calls s c (lentOf d m area area) .areas) m′ area area (imageOf d′) (r .memory ∙ g .memory) (r .holding ∙ g .holding)
+      let r = q .each s c d m heldArea sentArea k l in
+      ap (chipRun chip (chip .next s c (lentOf d m heldArea sentArea)) cs)
+      (all-areas (chip .calls s c (lentOf d m heldArea sentArea) .areas) m′ heldArea sentArea (imageOf d′) (r .memory ∙ g .memory) (r .holding ∙ g .holding)
       (r .outgoing ∙ g .outgoing) (r .kept ∙ ap imageOf (g .device)))
 
   first-three : (s : chip .Inner)
-      → wordAt (started chip s (turnsOf (0 ∷ 0 ∷ 0 ∷ [])) (lentOf idle two area area) .memory) (place (record { 0 = 0 }) other 0) ≡ 0x4000
+      → wordAt (started chip s (turnsOf (0 ∷ 0 ∷ 0 ∷ [])) (lentOf idle two heldArea sentArea) .memory) (place (record { 0 = 0 }) other 0) ≡ 0x4000
   first-three s =
       let e1 =
       leads s attention (turnsOf (0 ∷ 0 ∷ 0 ∷ [])) idle two (withUnit (cu.Waiting one)) m1 starts
       (acceptable-two attention idle two (omega arith) two-size idle-wide idle-range) (handed-two attention idle two attending two-bytes idle-wide)
       in
-      let s1 = chip .next s attention (lentOf idle two area area) in
+      let s1 = chip .next s attention (lentOf idle two heldArea sentArea) in
       let w1 = waiting-wide one (omega arith) in
       let e2 =
       leads s1 (turn 0) (turnsOf (0 ∷ 0 ∷ [])) (withUnit (cu.Waiting one)) m1 (withUnit nop) m2 begins
       (acceptable-two (turn 0) (withUnit (cu.Waiting one)) m1 (omega arith) size1 w1 (waiting-range one))
       (handed-two (turn 0) (withUnit (cu.Waiting one)) m1 turning bytes1 w1)
       in
-      let s2 = chip .next s1 (turn 0) (lentOf (withUnit (cu.Waiting one)) m1 area area) in
+      let s2 = chip .next s1 (turn 0) (lentOf (withUnit (cu.Waiting one)) m1 heldArea sentArea) in
       let e3 =
       leads s2 (turn 0) (turnsOf (0 ∷ [])) (withUnit nop) m2 (withUnit (cu.Waiting other)) m3 ends
       (acceptable-two (turn 0) (withUnit nop) m2 (omega arith) size2 nop-wide nop-range)
       (handed-two (turn 0) (withUnit nop) m2 turning bytes2 nop-wide)
       in
-      let s3 = chip .next s2 (turn 0) (lentOf (withUnit nop) m2 area area) in
+      let s3 = chip .next s2 (turn 0) (lentOf (withUnit nop) m2 heldArea sentArea) in
       let w3 = waiting-wide other (omega arith) in
       let last =
-      q .each s3 (turn 0) (withUnit (cu.Waiting other)) m3 area area
+      q .each s3 (turn 0) (withUnit (cu.Waiting other)) m3 heldArea sentArea
       (acceptable-two (turn 0) (withUnit (cu.Waiting other)) m3 (omega arith) size3 w3 (waiting-range other))
       (handed-two (turn 0) (withUnit (cu.Waiting other)) m3 turning bytes3 w3)
       in
-      let e : started chip s (turnsOf (0 ∷ 0 ∷ 0 ∷ [])) (lentOf idle two area area) .memory ≡ m4 =
+      let e : started chip s (turnsOf (0 ∷ 0 ∷ 0 ∷ [])) (lentOf idle two heldArea sentArea) .memory ≡ m4 =
       ap (λ (a : Areas). a .memory) (e1 ∙ e2 ∙ e3) ∙ last .memory ∙ goes-on
       in
       ap (λ (m : List ℕ). wordAt m (place (record { 0 = 0 }) other 0)) e ∙ begun-other
@@ -282,7 +282,7 @@ module _ (chip : Chip) where
   pub first-only-lacks-2 : FirstOnly chip → Demand2 chip → ⊥
   first-only-lacks-2 k d =
       let same =
-      k .each (chip .first) idle two area area one (other ∷ []) (0 ∷ 0 ∷ 0 ∷ [])
+      k .each (chip .first) idle two heldArea sentArea one (other ∷ []) (0 ∷ 0 ∷ 0 ∷ [])
       (acceptable-two attention idle two (omega arith) two-size idle-wide idle-range)
       (handed-two attention idle two attending two-bytes idle-wide) starting (zero-reports 3) .0
       in

@@ -11,7 +11,7 @@ use Rattle.memory.specs.Size.{Allowed}
 use Rattle.memory.specs.declared.Offset.{Offset}
 use Rattle.memory.proofs.Bytes.{Bytes, bytes-nil}
 use Rattle.scb.specs.Words.{bitsAt, joined, anyOf, eventBits, statusWord, bit, noEvents}
-use Rattle.device.specs.Limits.{areaSize}
+use Rattle.device.specs.Limits.{holdingSize, outgoingSize}
 use Rattle.device.specs.State.{fresh, freshSettings}
 use Rattle.device.specs.declared.Action.the-variants as action
 use Rattle.device.specs.declared.Begun.{Begun}
@@ -48,8 +48,11 @@ use Rattle.kinds.specs.Kinds.{settingsIn}
 abbrev pub zeros : List ℕ
 zeros = replicate 8192 0
 
-abbrev pub area : List ℕ
-area = replicate areaSize 0
+abbrev pub heldArea : List ℕ
+heldArea = replicate holdingSize 0
+
+abbrev pub sentArea : List ℕ
+sentArea = replicate outgoingSize 0
 
 zero-each : (n i : ℕ) → getD (replicate n 0) i 0 < 256
 zero-each zero i = omega arith
@@ -67,12 +70,12 @@ zeros-allowed = rw (length-replicate {A = ℕ} 8192 0) smallest
 
 -- ---- a state in range on them is a call that is not refused
 
-pub acceptable-on : (c : Call) (d : Device) → FrameRight c → Wide d → inRange d ≡ true → Acceptable c d zeros area area
+pub acceptable-on : (c : Call) (d : Device) → FrameRight c → Wide d → inRange d ≡ true → Acceptable c d zeros heldArea sentArea
 acceptable-on c d f w e =
     record {
       size = zeros-allowed;
-      holding = length-replicate {A = ℕ} areaSize 0;
-      outgoing = length-replicate {A = ℕ} areaSize 0;
+      holding = length-replicate {A = ℕ} holdingSize 0;
+      outgoing = length-replicate {A = ℕ} outgoingSize 0;
       frame = f;
       wide = w;
       range = e;
@@ -85,20 +88,20 @@ attending = record { frame = bytes-nil; numbers = tt }
 pub turning : Given (turn 0)
 turning = record { frame = bytes-nil; numbers = omega arith }
 
-pub handed-on : (c : Call) (d : Device) → Given c → Wide d → Handed c (lentOf d zeros area area)
+pub handed-on : (c : Call) (d : Device) → Given c → Wide d → Handed c (lentOf d zeros heldArea sentArea)
 handed-on c d g w =
     record {
       given = g;
-      areas = record { memory = zero-bytes 8192; holding = zero-bytes areaSize; outgoing = zero-bytes areaSize; kept = image-bytes d w };
+      areas = record { memory = zero-bytes 8192; holding = zero-bytes holdingSize; outgoing = zero-bytes outgoingSize; kept = image-bytes d w };
     }
 
 -- ---- the fresh chip: the first attention reports an edge and writes A000h, a turn does neither
 
 abbrev pub firstly : Ran
-firstly = ran attention (worldOf fresh zeros area area)
+firstly = ran attention (worldOf fresh zeros heldArea sentArea)
 
 abbrev pub idly : Ran
-idly = ran (turn 0) (worldOf fresh zeros area area)
+idly = ran (turn 0) (worldOf fresh zeros heldArea sentArea)
 
 pub first-answer : answerNumber (firstly .outcome .answer) ≡ 4294967296
 unfolding answerNumber attentionOf attentions.attention attentions.initialise
@@ -141,7 +144,7 @@ abbrev pub withUnit : Cu → Device
 withUnit c = record { units = unitsWith c; own = replicate 6 255; listed = replicate 96 0 }
 
 abbrev pub turned : Cu → Ran
-turned c = ran (turn 0) (worldOf (withUnit c) zeros area area)
+turned c = ran (turn 0) (worldOf (withUnit c) zeros heldArea sentArea)
 
 pub wide-with : (c : Cu) → WordWide (cuWord c) → Wide (withUnit c)
 unfolding ruWord

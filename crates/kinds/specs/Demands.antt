@@ -7,11 +7,9 @@ use lib.Dec.{eqb}
 use lib.ListN.{length, getD}
 use Rattle.memory.specs.Size.{Allowed}
 use Rattle.scb.specs.Words.{anyOf}
-use Rattle.device.specs.Limits.{areaSize, recordSize}
-use Rattle.device.specs.Numbers.{refusalNumber}
+use Rattle.device.specs.Limits.{holdingSize, outgoingSize, recordSize}
 use Rattle.device.specs.State.{fresh}
 use Rattle.device.specs.declared.Device.{Device}
-use Rattle.device.specs.declared.Refusal.{Refusal}
 use Rattle.image.specs.Image.{imageOf}
 use Rattle.image.specs.Ranges.{inRange, Wide}
 use Rattle.chip.specs.World.{Ran, worldOf}
@@ -23,11 +21,10 @@ use Rattle.kinds.specs.Chips.{Chip, Handed}
 
 -- ---- demand 1
 
--- the number is 0 or one of the table, each given exactly when the table says; a refused call leaves all as it was
+-- each number is given exactly when the table says, which is true of one of its numbers or of 0; a refused call leaves all as it was
 pub record Tabled (c : Call) (a : Areas) (r : Called) : Type 0 where
-  pub known : (k : Refusal) × (number (r .answer) ≡ refusalNumber k)
-  pub given : (k : Refusal) → When k c a → number (r .answer) ≡ refusalNumber k
-  pub only : (k : Refusal) → number (r .answer) ≡ refusalNumber k → When k c a
+  pub given : (n : ℕ) → When n c a → number (r .answer) ≡ n
+  pub only : (n : ℕ) → number (r .answer) ≡ n → When n c a
   pub refused : 0 < number (r .answer) → Untouched a r
 
 pub record Demand1 (chip : Chip) : Type 0 where
@@ -38,8 +35,8 @@ pub record Demand1 (chip : Chip) : Type 0 where
 -- a state in range, in areas of the right lengths: such a call is not refused
 pub record Acceptable (c : Call) (d : Device) (m h out : List ℕ) : Type 0 where
   pub size : Allowed (length m)
-  pub holding : length h ≡ areaSize
-  pub outgoing : length out ≡ areaSize
+  pub holding : length h ≡ holdingSize
+  pub outgoing : length out ≡ outgoingSize
   pub frame : FrameRight c
   pub wide : Wide d
   pub range : inRange d ≡ true

@@ -22,7 +22,9 @@ pub extern "C" fn lq_attention(
     outgoing: &mut [u8],
     kept: &mut [u8],
 ) -> u64
-    ensures { λ r. ⌜ calls.Calls (calls.attentionCall (calls.areasOf (now (memory .entry)) (now (holding .entry)) (now (outgoing .entry)) (now (kept .entry)))) r (now (memory .exit)) (now (holding .exit)) (now (outgoing .exit)) (now (kept .exit)) ⌝ }
+    ensures { λ r. ⌜ calls.Calls (calls.attentionCall
+        (calls.areasOf (now (memory .entry)) (now (holding .entry)) (now (outgoing .entry)) (now (kept .entry))))
+        r (now (memory .exit)) (now (holding .exit)) (now (outgoing .exit)) (now (kept .exit)) ⌝ }
 {
     let no_frame: [u8; 0] = [0; 0];
     code_calls::call(
@@ -48,7 +50,9 @@ pub extern "C" fn lq_arrival(
     frame: &[u8],
     verdict: u32,
 ) -> u64
-    ensures { λ r. ⌜ calls.Calls (calls.arrivalCall (calls.areasOf (now (memory .entry)) (now (holding .entry)) (now (outgoing .entry)) (now (kept .entry))) (now (frame .entry)) verdict) r (now (memory .exit)) (now (holding .exit)) (now (outgoing .exit)) (now (kept .exit)) ⌝ }
+    ensures { λ r. ⌜ calls.Calls (calls.arrivalCall
+        (calls.areasOf (now (memory .entry)) (now (holding .entry)) (now (outgoing .entry)) (now (kept .entry))) (now (frame .entry)) verdict)
+        r (now (memory .exit)) (now (holding .exit)) (now (outgoing .exit)) (now (kept .exit)) ⌝ }
 {
     code_calls::call(
         memory,
@@ -72,7 +76,9 @@ pub extern "C" fn lq_turn(
     kept: &mut [u8],
     report: u16,
 ) -> u64
-    ensures { λ r. ⌜ calls.Calls (calls.turnCall (calls.areasOf (now (memory .entry)) (now (holding .entry)) (now (outgoing .entry)) (now (kept .entry))) report) r (now (memory .exit)) (now (holding .exit)) (now (outgoing .exit)) (now (kept .exit)) ⌝ }
+    ensures { λ r. ⌜ calls.Calls (calls.turnCall
+        (calls.areasOf (now (memory .entry)) (now (holding .entry)) (now (outgoing .entry)) (now (kept .entry))) report)
+        r (now (memory .exit)) (now (holding .exit)) (now (outgoing .exit)) (now (kept .exit)) ⌝ }
 {
     let no_frame: [u8; 0] = [0; 0];
     code_calls::call(
@@ -98,7 +104,9 @@ pub extern "C" fn lq_run(
     report: u16,
     budget: u16,
 ) -> u64
-    ensures { λ r. ⌜ calls.Calls (calls.runCall (calls.areasOf (now (memory .entry)) (now (holding .entry)) (now (outgoing .entry)) (now (kept .entry))) report budget) r (now (memory .exit)) (now (holding .exit)) (now (outgoing .exit)) (now (kept .exit)) ⌝ }
+    ensures { λ r. ⌜ calls.Calls (calls.runCall
+        (calls.areasOf (now (memory .entry)) (now (holding .entry)) (now (outgoing .entry)) (now (kept .entry))) report budget)
+        r (now (memory .exit)) (now (holding .exit)) (now (outgoing .exit)) (now (kept .exit)) ⌝ }
 {
     let no_frame: [u8; 0] = [0; 0];
     code_calls::call(

@@ -6,15 +6,15 @@ use Prim.Native.Nat.{ℕ}
 use lib.ListN.{length}
 use borrow.Author.Tests.{eq-eqb}
 use Rattle.memory.specs.Size.{Allowed}
+use Rattle.device.specs.Limits.{holdingSize, outgoingSize}
 use Rattle.device.specs.declared.Device.{Device}
-use Rattle.device.specs.declared.Refusal.the-variants as refusal
 use Rattle.chip.specs.Call.{Call, reset, attention, arrive, turn, ran}
 use Rattle.calls.specs.Calls.{Areas, areasOf}
 use Rattle.traces.specs.Bytes.{called, number, isRefused}
 use Rattle.traces.specs.Event.{Event, call, host}
 use Rattle.traces.specs.Areas.{FrameBytes, AreBytes, Hosted, Holds, worldIn}
-use Rattle.closure.specs.Refusals.{AreasRight, FrameRight, When}
-use Rattle.closure.proofs.Refusals.{table}
+use Rattle.closure.specs.Refusals.{FrameRight}
+use Rattle.closure.proofs.Refusals.{table, AllRight, Unrefused, gives-none}
 use Rattle.closure.proofs.Carried.{carry, holds-length, lent-kept, areas-as-long}
 use Rattle.lists.proofs.Lift.{Accepted}
 
@@ -23,17 +23,28 @@ pub record Right (a : Areas) (d : Device) : Type 0 where
   pub bytes : AreBytes a
   pub holds : Holds (a .kept) d
   pub size : Allowed (length (a .memory))
-  pub lengths : AreasRight a
+  pub lengths : (length (a .holding) ≡ holdingSize) × (length (a .outgoing) ≡ outgoingSize)
 
-accepted-when : (c : Call) (a : Areas) (d : Device) → Right a d → FrameRight c → When refusal.Accepted c a
-accepted-when reset a d r f = (tt, (holds-length (a .kept) d (r .holds), tt), f, tt)
-accepted-when attention a d r f = (r .size, (holds-length (a .kept) d (r .holds), r .lengths), f, (d, r .holds))
-accepted-when (arrive x v) a d r f = (r .size, (holds-length (a .kept) d (r .holds), r .lengths), f, (d, r .holds))
-accepted-when (turn report) a d r f = (r .size, (holds-length (a .kept) d (r .holds), r .lengths), f, (d, r .holds))
+all-right : (c : Call) (a : Areas) (d : Device) → Right a d → FrameRight c → AllRight c a
+all-right c a d r f =
+    record {
+      size = r .size;
+      kept = holds-length (a .kept) d (r .holds);
+      holding = r .lengths .0;
+      outgoing = r .lengths .1;
+      frame = f;
+      image = (d, r .holds);
+    }
+
+unrefused : (c : Call) (a : Areas) (d : Device) → Right a d → FrameRight c → Unrefused c a
+unrefused reset a d r f = holds-length (a .kept) d (r .holds)
+unrefused attention a d r f = all-right attention a d r f
+unrefused (arrive x v) a d r f = all-right (arrive x v) a d r f
+unrefused (turn report) a d r f = all-right (turn report) a d r f
 
 pub accepts : (c : Call) (a : Areas) (d : Device) → Right a d → FrameRight c → isRefused (called c a) ≡ false
 accepts c a d r f =
-    ap not (eq-eqb (number (called c a .answer)) 0 (table c a (r .bytes .kept) refusal.Accepted .1 (accepted-when c a d r f)))
+    ap not (eq-eqb (number (called c a .answer)) 0 (table c a (r .bytes .kept) 0 .1 (gives-none c a (unrefused c a d r f))))
 
 -- what such a call leaves is so again
 pub right-again : (c : Call) (a : Areas) (d : Device) → Right a d → FrameBytes c → FrameRight c
@@ -44,7 +55,7 @@ right-again c a d r f l =
       bytes = lent-kept c a f (r .bytes);
       holds = carry c a d f (r .bytes) (r .holds) (accepts c a d r l) .holds;
       size = subst Allowed (sym (long .memory)) (r .size);
-      lengths = record { holding = long .holding ∙ r .lengths .holding; outgoing = long .outgoing ∙ r .lengths .outgoing };
+      lengths = (long .holding ∙ r .lengths .0, long .outgoing ∙ r .lengths .1);
     }
 
 -- ---- a trace that is not refused: frames of at most 2,048 bytes; the host leaves areas of bytes, as long as they must be
@@ -60,7 +71,7 @@ host-right m h out a d x r =
       bytes = record { memory = x .memory-bytes; holding = x .holding-bytes; outgoing = x .outgoing-bytes; kept = r .bytes .kept };
       holds = r .holds;
       size = x .size;
-      lengths = record { holding = x .holding; outgoing = x .outgoing };
+      lengths = (x .holding, x .outgoing);
     }
 
 pub all-accepted : (es : List Event) (a : Areas) (d : Device) → Right a d → Rights es → Accepted es a

@@ -1,13 +1,12 @@
 -- Demand 3, first half, over the calls on the areas that are lent: refused calls stand anywhere and count for nothing; and runs of turns are as many
 -- turns as their answer says. Assumes nothing.
-use mathlib.Core.Path.{_≡_, refl, sym, ap, _∙_, subst}
-use mathlib.Core.Bool.{Bool, true, false, true≢false}
+use mathlib.Core.Path.{_≡_, refl, sym, ap, subst}
+use mathlib.Core.Bool.{false}
 use mathlib.Core.List.{List, []}
 use Prim.Native.Nat.{ℕ, _*_, _≤_}
 use native.Mathlib.Omega.{arith}
 use lib.ListN.{length}
 use Rattle.memory.specs.Memory.{wordAt}
-use Rattle.memory.specs.Size.{sizeAllowed}
 use Rattle.memory.proofs.Bytes.{bytes-nil}
 use Rattle.memory.proofs.Power.{allowed}
 use Rattle.scb.specs.Words.{cblAt}
@@ -17,8 +16,8 @@ use Rattle.control.specs.Obey.{ofScb}
 use Rattle.chip.specs.Call.{attention}
 use Rattle.chip.specs.Attention.{attentionOf}
 use Rattle.chip.specs.World.{World}
-use Rattle.calls.specs.Calls.{Areas, answerNumber, attentionCall}
-use Rattle.calls.proofs.Laws.{bad-size}
+use Rattle.calls.specs.Calls.{Areas, onBytes, attentionCall}
+use Rattle.calls.proofs.Laws.{lengths-of-accepted}
 use Rattle.progress.specs.Trace.{run, turns}
 use Rattle.progress.specs.Machine.{Laws, Undisturbed}
 use Rattle.traces.specs.Bytes.{called, isRefused}
@@ -37,13 +36,9 @@ use Rattle.lists.proofs.Order.{listDone}
 
 -- ---- an attention that is not refused has an allowed N
 
-size-by : (b : Bool) (a : Areas) → sizeAllowed (length (a .memory)) ≡ b → isRefused (called attention a) ≡ false → b ≡ true
-unfolding attentionCall answerNumber
-size-by true a s r = refl
-size-by false a s r = absurd (true≢false (sym (ap isRefused (bad-size a [] attentionOf s)) ∙ r))
-
 size-least : (a : Areas) → isRefused (called attention a) ≡ false → 8192 ≤ length (a .memory)
-size-least a r = allowed (length (a .memory)) (size-by (sizeAllowed (length (a .memory))) a refl r) .least
+unfolding attentionCall
+size-least a r = allowed (length (a .memory)) (lengths-of-accepted a [] (λ w. onBytes (attentionOf w)) r .memory) .least
 
 -- ---- the whole
 

@@ -4,6 +4,7 @@ use mathlib.Core.Bool.{true}
 use mathlib.Core.List.{List, [], _∷_}
 use Prim.Native.Nat.{ℕ, _+_, _*_, _^_}
 use Rattle.texts.specs.Codes.{codes}
+use Rattle.scb.specs.Words.{bitsAt}
 use Rattle.texts.specs.Texts.{
   each,
   hex,
@@ -53,16 +54,16 @@ hex-word = refl
 
 -- nothing refused, 60 bytes sent, an edge
 pub sent : answerText (60 * 2 ^ 16 + 2 ^ 32) ≡ codes "0 60 1\n"
-unfolding answerText furtherText decimal decimalBy
+unfolding answerText bitsAt furtherText decimal decimalBy
 sent = refl
 
 pub refused : answerText 4 ≡ codes "4 0 0\n"
-unfolding answerText furtherText decimal decimalBy
+unfolding answerText bitsAt furtherText decimal decimalBy
 refused = refl
 
 -- and 3 turns of a run
 pub run-sent : answerText (60 * 2 ^ 16 + 2 ^ 32 + 3 * 2 ^ 48) ≡ codes "0 60 1 3\n"
-unfolding answerText furtherText decimal decimalBy
+unfolding answerText bitsAt furtherText decimal decimalBy
 run-sent = refl
 
 pub high : interruptText true ≡ codes "interrupt high\n"

@@ -3,7 +3,7 @@ use mathlib.Core.Path.{_≡_, refl, sym, ap, _∙_}
 use mathlib.Core.Bool.{Bool, true, false, cond}
 use mathlib.Core.List.{List, [], _∷_, _++_}
 use mathlib.Core.Logic.{⊎-elim}
-use Prim.Native.Nat.{ℕ, zero, suc, _+_, _-_, _*_, _/_, _^_, _≤_, _<_, min}
+use Prim.Native.Nat.{ℕ, zero, suc, _+_, _-_, _*_, _/_, _%_, _^_, _≤_, _<_, min}
 use native.Mathlib.Nat.{pow-suc, suc-mul}
 use native.Mathlib.Omega.{arith}
 use borrow.Author.Tests.{lt-ltb, le-ltb}
@@ -14,7 +14,9 @@ use Rattle.memory.proofs.Laws.{below-or-not}
 use Rattle.texts.specs.declared.Expected.{Expected}
 use Rattle.texts.specs.declared.Expected.the-variants as expected
 use Rattle.texts.specs.Codes.{codes}
-use Rattle.texts.specs.Texts.{Puts, each, hex, decimalBy, decimal, numberIn, lengthIn, edgeIn, turnsIn, furtherText, answerText, byteText, wordText, showLine, lookLine, expectedText, faultText}
+use Rattle.scb.specs.Words.{bitsAt}
+use Rattle.calls.specs.Answer.{number, sentLength, edge, turnsTaken}
+use Rattle.texts.specs.Texts.{Puts, each, hex, decimalBy, decimal, furtherText, answerText, byteText, wordText, showLine, lookLine, expectedText, faultText}
 
 -- ---- room
 
@@ -103,12 +105,12 @@ length-further n h = further-by (eqb n 0) n h
 
 -- whatever the answer: three numbers of at most 5, 5 and 1 digits, and a further one of at most 5
 pub length-answer : (a : ℕ) → length (answerText a) ≤ 20
-unfolding answerText
+unfolding answerText bitsAt
 length-answer a =
-    let n : length (decimal (numberIn a)) ≤ 5 = length-decimal 4 (numberIn a) (omega arith) in
-    let l : length (decimal (lengthIn a)) ≤ 5 = length-decimal 4 (lengthIn a) (omega arith) in
-    let e : length (decimal (edgeIn a)) ≤ 1 = length-decimal 0 (edgeIn a) (omega arith) in
-    let t : length (furtherText (turnsIn a)) ≤ 6 = length-further (turnsIn a) (omega arith) in
+    let n : length (decimal (number a)) ≤ 5 = length-decimal 4 (number a) (omega arith) in
+    let l : length (decimal (sentLength a)) ≤ 5 = length-decimal 4 (sentLength a) (omega arith) in
+    let e : length (decimal (edge a)) ≤ 1 = length-decimal 0 (edge a) (omega arith) in
+    let t : length (furtherText (turnsTaken a % 2 ^ 16)) ≤ 6 = length-further (turnsTaken a % 2 ^ 16) (omega arith) in
     simp length-append (omega arith)
 
 length-expected : (what : Expected) → length (expectedText what) ≤ 20

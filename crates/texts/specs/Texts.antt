@@ -7,6 +7,7 @@ use Prim.Native.Nat.{ℕ, zero, suc, _+_, _-_, _*_, _/_, _%_, _^_, min}
 use lib.Dec.{eqb, ltb}
 use lib.ListN.{length, getD}
 use lib.Seq.{sets}
+use Rattle.calls.specs.Answer.{number, sentLength, edge, turnsTaken}
 use Rattle.texts.specs.Codes.{codes}
 use Rattle.texts.specs.declared.Expected.{Expected}
 use Rattle.texts.specs.declared.Expected.the-variants as expected
@@ -43,26 +44,14 @@ decimal n = decimalBy (suc n) n
 
 -- ---- answers. "An answer is a line of three numbers: the number .., the length sent, and 1 or 0 for the interrupt's edge"
 
--- the parts of an answer, which is one number: bits 0 to 15, 16 to 31, 32, and 48 to 63
-abbrev pub numberIn : ℕ → ℕ
-numberIn a = a % 2 ^ 16
-
-abbrev pub lengthIn : ℕ → ℕ
-lengthIn a = a / 2 ^ 16 % 2 ^ 16
-
-abbrev pub edgeIn : ℕ → ℕ
-edgeIn a = a / 2 ^ 32 % 2
-
-abbrev pub turnsIn : ℕ → ℕ
-turnsIn a = a / 2 ^ 48 % 2 ^ 16
-
 -- the turns of a run: what stands behind the three numbers "only if it is not 0"
 unfoldable pub furtherText : ℕ → List ℕ
 furtherText n = cond (eqb n 0) [] (codes " " ++ decimal n)
 
+-- the parts of an answer; of its turns as many bits as a number of 64 has
 unfoldable pub answerText : ℕ → List ℕ
 answerText a =
-    decimal (numberIn a) ++ codes " " ++ decimal (lengthIn a) ++ codes " " ++ decimal (edgeIn a) ++ furtherText (turnsIn a) ++ codes "\n"
+    decimal (number a) ++ codes " " ++ decimal (sentLength a) ++ codes " " ++ decimal (edge a) ++ furtherText (turnsTaken a % 2 ^ 16) ++ codes "\n"
 
 -- "`interrupt high` or `interrupt low`"
 unfoldable pub interruptText : Bool → List ℕ

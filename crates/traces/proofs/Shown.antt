@@ -1,32 +1,22 @@
--- An answer taken apart; which events are turns, and which may come; what calls and runs that are refused count for. Each is a case that another
--- reading fails. Assumes nothing.
+-- Which events are turns, and which may come; what calls and runs that are refused count for. Each is a case that another reading fails. Assumes
+-- nothing.
 use mathlib.Core.Path.{_≡_, refl, sym, _∙_}
 use mathlib.Core.Bool.{true, false, _&&_, not, true≢false}
 use mathlib.Core.List.{List, [], _∷_, cons≢nil}
 use Prim.Native.Nat.{ℕ}
 use native.Mathlib.Omega.{arith}
-use lib.Dec.{T, eqb}
+use lib.Dec.{T}
 use Rattle.memory.specs.Size.{sizeAllowed}
+use Rattle.scb.specs.Words.{bitsAt}
 use Rattle.device.specs.State.{fresh}
 use Rattle.chip.specs.Call.{reset, attention, arrive, turn}
 use Rattle.chip.specs.World.{World, worldOf}
 use Rattle.calls.specs.Calls.{Areas, areasOf, answerNumber, refusalOf, turnCall, runCall}
-use Rattle.traces.specs.Bytes.{number, sentLength, edge, turnsTaken, withoutTurns}
 use Rattle.traces.specs.Event.{Event, call, host, isTurn, isCalm, DuringList, WhileHeld}
 use Rattle.traces.specs.Areas.{FrameBytes}
 use Rattle.traces.specs.Driven.{Lending, lending, refusedAt, left, isTaken, eventsOf, Drive, runs, leftDriven, turnsOne, unrolled, Fair, FairDrive}
 
--- ---- 01, "Calls, lent areas, refusals"
-
--- number 0, length 60, an edge
-pub takenApart : T (eqb (number 0x1003C0000) 0 && eqb (sentLength 0x1003C0000) 60 && eqb (edge 0x1003C0000) 1 && eqb (number 4) 4)
-takenApart = tt
-
--- the same as the answer of a run that took three turns
-pub runTakenApart : T (eqb (turnsTaken 0x30001003C0000) 3 && eqb (withoutTurns 0x30001003C0000) 0x1003C0000)
-runTakenApart = tt
-
--- a frame is made of bytes
+-- 01, "Calls, lent areas, refusals": a frame is made of bytes
 pub byBytes : FrameBytes (arrive (256 ∷ []) 0) → ⊥
 byBytes b = omega (arith, b .each 0)
 
@@ -63,12 +53,12 @@ abbrev strayRun : Drive
 strayRun = runs nothing 0 5
 
 pub refused : refusedAt stray ≡ true
-unfolding turnCall refusalOf answerNumber sizeAllowed
+unfolding turnCall refusalOf answerNumber bitsAt sizeAllowed
 refused = refl
 
 -- a refused call counts for no turn and no event, and what stood stands
 pub refusedCall : (isTaken stray ≡ false) × (eventsOf (stray ∷ []) ≡ []) × (left stray standing ≡ standing)
-unfolding turnCall refusalOf answerNumber sizeAllowed
+unfolding turnCall refusalOf answerNumber bitsAt sizeAllowed
 refusedCall = (refl, refl, refl)
 
 -- so does a run that took no turn, whatever its budget

@@ -6,7 +6,7 @@ use Prim.Native.Nat.{ℕ}
 use lib.ListN.{length}
 use Rattle.memory.specs.Size.{Allowed}
 use Rattle.memory.proofs.Bytes.{Bytes}
-use Rattle.device.specs.Limits.{areaSize}
+use Rattle.device.specs.Limits.{holdingSize, outgoingSize}
 use Rattle.device.specs.State.{freshUnits}
 use Rattle.device.specs.declared.Device.{Device}
 use Rattle.device.specs.declared.Units.{Units}
@@ -42,8 +42,8 @@ pub record AreBytes (a : Areas) : Type 0 where
 -- memory, holding area and outgoing area as a host leaves them: of bytes, and of the right lengths
 pub record Hosted (m h out : List ℕ) : Type 0 where
   pub size : Allowed (length m)
-  pub holding : length h ≡ areaSize
-  pub outgoing : length out ≡ areaSize
+  pub holding : length h ≡ holdingSize
+  pub outgoing : length out ≡ outgoingSize
   pub memory-bytes : Bytes m
   pub holding-bytes : Bytes h
   pub outgoing-bytes : Bytes out

@@ -10,6 +10,7 @@ use lib.Count.{ones}
 use Rattle.memory.specs.Size.{sizeAllowed, Allowed}
 use Rattle.memory.proofs.Bytes.{Bytes, bytes-nil, bytes-cons}
 use Rattle.memory.proofs.Power.{allowed}
+use Rattle.scb.specs.Words.{bitsAt}
 use Rattle.image.specs.Image.{imageOf}
 use Rattle.image.proofs.Exact.{image-bytes, fresh-range, fresh-wide}
 use Rattle.chip.specs.Cases.{_is_, put}
@@ -76,7 +77,7 @@ right-first =
           };
       holds = record { wide = s .wide; range = s .range; image = refl };
       size = smallest;
-      lengths = record { holding = refl; outgoing = refl };
+      lengths = (refl, refl);
     }
 
 -- ---- the trace
@@ -117,7 +118,7 @@ abbrev pub stray : Lending
 stray = record { made = turn 0; lent = areasOf [] [] [] [] }
 
 stray-refused : refusedAt stray ≡ true
-unfolding turnCall refusalOf answerNumber sizeAllowed
+unfolding turnCall refusalOf answerNumber bitsAt sizeAllowed
 stray-refused = refl
 
 abbrev pub worked : List Lending

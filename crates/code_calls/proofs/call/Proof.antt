@@ -4,17 +4,16 @@ use lib.ListN.{length}
 use Rattle.image.specs.Image.{decodeOf, deviceAt}
 use Rattle.image.proofs.Lent.{found-units, found-foreign}
 use Rattle.chip.specs.World.{worldOf}
-use Rattle.calls.specs.Calls.{areasOf, areasRight}
+use Rattle.calls.specs.Calls.{areasOf}
 use Rattle.code_calls.specs.Inner.{askedOn}
 use Rattle.code_calls.specs.declared.Asked.{Asked}
-use Rattle.code_calls.proofs.Laws.{asked-early, asked-right, asked-foreign, asked-accepted, record-length, attention-holding, attention-outgoing, arrival-outgoing}
+use Rattle.code_calls.proofs.Laws.{asked-early, asked-right, asked-foreign, asked-accepted, attention-holding, attention-outgoing, arrival-outgoing}
 use Rattle.code_calls.proofs.Asks.{as-said}
 use borrow.Author.Needs.{needs}
 use Rattle.code_calls.proofs.call.Statement.{statement}
 use Rattle.code_calls.proofs.call.Tie as tie
 
 returns : tie.Need-returns
-unfolding areasRight
 returns c =
     let st : tie.Start = search needs in
     let s = st .args in
@@ -26,7 +25,6 @@ returns c =
     (record { answer = c .refuse .ensures; memory = refl; holding = refl; outgoing = refl; kept = refl })
 
 returns-2 : tie.Need-returns-2
-unfolding areasRight
 returns-2 c =
     let st : tie.Start = search needs in
     let s = st .args in
@@ -42,7 +40,6 @@ returns-2 c =
     (record { answer = c .refuse2 .ensures; memory = refl; holding = refl; outgoing = refl; kept = refl })
 
 returns-3 : tie.Need-returns-3
-unfolding areasRight
 returns-3 c =
     let o : tie.After-attention-on = search needs in
     let x = o .before .before .before in
@@ -63,7 +60,6 @@ returns-3 c =
     (record { answer = e .answer _ _; memory = e .memory _ _; holding = attention-holding w; outgoing = attention-outgoing w; kept = e .kept _ _ })
 
 returns-4 : tie.Need-returns-4
-unfolding areasRight
 returns-4 c =
     let o : tie.After-arrival-on = search needs in
     let x = o .before .before .before .before in
@@ -84,7 +80,6 @@ returns-4 c =
     (record { answer = e .answer _; memory = e .memory _; holding = e .holding _; outgoing = arrival-outgoing w _ _; kept = e .kept _ })
 
 returns-5 : tie.Need-returns-5
-unfolding areasRight
 returns-5 c =
     let o : tie.After-turns-on = search needs in
     let x = o .before .before .before .before .before in
@@ -106,17 +101,15 @@ returns-5 c =
 
 -- the record of a call that no length refuses has 256 bytes
 long : (q : tie.Else1) → let st : tie.Start = search needs in length (st .args .kept .now) ≡ 256
-unfolding areasRight
 long q =
     let st : tie.Start = search needs in
     let s = st .args in
     let a = areasOf (s .memory .now) (s .holding .now) (s .outgoing .now) (s .kept .now) in
     let r : tie.After-refusal = search needs in
     let n : tie.After-refusal-number = search needs in
-    record-length a (asked-right (s .asked) a (s .frame .now) (s .line) (s .budget) (s .unit) (r .refusal .result) (r .refusal .ensures) (sym (n .refusal-number .ensures) ∙ q .if1 .left) .areas)
+    asked-right (s .asked) a (s .frame .now) (s .line) (s .budget) (s .unit) (r .refusal .result) (r .refusal .ensures) (sym (n .refusal-number .ensures) ∙ q .if1 .left) .kept
 
 pub call-spec : {M : Type 1} → statement M
-unfolding areasRight
 call-spec =
     tie.close
     (tie.spec
