@@ -1,3 +1,3 @@
--- The control codes: how a unit goes to the state of its table, and how a code is obeyed.
+-- The control codes: what each does to a unit, row by row, and how a code is obeyed.
 pub mod Control
 pub mod Obey
