@@ -29,16 +29,17 @@ use Rattle.traces.specs.Bytes.{called, number, isRefused}
 use Rattle.traces.specs.Areas.{FrameBytes, AreBytes, Holds, worldIn, Shows}
 use Rattle.traces.specs.Driven.{Lending, left, isTaken, eventsOf, Drive, leftDriven, turnsDriven, unrolled, AllFair, AllFairDrive}
 use Rattle.closure.specs.Sound.{Sound}
-use Rattle.closure.specs.Refusals.{When, Untouched}
+use Rattle.closure.specs.Refusals.{When, Seen, Untouched}
 use Rattle.closure.specs.Carried.{Again}
 use Rattle.closure.specs.Turns.{AsTurns}
 use Rattle.closure.proofs.Refusals as refusals
+use Rattle.closure.proofs.Witness as rows-seen
 use Rattle.closure.proofs.Closed as closure
 use Rattle.closure.proofs.Carried as carried
 use Rattle.closure.proofs.Turns as run-of-turns
 use Rattle.frames.specs.Arrival as arrival
 use Rattle.frames.specs.Held.{GoodFate, BadFate}
-use Rattle.frames.specs.Fates.{Deed, opening, still, after, beginnings, endings, times, timesFated, timesAltered, AllFates}
+use Rattle.frames.specs.Fates.{Deed, Scene, namesOf, opening, still, after, beginnings, endings, times, timesFated, timesAltered, AllFates}
 use Rattle.frames.specs.Stands.{NoOverlap, pieces, GoodExit}
 use Rattle.frames.proofs.Arrival as arrivals
 use Rattle.frames.proofs.Held as holdings
@@ -70,6 +71,10 @@ use Rattle.kinds.proofs.Closing as closing
 pub refused-by-the-table : (c : Call) (a : Areas) → Bytes (a .kept) → (n : ℕ)
     → (number (called c a .answer) ≡ n → When n c a) × (When n c a → number (called c a .answer) ≡ n)
 refused-by-the-table = refusals.table
+
+-- and every row of it is given at some call; the rows stand in the order of their numbers (`rowsAscend`, crates/calls/proofs/Shown.antt)
+pub every-row-is-given : (r : Refusal) → Seen r
+every-row-is-given = rows-seen.each-row
 
 -- "and a refused call changes no lent byte", with length 0 and no edge
 pub a-refusal-changes-nothing : (c : Call) (a : Areas) → isRefused (called c a) ≡ true → Untouched a (called c a)
@@ -142,6 +147,17 @@ pub exactly-one-fate : (w : World) (ds : List Deed) (k : ℕ) → inRange (w .de
     → 0 < times k (still (opening w) ++ beginnings ds (opening w))
     → timesFated k (endings ds (opening w)) + timesAltered k (endings ds (opening w)) + times k (still (after ds (opening w))) ≡ 1
 exactly-one-fate = fates.exactly-one
+
+-- and no fate without its frame: under a number that no held frame got, 0 among them, no end is noted and nothing is held
+pub no-other-fate : (w : World) (ds : List Deed) (k : ℕ) → inRange (w .device) ≡ true
+    → times k (still (opening w) ++ beginnings ds (opening w)) ≡ 0
+    → timesFated k (endings ds (opening w)) + timesAltered k (endings ds (opening w)) + times k (still (after ds (opening w))) ≡ 0
+no-other-fate = fates.no-other
+
+-- so, frame by frame and in order: those that ended and those that are still held are those that were held
+pub every-held-frame-is-accounted-for : (ds : List Deed) (s : Scene) → inRange (s .world .device) ≡ true
+    → namesOf (endings ds s) ++ still (after ds s) ≡ still s ++ beginnings ds s
+every-held-frame-is-accounted-for = fates.conserved
 
 pub at-every-call : (ds : List Deed) (w : World) → inRange (w .device) ≡ true → AllFates ds w
 at-every-call = fates.all-fates

@@ -1,12 +1,9 @@
 -- Where the record's parts stand: docs/record.md, "Layout". Before the status are the letters and the version; spare bytes lie between. Assumes nothing.
 use Prim.Native.Nat.{ℕ}
 
--- the letters B, G, T; the version
+-- the letters B, G, T, and behind them the version
 abbrev pub lettersAt : ℕ
 lettersAt = 0
-
-abbrev pub versionAt : ℕ
-versionAt = 3
 
 -- the four numbers, eight bytes each
 abbrev pub statusAt : ℕ
