@@ -16,11 +16,11 @@ use Rattle.control.specs.Obey.{ofScb}
 use Rattle.chip.specs.World.{Ran}
 use Rattle.chip.specs.Call.{attention, turn}
 use Rattle.calls.specs.Calls.{Called}
-use Rattle.traces.specs.Bytes.{number, sentLength, edge}
+use Rattle.traces.specs.Bytes.{number, sentLength}
 use Rattle.closure.proofs.Refusals.{gives-none}
 use Rattle.kinds.specs.Chips.{Chip, Meets}
 use Rattle.kinds.specs.Demands.{Demand1, lentOf, AsDefined, Demand2}
-use Rattle.kinds.specs.Kinds.{RefusesAll, OneAnswer, MemoryAsLent, settingsIn, SetsNothing, MeasuresNothing, SendsNothing, MarksOnly, Invented, anotherCounter, anotherEdge, Invents}
+use Rattle.kinds.specs.Kinds.{RefusesAll, OneAnswer, MemoryAsLent, settingsIn, SetsNothing, MeasuresNothing, SendsNothing, MarksOnly, Invented, anotherCounter, anotherEdge, fromEdge, Invents}
 use Rattle.kinds.proofs.Ours.{has-demand1, has-demand2}
 use Rattle.kinds.proofs.Witness.{zeros, heldArea, sentArea, attending, turning, acceptable-on, handed-on, firstly, idly, first-answer, idle-answer, first-status, zero-status, block, withUnit, turned, settingUp, setting-wide, setting-range, setting-done, was-set, is-set, measuring, measuring-wide, measuring-range, measuring-done, measured, begun, sending, sending-wide, sending-range, sending-done, sent-length, not-done, not-measured}
 
@@ -156,7 +156,7 @@ module _ (chip : Chip) where
   module _ (x : Device) (said : Ran) (r : Called) (p : AsDefined said r) where
     nothing-invented : Invented x said r → ⊥
     nothing-invented (anotherCounter u s k c differs) = differs (ap (λ (m : List ℕ). wordAt m (ofScb u (counterPlace k))) (p .memory))
-    nothing-invented (anotherEdge differs) = differs (ap edge (p .answer))
+    nothing-invented (anotherEdge differs) = differs (ap fromEdge (p .answer))
 
   pub invents-lacks-2 : Invents chip → Demand2 chip → ⊥
   invents-lacks-2 k d =

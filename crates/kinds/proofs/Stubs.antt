@@ -11,10 +11,9 @@ use Rattle.device.specs.State.{fresh}
 use Rattle.image.proofs.Exact.{fresh-range, fresh-wide}
 use Rattle.chip.specs.Call.{turn}
 use Rattle.calls.specs.Calls.{Areas, answerNumber}
-use Rattle.traces.specs.Bytes.{edge}
 use Rattle.kinds.specs.Chips.{Chip, chipRun}
 use Rattle.kinds.specs.Lists.{All, turnsOf}
-use Rattle.kinds.specs.Kinds.{RefusesAll, OneAnswer, MemoryAsLent, FirstOnly, anotherEdge, Invents}
+use Rattle.kinds.specs.Kinds.{RefusesAll, OneAnswer, MemoryAsLent, FirstOnly, anotherEdge, fromEdge, Invents}
 use Rattle.kinds.proofs.Witness.{zeros, heldArea, sentArea, turning, acceptable-on, handed-on, idly, idle-answer}
 
 -- it leaves all as lent and answers n
@@ -61,5 +60,5 @@ stub-invents =
       acceptable = acceptable-on (turn 0) fresh (omega arith) fresh-wide fresh-range;
       lent = handed-on (turn 0) fresh turning fresh-wide;
       invented =
-          anotherEdge (λ e. let z : edge (answerNumber (idly .outcome .answer)) ≡ 0 = ap edge idle-answer in omega (arith, e, z));
+          anotherEdge (λ e. let z : fromEdge (answerNumber (idly .outcome .answer)) ≡ 0 = ap fromEdge idle-answer in omega (arith, e, z));
     }

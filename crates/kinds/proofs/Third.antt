@@ -20,7 +20,6 @@ use Rattle.chip.specs.World.{World, worldOf, afterwards}
 use Rattle.chip.specs.Attention.{attentionOf}
 use Rattle.chip.specs.Call.{Call, attention, turn, ran}
 use Rattle.calls.specs.Calls.{Areas, answerNumber}
-use Rattle.traces.specs.Bytes.{edge}
 use Rattle.progress.specs.Trace.{run}
 use Rattle.traces.specs.Areas.{Hosted, shown}
 use Rattle.traces.specs.Event.{Event, call, host, step}
@@ -29,7 +28,7 @@ use Rattle.kinds.specs.Chips.{Chip, ours, Given, Handed, Meets, chipRun,
 use Rattle.kinds.specs.Demands.{Acceptable, Demand2}
 use Rattle.kinds.specs.Closed.{Right, Closed}
 use Rattle.kinds.specs.Lists.{turnsOf, AllReports, AllAcceptable, DoneAsIn2, Demand3}
-use Rattle.kinds.specs.Kinds.{InventedAlong, anotherCount, anotherEdges, InventsAlong}
+use Rattle.kinds.specs.Kinds.{InventedAlong, anotherCount, anotherEdges, fromEdge, InventsAlong}
 use Rattle.kinds.proofs.Equal.{all-areas}
 use Rattle.kinds.proofs.Ours.{has-demand2, ours-demand2}
 use Rattle.kinds.proofs.Witness.{attending}
@@ -149,7 +148,7 @@ module _ (chip : Chip) where
       → InventedAlong d after answers w said → ⊥
   none-along d after answers w said p q (anotherCount k c differs) =
       differs (ap (λ (a : Areas). wordAt (a .memory) (ofScb (d .units) (counterPlace k))) p)
-  none-along d after answers w said p q (anotherEdges differs) = differs (ap (map edge) q)
+  none-along d after answers w said p q (anotherEdges differs) = differs (ap (map fromEdge) q)
 
   pub invents-along-lacks-3 : InventsAlong chip → Demand3 chip → ⊥
   invents-along-lacks-3 k d =

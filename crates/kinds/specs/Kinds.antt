@@ -3,7 +3,7 @@ use mathlib.Core.Path.{_≡_}
 use mathlib.Core.Bool.{true, false}
 use mathlib.Core.List.{List, _∷_, map}
 use mathlib.Core.Logic.{_⊎_}
-use Prim.Native.Nat.{ℕ, _<_}
+use Prim.Native.Nat.{ℕ, _/_, _^_, _<_}
 use Rattle.memory.specs.Address.{place}
 use Rattle.memory.specs.Memory.{wordAt}
 use Rattle.memory.specs.declared.Offset.{Offset}
@@ -24,7 +24,7 @@ use Rattle.image.specs.Image.{imageOf}
 use Rattle.chip.specs.World.{World, Ran, worldOf}
 use Rattle.chip.specs.Call.{Call, attention, turn, ran}
 use Rattle.calls.specs.Calls.{Areas, Called, answerNumber}
-use Rattle.traces.specs.Bytes.{number, sentLength, edge}
+use Rattle.traces.specs.Bytes.{number, sentLength}
 use Rattle.progress.specs.Trace.{run, AllMay}
 use Rattle.traces.specs.Event.{Event, call, step, answersOf, Calm}
 use Rattle.kinds.specs.Chips.{Chip, Handed, chipAnswers}
@@ -111,11 +111,15 @@ pub record FirstOnly (chip : Chip) : Type 0 where
 abbrev pub ScbOf : Device → Ran → Units → Type 0
 ScbOf d said u = (u ≡ d .units) ⊎ (u ≡ said .outcome .device .units)
 
+-- the edge, and whatever stands above it in an answer
+abbrev pub fromEdge : ℕ → ℕ
+fromEdge answer = answer / 2 ^ 32
+
 -- a counter's word, or the edge, is not what the definitions leave
 pub data Invented (d : Device) (said : Ran) (r : Called) : Type 0 where
   anotherCounter : (u : Units) → ScbOf d said u → (k : Counter) → isCounter k ≡ true
       → (wordAt (r .areas .memory) (ofScb u (counterPlace k)) ≡ wordAt (said .memory) (ofScb u (counterPlace k)) → ⊥) → Invented d said r
-  anotherEdge : (edge (r .answer) ≡ edge (answerNumber (said .outcome .answer)) → ⊥) → Invented d said r
+  anotherEdge : (fromEdge (r .answer) ≡ fromEdge (answerNumber (said .outcome .answer)) → ⊥) → Invented d said r
 
 pub record Invents (chip : Chip) : Type 0 where
   pub inner : chip .Inner
@@ -134,7 +138,7 @@ pub data InventedAlong (d : Device) (after : Areas) (answers : List ℕ) (w : Wo
   anotherCount : (k : Counter) → isCounter k ≡ true
       → (wordAt (after .memory) (ofScb (d .units) (counterPlace k)) ≡ wordAt (w .memory) (ofScb (d .units) (counterPlace k)) → ⊥)
       → InventedAlong d after answers w said
-  anotherEdges : (map edge answers ≡ map edge said → ⊥) → InventedAlong d after answers w said
+  anotherEdges : (map fromEdge answers ≡ map fromEdge said → ⊥) → InventedAlong d after answers w said
 
 pub record InventsAlong (chip : Chip) : Type 0 where
   pub inner : chip .Inner
