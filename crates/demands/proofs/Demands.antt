@@ -38,7 +38,7 @@ use Rattle.closure.proofs.Carried as carried
 use Rattle.closure.proofs.Turns as run-of-turns
 use Rattle.frames.specs.Arrival as arrival
 use Rattle.frames.specs.Held.{GoodFate, BadFate}
-use Rattle.frames.specs.Fates.{Deed, opening, still, after, beginnings, endings, times, timesFated, timesAltered, AllFates}
+use Rattle.frames.specs.Fates.{Deed, opening, still, advance, beginnings, endings, times, timesFated, timesAltered, AllFates}
 use Rattle.frames.specs.Stands.{NoOverlap, pieces, GoodExit}
 use Rattle.frames.proofs.Arrival as arrivals
 use Rattle.frames.proofs.Held as holdings
@@ -51,7 +51,7 @@ use Rattle.lists.proofs.Whole as whole
 use Rattle.lists.proofs.Bytes as list-bytes
 use Rattle.worked.proofs.Exact as list-exact
 use Rattle.held.specs.Held as held
-use Rattle.held.specs.OnRecords as kept
+use Rattle.held.specs.OnRecords as on-records
 use Rattle.held.proofs.Held as held-frames
 use Rattle.held.proofs.Exact as held-exact
 use Rattle.held.proofs.Calls as held-calls
@@ -140,7 +140,7 @@ stored-and-counted-at-exit = exits.good-exit
 -- the host altered the record, or it is held still
 pub exactly-one-fate : (w : World) (ds : List Deed) (k : ℕ) → inRange (w .device) ≡ true
     → 0 < times k (still (opening w) ++ beginnings ds (opening w))
-    → timesFated k (endings ds (opening w)) + timesAltered k (endings ds (opening w)) + times k (still (after ds (opening w))) ≡ 1
+    → timesFated k (endings ds (opening w)) + timesAltered k (endings ds (opening w)) + times k (still (run advance ds (opening w))) ≡ 1
 exactly-one-fate = fates.exactly-one
 
 pub at-every-call : (ds : List Deed) (w : World) → inRange (w .device) ≡ true → AllFates ds w
@@ -208,11 +208,11 @@ no-fewer-for-two = list-exact.two-take-264
 pub a-held-frame-is-settled : held.Within 132
 a-held-frame-is-settled = held-frames.held-frame
 
-pub a-held-frame-is-settled-on-bytes : kept.Within 132
+pub a-held-frame-is-settled-on-bytes : on-records.Within 132
 a-held-frame-is-settled-on-bytes = held-calls.held-frame
 
 -- the same where runs of turns are among the calls
-pub a-held-frame-is-settled-by-runs : kept.WithinByRuns 132
+pub a-held-frame-is-settled-by-runs : on-records.WithinByRuns 132
 a-held-frame-is-settled-by-runs = held-calls.runs-held-frame
 
 -- and no smaller number would do
