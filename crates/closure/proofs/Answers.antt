@@ -6,7 +6,7 @@ use Prim.Native.Nat.{ℕ, _≤_}
 use native.Mathlib.Omega.{arith}
 use Rattle.scb.specs.Words.{scbCommandAt, resets}
 use Rattle.memory.specs.Memory.{wordAt}
-use Rattle.device.specs.State.{cuState, isActive, isHolding}
+use Rattle.device.specs.State.{cuWorks, ruWorks}
 use Rattle.device.specs.declared.Device.{Device}
 use Rattle.device.specs.declared.Answer.{Answer}
 use Rattle.device.specs.declared.Refusal.the-variants as refusal
@@ -74,7 +74,7 @@ number-accepted reset w = refl
 number-accepted attention w = attention-silent w .number
 number-accepted (arrive f v) w = arrival-silent w f v .number
 number-accepted (turn report) w =
-    turn-number (isActive (cuState (w .device .units .cu))) (isHolding (w .device .units .ru)) (w .device .units .rulast) w report
+    turn-number (cuWorks (w .device .units .cu)) (ruWorks (w .device .units .ru)) (w .device .units .rulast) w report
 
 -- no frame sent exceeds 2,048 bytes
 pub sent-most : (c : Call) (w : World) → Sound w → ran c w .outcome .answer .length ≤ 2048
@@ -83,4 +83,4 @@ sent-most reset w s = omega arith
 sent-most attention w s = omega (arith, attention-silent w .length)
 sent-most (arrive f v) w s = omega (arith, arrival-silent w f v .length)
 sent-most (turn report) w s =
-    turn-most (isActive (cuState (w .device .units .cu))) (isHolding (w .device .units .ru)) (w .device .units .rulast) w report s
+    turn-most (cuWorks (w .device .units .cu)) (ruWorks (w .device .units .ru)) (w .device .units .rulast) w report s

@@ -1,6 +1,6 @@
 -- Closure on the areas that are lent: a call that is not refused does what it does on the state that the record holds, and leaves a record that is
 -- accepted again; bytes stay bytes and lengths stay. Assumes nothing.
-use mathlib.Core.Path.{_≡_, refl, sym, ap, _∙_}
+use mathlib.Core.Path.{_≡_, refl, sym, ap, subst, _∙_}
 use mathlib.Core.Bool.{Bool, true, false}
 use mathlib.Core.List.{List}
 use Prim.Native.Nat.{ℕ, _≤_}
@@ -30,7 +30,7 @@ use Rattle.calls.specs.Calls.{Areas, Called, answerNumber, refusalOf, onBytes, 
 use Rattle.calls.proofs.Answer.{told-number, told-alone}
 use Rattle.calls.proofs.Laws.{accepted}
 use Rattle.traces.specs.Bytes.{called, number, isRefused}
-use Rattle.traces.specs.Areas.{arriving, FrameBytes, AreBytes, Holds, worldIn}
+use Rattle.traces.specs.Areas.{arriving, FrameBytes, AreBytes, Holds, worldIn, Shows}
 use Rattle.closure.specs.Sound.{Sound}
 use Rattle.closure.specs.Refusals.{TakesAll, Right, rowsOf}
 use Rattle.closure.specs.Carried.{AsLong, Carried, Again, Parts}
@@ -219,3 +219,24 @@ answer-parts c a d l h e =
       edge = t .edged;
       whole = refl;
     })
+
+-- ---- areas that show a world: a call that is not refused leaves those that show the world after it, with the same answer
+
+pub shows-world : (a : Areas) (w : World) → Shows a w → worldIn (w .device) a ≡ w
+shows-world a w s = rw (s .memory, s .holding, s .outgoing)
+
+pub carry-shown : (c : Call) (a : Areas) (w : World) → FrameBytes c → AreBytes a → Shows a w → isRefused (called c a) ≡ false
+    → (Shows (called c a .areas) (afterwards (ran c w))) × (called c a .answer ≡ answerNumber (ran c w .outcome .answer))
+carry-shown c a w f l s e =
+    let x = carry c a (w .device) f l (s .kept) e in
+    subst
+    (λ (v : World). Shows (called c a .areas) (afterwards (ran c v)) × (called c a .answer ≡ answerNumber (ran c v .outcome .answer)))
+    (shows-world a w s) (
+      record {
+        memory = ap (λ (r : Called). r .areas .memory) (x .same);
+        holding = ap (λ (r : Called). r .areas .holding) (x .same);
+        outgoing = ap (λ (r : Called). r .areas .outgoing) (x .same);
+        kept = x .holds;
+      },
+      ap (λ (r : Called). r .answer) (x .same),
+    )

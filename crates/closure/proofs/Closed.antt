@@ -11,7 +11,7 @@ use Rattle.scb.specs.Words.{anyOf}
 use Rattle.scb.specs.declared.Events.{Events}
 use Rattle.device.specs.Answers.{isHeld}
 use Rattle.device.specs.Change.{withUnits, withRu}
-use Rattle.device.specs.State.{cuState, isActive, isHolding, fresh, freshUnits, freshSettings}
+use Rattle.device.specs.State.{fresh, freshUnits, freshSettings, cuWorks, ruWorks}
 use Rattle.device.specs.declared.Device.{Device}
 use Rattle.device.specs.declared.Fate.{Fate}
 use Rattle.device.specs.declared.Ru.{Ru}
@@ -206,7 +206,7 @@ turn-closed-at : (i : Bool) (d : Device) (m h out : List ℕ) (report : ℕ) →
     → Sound (afterwards (turnOf (worldOf d m h out) report))
 unfolding turnOf
 turn-closed-at true d m h out report i s =
-    turn-closed-by (isActive (cuState (d .units .cu))) (isHolding (d .units .ru)) (d .units .rulast) (worldOf d m h out) report
+    turn-closed-by (cuWorks (d .units .cu)) (ruWorks (d .units .ru)) (d .units .rulast) (worldOf d m h out) report
     (running-of d (s .range) (s .wide) i) (s .memory) (s .holding) (s .outgoing)
 turn-closed-at false d m h out report i s =
     rw (one-fresh d (s .wide) (s .range) i) (turn-fresh m h out report (s .memory) (s .holding) (s .outgoing))

@@ -20,8 +20,7 @@ use Rattle.traces.specs.Areas.{AreBytes, Holds, unitsBy, deviceIn, worldIn, wor
 use Rattle.traces.specs.Driven.{Lending, lending, refusedAt, leftBy, left, isTaken, hostOf, eventsBy, eventsOf, Drive, calls, runs, takenIn, ranBy, leftDriven}
 use Rattle.traces.specs.Driven.{turnsDriven, turnsFrom, unrolled, Lends, Fair, AllFair, AllFairDrive}
 use Rattle.closure.specs.Turns.{turnsOn}
-use Rattle.closure.proofs.Carried.{holds-decoded, holds-back, lent-kept}
-use Rattle.closure.proofs.Runs.{shows-world, carry-shown}
+use Rattle.closure.proofs.Carried.{holds-decoded, holds-back, lent-kept, shows-world, carry-shown}
 use Rattle.closure.proofs.Turns.{run-accepted, run-is-turns, taken-accepted, turn-again}
 
 -- ---- the state that a record holds is the one that it says

@@ -14,7 +14,7 @@ use Rattle.memory.proofs.Laws.{length-apply}
 use Rattle.device.specs.Answers.{isHeld}
 use Rattle.device.specs.Limits.{heldFrom}
 use Rattle.device.specs.Numbers.{transmit}
-use Rattle.device.specs.State.{cuState, isActive, isHolding}
+use Rattle.device.specs.State.{cuWorks, ruWorks}
 use Rattle.device.specs.declared.Begun.{Begun}
 use Rattle.device.specs.declared.Cu.{Cu}
 use Rattle.device.specs.declared.Cu.the-variants as cu
@@ -119,4 +119,4 @@ lengths-kept (arrive f v) w =
       outgoing = refl;
     }
 lengths-kept (turn report) w =
-    turn-lengths (isActive (cuState (w .device .units .cu))) (isHolding (w .device .units .ru)) (w .device .units .rulast) w report
+    turn-lengths (cuWorks (w .device .units .cu)) (ruWorks (w .device .units .ru)) (w .device .units .rulast) w report

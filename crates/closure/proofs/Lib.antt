@@ -1,4 +1,4 @@
--- Every state that a call leaves is in range (Units to Closed, Lengths, Answers); demand 1 (Refusals, Witness); both on bytes (Carried, Runs);
+-- Every state that a call leaves is in range (Units to Closed, Lengths, Answers); demand 1 (Refusals, Witness); both on bytes (Carried);
 -- what a host's calls and runs of turns come to (Turns, Driven).
 pub mod Units
 pub mod Command
@@ -10,6 +10,5 @@ pub mod Answers
 pub mod Refusals
 pub mod Witness
 pub mod Carried
-pub mod Runs
 pub mod Turns
 pub mod Driven

@@ -39,8 +39,7 @@ use Rattle.closure.specs.Turns.{turnsOn, lastAnswer, Ends, sent, edged, 
 use Rattle.closure.proofs.Closed.{closed}
 use Rattle.closure.proofs.Answers.{number-accepted, sent-most}
 use Rattle.closure.proofs.Refusals.{table, AllRight, gives-none, untouched}
-use Rattle.closure.proofs.Carried.{not-refused, same-by, lent-kept, areas-as-long, answer-parts}
-use Rattle.closure.proofs.Runs.{shows-world, carry-shown}
+use Rattle.closure.proofs.Carried.{not-refused, same-by, lent-kept, areas-as-long, answer-parts, shows-world, carry-shown}
 
 -- ---- what a run answers on states
 

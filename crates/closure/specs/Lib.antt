@@ -1,6 +1,5 @@
--- What every call keeps; the table of refusals; from states to bytes, for a call, for a trace and for a run of turns.
+-- What every call keeps; the table of refusals; from states to bytes, for a call and for a run of turns.
 pub mod Sound
 pub mod Refusals
 pub mod Carried
-pub mod Runs
 pub mod Turns

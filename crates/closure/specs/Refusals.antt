@@ -2,10 +2,10 @@
 use mathlib.Core.Path.{_≡_}
 use mathlib.Core.List.{List, [], _∷_}
 use mathlib.Core.Logic.{_⊎_}
-use Prim.Native.Nat.{ℕ, _≤_}
+use Prim.Native.Nat.{ℕ}
 use lib.ListN.{length}
 use Rattle.memory.specs.Size.{Allowed}
-use Rattle.device.specs.Limits.{holdingSize, outgoingSize, recordSize, longest}
+use Rattle.device.specs.Limits.{holdingSize, outgoingSize, recordSize}
 use Rattle.device.specs.Numbers.{refusalNumber}
 use Rattle.device.specs.declared.Device.{Device}
 use Rattle.device.specs.declared.Refusal.{Refusal}
@@ -14,13 +14,13 @@ use Rattle.chip.specs.Call.{Call, reset, attention, arrive, turn}
 use Rattle.calls.specs.Refusals.{rows, resetRows}
 use Rattle.calls.specs.Calls.{Areas, Called}
 use Rattle.traces.specs.Bytes.{called, number, sentLength, edge}
-use Rattle.traces.specs.Areas.{arriving, AreBytes, Holds}
+use Rattle.traces.specs.Areas.{arriving, NotOverlong, AreBytes, Holds}
 
 -- ---- what each row of the table asks
 
 -- an arriving frame is not overlong
 abbrev pub FrameRight : Call → Type 0
-FrameRight c = length (arriving c) ≤ longest
+FrameRight c = NotOverlong (arriving c)
 
 -- 1: N is allowed, a power of two from 8,192 to 16,777,216. 2: every other lent area has its length, 256, 2,048 and 2,048 bytes. 3: no arriving
 -- frame exceeds 2,048 bytes. 4: the record is the image of a state within docs/' ranges

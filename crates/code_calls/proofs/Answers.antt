@@ -7,7 +7,7 @@ use Rattle.scb.specs.Words.{resets}
 use Rattle.memory.specs.Memory.{wordAt}
 use Rattle.control.specs.Obey.{ofScb}
 use Rattle.device.specs.Answers.{answered}
-use Rattle.device.specs.State.{cuState, isActive, isHolding}
+use Rattle.device.specs.State.{cuWorks, ruWorks}
 use Rattle.device.specs.declared.Answer.{Answer}
 use Rattle.device.specs.declared.Device.{Device}
 use Rattle.attention.specs.Attention.{initialise, attendBy, attend, attentionBy, attention}
@@ -43,7 +43,7 @@ turn-by false false c w report = refl
 
 turn-plain : (w : World) (report : ℕ) → Plain (turnOf w report .outcome .answer)
 unfolding turnOf
-turn-plain w report = turn-by (isActive (cuState (w .device .units .cu))) (isHolding (w .device .units .ru)) (w .device .units .rulast) w report
+turn-plain w report = turn-by (cuWorks (w .device .units .cu)) (ruWorks (w .device .units .ru)) (w .device .units .rulast) w report
 
 goes-plain : (s : Bool) (r : Ran) (rest : Run) → Plain (r .outcome .answer) → Plain (rest .answer) → Plain (continued s r rest .answer)
 goes-plain true r rest a b = a

@@ -39,7 +39,7 @@ use Rattle.closure.proofs.Carried as carried
 use Rattle.closure.proofs.Turns as run-of-turns
 use Rattle.frames.specs.Arrival as arrival
 use Rattle.frames.specs.Held.{GoodFate, BadFate}
-use Rattle.frames.specs.Fates.{Deed, Scene, namesOf, opening, still, after, beginnings, endings, times, timesFated, timesAltered, AllFates}
+use Rattle.frames.specs.Fates.{Deed, Scene, namesOf, opening, still, advance, beginnings, endings, times, timesFated, timesAltered, AllFates}
 use Rattle.frames.specs.Stands.{NoOverlap, pieces, GoodExit}
 use Rattle.frames.proofs.Arrival as arrivals
 use Rattle.frames.proofs.Held as holdings
@@ -52,7 +52,7 @@ use Rattle.lists.proofs.Whole as whole
 use Rattle.lists.proofs.Bytes as list-bytes
 use Rattle.worked.proofs.Exact as list-exact
 use Rattle.held.specs.Held as held
-use Rattle.held.specs.OnRecords as kept
+use Rattle.held.specs.OnRecords as on-records
 use Rattle.held.proofs.Held as held-frames
 use Rattle.held.proofs.Exact as held-exact
 use Rattle.held.proofs.Calls as held-calls
@@ -145,18 +145,18 @@ stored-and-counted-at-exit = exits.good-exit
 -- the host altered the record, or it is held still
 pub exactly-one-fate : (w : World) (ds : List Deed) (k : ℕ) → inRange (w .device) ≡ true
     → 0 < times k (still (opening w) ++ beginnings ds (opening w))
-    → timesFated k (endings ds (opening w)) + timesAltered k (endings ds (opening w)) + times k (still (after ds (opening w))) ≡ 1
+    → timesFated k (endings ds (opening w)) + timesAltered k (endings ds (opening w)) + times k (still (run advance ds (opening w))) ≡ 1
 exactly-one-fate = fates.exactly-one
 
 -- and no fate without its frame: under a number that no held frame got, 0 among them, no end is noted and nothing is held
 pub no-other-fate : (w : World) (ds : List Deed) (k : ℕ) → inRange (w .device) ≡ true
     → times k (still (opening w) ++ beginnings ds (opening w)) ≡ 0
-    → timesFated k (endings ds (opening w)) + timesAltered k (endings ds (opening w)) + times k (still (after ds (opening w))) ≡ 0
+    → timesFated k (endings ds (opening w)) + timesAltered k (endings ds (opening w)) + times k (still (run advance ds (opening w))) ≡ 0
 no-other-fate = fates.no-other
 
 -- so, frame by frame and in order: those that ended and those that are still held are those that were held
 pub every-held-frame-is-accounted-for : (ds : List Deed) (s : Scene) → inRange (s .world .device) ≡ true
-    → namesOf (endings ds s) ++ still (after ds s) ≡ still s ++ beginnings ds s
+    → namesOf (endings ds s) ++ still (run advance ds s) ≡ still s ++ beginnings ds s
 every-held-frame-is-accounted-for = fates.conserved
 
 pub at-every-call : (ds : List Deed) (w : World) → inRange (w .device) ≡ true → AllFates ds w
@@ -224,11 +224,11 @@ no-fewer-for-two = list-exact.two-take-264
 pub a-held-frame-is-settled : held.Within 132
 a-held-frame-is-settled = held-frames.held-frame
 
-pub a-held-frame-is-settled-on-bytes : kept.Within 132
+pub a-held-frame-is-settled-on-bytes : on-records.Within 132
 a-held-frame-is-settled-on-bytes = held-calls.held-frame
 
 -- the same where runs of turns are among the calls
-pub a-held-frame-is-settled-by-runs : kept.WithinByRuns 132
+pub a-held-frame-is-settled-by-runs : on-records.WithinByRuns 132
 a-held-frame-is-settled-by-runs = held-calls.runs-held-frame
 
 -- and no smaller number would do

@@ -22,11 +22,12 @@ use Rattle.chip.specs.Arrival as chip
 use Rattle.chip.specs.Call.{Call, reset, attention, arrive, turn, ran}
 use Rattle.chip.specs.World.{World, Ran, resetOf}
 use Rattle.filter.specs.Match.{matches}
+use Rattle.progress.specs.Trace.{run}
 use Rattle.traces.specs.Event.{Event, call, host}
 use Rattle.frames.specs.Arrival.{unitOf, settingsOf}
 use Rattle.frames.specs.Held.{ofHeld, chosen, heldFates, FatesOfHeld}
 use Rattle.frames.specs.Fates.{Deed, event, alter, worldAfter, Scene, opening, Noted, noted, numbersOf, numbered, Way, by-call, by-altering, Ended, heldAs, still, begunIf, begun}
-use Rattle.frames.specs.Fates.{endedAs, endedBy, fatesIn, ended, takes, advance, after, beginnings, endings, times, namesOf, fateOne, alterOne}
+use Rattle.frames.specs.Fates.{endedAs, endedBy, fatesIn, ended, takes, advance, beginnings, endings, times, namesOf, fateOne, alterOne}
 use Rattle.frames.specs.Fates.{timesFated, timesAltered, isUnaltered, Proper, AllProper, AllFates}
 use Rattle.frames.proofs.Sound.{Sound, in-range-sound, good-sound, bad-sound, attention-went, turn-went, Arrives, kept, comes, arrives, arrival-new, call-sound}
 
@@ -133,13 +134,13 @@ names-append : (xs ys : List Ended) → namesOf (xs ++ ys) ≡ namesOf xs ++ nam
 names-append [] ys = refl
 names-append (x ∷ xs) ys = ap (λ (l : List Noted). x .noted ∷ l) (names-append xs ys)
 
-conserves : (ds : List Deed) (s : Scene) → Sound (s .world .device) → namesOf (endings ds s) ++ still (after ds s) ≡ still s ++ beginnings ds s
+conserves : (ds : List Deed) (s : Scene) → Sound (s .world .device) → namesOf (endings ds s) ++ still (run advance ds s) ≡ still s ++ beginnings ds s
 unfolding Balanced
 conserves [] s k = sym (append-nil (still s))
 conserves (d ∷ ds) s k =
     let t = advance d s in
-    ap (λ (l : List Noted). l ++ still (after ds t)) (names-append (ended d s) (endings ds t))
-    ∙ append-assoc (namesOf (ended d s)) (namesOf (endings ds t)) (still (after ds t))
+    ap (λ (l : List Noted). l ++ still (run advance ds t)) (names-append (ended d s) (endings ds t))
+    ∙ append-assoc (namesOf (ended d s)) (namesOf (endings ds t)) (still (run advance ds t))
     ∙ ap (λ (l : List Noted). namesOf (ended d s) ++ l) (conserves ds t (deed-sound d (s .world) k))
     ∙ sym (append-assoc (namesOf (ended d s)) (still t) (beginnings ds t))
     ∙ ap (λ (l : List Noted). l ++ beginnings ds t) (balanced d s k)
@@ -148,7 +149,7 @@ conserves (d ∷ ds) s k =
 -- conservation: an equality of lists. Every frame that was held ends, under its number and as it was judged at its arrival, or is still held; in the
 -- order of the arrivals; and nothing else ends
 pub conserved : (ds : List Deed) (s : Scene) → inRange (s .world .device) ≡ true
-    → namesOf (endings ds s) ++ still (after ds s) ≡ still s ++ beginnings ds s
+    → namesOf (endings ds s) ++ still (run advance ds s) ≡ still s ++ beginnings ds s
 conserved ds s r = conserves ds s (in-range-sound (s .world .device) r)
 
 fates-sound : (ds : List Deed) (w : World) → Sound (w .device) → AllFates ds w
@@ -342,25 +343,25 @@ ways k (e ∷ es) =
 -- ---- the demand
 
 conserved-times : (w : World) (ds : List Deed) (k : ℕ) → inRange (w .device) ≡ true
-    → timesFated k (endings ds (opening w)) + timesAltered k (endings ds (opening w)) + times k (still (after ds (opening w)))
+    → timesFated k (endings ds (opening w)) + timesAltered k (endings ds (opening w)) + times k (still (run advance ds (opening w)))
     ≡ times k (still (opening w) ++ beginnings ds (opening w))
 conserved-times w ds k r =
     let s = opening w in
-    ap (λ (n : ℕ). n + times k (still (after ds s))) (sym (ways k (endings ds s)))
-    ∙ sym (times-append k (namesOf (endings ds s)) (still (after ds s)))
+    ap (λ (n : ℕ). n + times k (still (run advance ds s))) (sym (ways k (endings ds s)))
+    ∙ sym (times-append k (namesOf (endings ds s)) (still (run advance ds s)))
     ∙ ap (times k) (conserved ds s r)
 
 -- from any world in range on, whatever happens: a frame that was held, at first or from its arrival on, under the number k, has exactly one fate, or
 -- the host altered the record, or it is still held at the end
 pub exactly-one : (w : World) (ds : List Deed) (k : ℕ) → inRange (w .device) ≡ true
     → 0 < times k (still (opening w) ++ beginnings ds (opening w))
-    → timesFated k (endings ds (opening w)) + timesAltered k (endings ds (opening w)) + times k (still (after ds (opening w))) ≡ 1
+    → timesFated k (endings ds (opening w)) + timesAltered k (endings ds (opening w)) + times k (still (run advance ds (opening w))) ≡ 1
 exactly-one w ds k r h =
     omega (arith, conserved-times w ds k r, all-once w ds k)
 
 -- and no fate is noted under a number of which no frame was held
 pub no-other : (w : World) (ds : List Deed) (k : ℕ) → inRange (w .device) ≡ true → times k (still (opening w) ++ beginnings ds (opening w)) ≡ 0
-    → timesFated k (endings ds (opening w)) + timesAltered k (endings ds (opening w)) + times k (still (after ds (opening w))) ≡ 0
+    → timesFated k (endings ds (opening w)) + timesAltered k (endings ds (opening w)) + times k (still (run advance ds (opening w))) ≡ 0
 no-other w ds k r h = conserved-times w ds k r ∙ h
 
 -- where the host alters no record, it is a fate or it is still held
@@ -377,6 +378,6 @@ none-altered k (e ∷ es) h =
 
 pub exactly-one-fate : (w : World) (ds : List Deed) (k : ℕ) → inRange (w .device) ≡ true → isUnaltered ds ≡ true
     → 0 < times k (still (opening w) ++ beginnings ds (opening w))
-    → timesFated k (endings ds (opening w)) + times k (still (after ds (opening w))) ≡ 1
+    → timesFated k (endings ds (opening w)) + times k (still (run advance ds (opening w))) ≡ 1
 exactly-one-fate w ds k r u h =
     omega (arith, exactly-one w ds k r h, none-altered k (endings ds (opening w)) (all-fated ds (opening w) u))

@@ -12,7 +12,7 @@ use Rattle.scb.specs.Control.{Code, codeOf, start, resume, suspend, abort, othe
 use Rattle.scb.specs.Words.{scbCommandAt, resets, ruc, cuNumber, ruNumber, eventBits}
 use Rattle.device.specs.Answers.{isHeld}
 use Rattle.device.specs.Limits.{header}
-use Rattle.device.specs.State.{cuState, ruState, isActive, isHolding, heldIn, isGood, fresh}
+use Rattle.device.specs.State.{cuState, ruState, isHolding, heldIn, isGood, fresh, cuWorks, ruWorks}
 use Rattle.device.proofs.Laws.{some-held}
 use Rattle.device.specs.declared.Device.{Device}
 use Rattle.device.specs.declared.Fate.the-variants as fate
@@ -366,24 +366,24 @@ at-service (ru.Closing s free full) w f c e h r l n =
     closing s free full n e (same-frame f (s .frame) h) (subst (Closed w s free full) r (closed w s free full))
 at-service (ru.Lacking s) w f c e h r l n = lacking s n e (same-frame f (s .frame) h) r
 
-pub served-as : (c h l : Bool) (w : World) (report : ℕ) → isActive (cuState (w .device .units .cu)) ≡ c → isHolding (unitOf w) ≡ h
+pub served-as : (c h l : Bool) (w : World) (report : ℕ) → cuWorks (w .device .units .cu) ≡ c → ruWorks (unitOf w) ≡ h
     → w .device .units .rulast ≡ l
     → turnBy (servedBy c h l) w report ≡ turnOf w report
 unfolding turnOf
 served-as c h l w report a b d =
     ap (λ (x : Bool). turnBy (servedBy x h l) w report) (sym a)
-    ∙ ap (λ (x : Bool). turnBy (servedBy (isActive (cuState (w .device .units .cu))) x l) w report) (sym b)
-    ∙ ap (λ (x : Bool). turnBy (servedBy (isActive (cuState (w .device .units .cu))) (isHolding (unitOf w)) x) w report) (sym d)
+    ∙ ap (λ (x : Bool). turnBy (servedBy (cuWorks (w .device .units .cu)) x l) w report) (sym b)
+    ∙ ap (λ (x : Bool). turnBy (servedBy (cuWorks (w .device .units .cu)) (ruWorks (unitOf w)) x) w report) (sym d)
 
-ends-as : (c h l : Bool) (w : World) (report : ℕ) → isActive (cuState (w .device .units .cu)) ≡ c → isHolding (unitOf w) ≡ h
+ends-as : (c h l : Bool) (w : World) (report : ℕ) → cuWorks (w .device .units .cu) ≡ c → ruWorks (unitOf w) ≡ h
     → w .device .units .rulast ≡ l
     → ends (turn report) w ≡ (isReceive (servedBy c h l) && endIsNext (unitOf w))
 ends-as c h l w report a b d =
-    ap (λ (x : Bool). isReceive (servedBy (isActive (cuState (w .device .units .cu))) (isHolding (unitOf w)) x) && endIsNext (unitOf w)) d
-    ∙ ap (λ (x : Bool). isReceive (servedBy (isActive (cuState (w .device .units .cu))) x l) && endIsNext (unitOf w)) b
+    ap (λ (x : Bool). isReceive (servedBy (cuWorks (w .device .units .cu)) (ruWorks (unitOf w)) x) && endIsNext (unitOf w)) d
+    ∙ ap (λ (x : Bool). isReceive (servedBy (cuWorks (w .device .units .cu)) x l) && endIsNext (unitOf w)) b
     ∙ ap (λ (x : Bool). isReceive (servedBy x h l) && endIsNext (unitOf w)) a
 
-at-turn : (c l : Bool) (w : World) (f : Frame) (report : ℕ) → heldIn (unitOf w) ≡ f ∷ [] → isActive (cuState (w .device .units .cu)) ≡ c
+at-turn : (c l : Bool) (w : World) (f : Frame) (report : ℕ) → heldIn (unitOf w) ≡ f ∷ [] → cuWorks (w .device .units .cu) ≡ c
     → w .device .units .rulast ≡ l
     → HeldFate f (turn report) w
 at-turn true true w f report h a b =
@@ -408,7 +408,7 @@ pub held-fate : (c : Call) (w : World) (f : Frame) → w .device .units .initial
 held-fate reset w f i h = lost refl (reset-lost w)
 held-fate attention w f i h = at-attention (resets (commandOf w)) (eqb (ruc (commandOf w)) 4) w f h i refl refl
 held-fate (arrive bs v) w f i h = stays refl refl (at-arrival w f bs v h)
-held-fate (turn report) w f i h = at-turn (isActive (cuState (w .device .units .cu))) (w .device .units .rulast) w f report h refl refl
+held-fate (turn report) w f i h = at-turn (cuWorks (w .device .units .cu)) (w .device .units .rulast) w f report h refl refl
 
 -- ---- a good one
 

@@ -12,7 +12,7 @@ use Rattle.scb.specs.Control.{Code, codeOf, start, resume, suspend, abort, othe
 use Rattle.scb.specs.Words.{resets, ruc, cuNumber, ruNumber, eventBits}
 use Rattle.device.specs.Answers.{isHeld}
 use Rattle.device.specs.Limits.{header}
-use Rattle.device.specs.State.{cuState, ruState, isActive, isHolding, heldIn, isGood, fresh}
+use Rattle.device.specs.State.{cuState, ruState, heldIn, isGood, fresh, cuWorks, ruWorks}
 use Rattle.device.proofs.Laws.{none-held}
 use Rattle.device.specs.declared.Counter.{Counter}
 use Rattle.device.specs.declared.Device.{Device}
@@ -257,7 +257,7 @@ command-unserved : (w : World) (report : ℕ) → Unserved w (commandTurn w repo
 unfolding commandTurn concluded
 command-unserved w report = record { initialised = refl; unit = refl; fates = refl }
 
-turn-unserved : (c : Bool) (w : World) (report : ℕ) → heldIn (unitOf w) ≡ [] → isActive (cuState (w .device .units .cu)) ≡ c
+turn-unserved : (c : Bool) (w : World) (report : ℕ) → heldIn (unitOf w) ≡ [] → cuWorks (w .device .units .cu) ≡ c
     → Unserved w (turnOf w report)
 turn-unserved false w report h a =
     subst (Unserved w) (served-as false false (w .device .units .rulast) w report a (none-held (unitOf w) h) refl)
@@ -268,7 +268,7 @@ turn-unserved true w report h a =
 turn-by : (w : World) (report : ℕ) → Sound (w .device) → (heldIn (unitOf w) ≡ []) ⊎ ((f : Frame) × (heldIn (unitOf w) ≡ f ∷ []))
     → FatesOfHeld w (turnOf w report)
 turn-by w report s (inl h) =
-    let k = turn-unserved (isActive (cuState (w .device .units .cu))) w report h refl in
+    let k = turn-unserved (cuWorks (w .device .units .cu)) w report h refl in
     keeps w (turnOf w report) (ap heldIn (k .unit)) (k .fates)
 turn-by w report s (inr k) = held-went (isGood (k .0)) (turn report) w (k .0) s (k .1) (λ l x. absurd (false≢true l)) refl
 
@@ -430,11 +430,11 @@ turn-started : (w : World) (report : ℕ) → Sound (w .device) → (heldIn (uni
     → Started (turnOf w report)
 unfolding Started Keeps turnOf
 turn-started w report s (inl h) =
-    let k = turn-unserved (isActive (cuState (w .device .units .cu))) w report h refl in
+    let k = turn-unserved (cuWorks (w .device .units .cu)) w report h refl in
     ap₂ (λ (b : Bool) (u : Ru). b || idle u) (k .initialised) (k .unit) ∙ s .started
 turn-started w report s (inr k) =
     ap (λ (b : Bool). b || idle (turnOf w report .outcome .device .units .ru))
-    (turn-initialised (isActive (cuState (w .device .units .cu))) (isHolding (unitOf w)) (w .device .units .rulast) w report
+    (turn-initialised (cuWorks (w .device .units .cu)) (ruWorks (unitOf w)) (w .device .units .rulast) w report
     ∙ sound-initialised (w .device) (k .0) s (k .1))
 
 turn-sound : (w : World) (report : ℕ) → Sound (w .device) → Sound (turnOf w report .outcome .device)

@@ -33,9 +33,10 @@ use Rattle.chip.specs.Arrival as arrivals
 use Rattle.chip.specs.Call.{Call, reset, attention, arrive, turn}
 use Rattle.chip.specs.Turn.{concluded, commandTurn, receiveTurn, turnOf}
 use Rattle.chip.specs.World.{World, worldOf, resetOf}
+use Rattle.progress.specs.Trace.{run}
 use Rattle.traces.specs.Event.{call, host}
 use Rattle.frames.specs.Fates.{Deed, event, alter, opening, Noted, noted, numbersOf, Way, by-call, by-altering, Ended, heldAs, still, endedAs, namesOf}
-use Rattle.frames.specs.Fates.{after, beginnings, endings}
+use Rattle.frames.specs.Fates.{advance, beginnings, endings}
 
 -- SCB at 64, a ring of one frame descriptor at 0; no minimum length
 abbrev deviceWith : Ru → Bool → Device
@@ -112,7 +113,7 @@ story =
     record {
       held = numbersOf (beginnings trace (opening start));
       ends = map (λ (e : Ended). (e .noted .number, e .way)) (endings trace (opening start));
-      still = numbersOf (still (after trace (opening start)));
+      still = numbersOf (still (run advance trace (opening start)));
     }
 
 pub its-story : story

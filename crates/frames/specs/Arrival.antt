@@ -4,14 +4,13 @@ use mathlib.Core.Bool.{Bool, true, false}
 use mathlib.Core.List.{List, [], _∷_}
 use Prim.Native.Nat.{ℕ, _+_, _%_, _≤_, _<_}
 use lib.ListN.{length, take, drop}
-use Rattle.memory.specs.Address.{place}
 use Rattle.memory.specs.Memory.{wordAt, bytesAt}
 use Rattle.memory.specs.Size.{sizeAllowed}
 use Rattle.memory.specs.declared.Offset.{Offset}
 use Rattle.memory.proofs.Fields.{Apart}
 use Rattle.device.specs.Answers.{answered}
 use Rattle.device.specs.Change.{withRu, withUnits}
-use Rattle.device.specs.Limits.{header, holdingSize, longest, fcs}
+use Rattle.device.specs.Limits.{header, holdingSize, fcs}
 use Rattle.device.specs.Numbers.{verdictOf}
 use Rattle.device.specs.State.{isHolding}
 use Rattle.device.specs.declared.Counter.{Counter}
@@ -25,7 +24,9 @@ use Rattle.device.specs.declared.Settings.{Settings}
 use Rattle.device.specs.declared.Verdict.{Verdict}
 use Rattle.device.specs.declared.Verdict.the-variants as verdict
 use Rattle.filter.specs.Match.{matches}
+use Rattle.control.specs.Obey.{ofScb}
 use Rattle.chip.specs.World.{World, Ran}
+use Rattle.traces.specs.Areas.{NotOverlong}
 
 -- ---- which frame arrives
 
@@ -33,7 +34,7 @@ use Rattle.chip.specs.World.{World, Ran}
 pub record RightLengths (w : World) (f : List ℕ) : Type 0 where
   pub size : sizeAllowed (length (w .memory)) ≡ true
   pub area : length (w .holding) ≡ holdingSize
-  pub frame : length f ≤ longest
+  pub frame : NotOverlong f
 
 abbrev pub settingsOf : World → Settings
 settingsOf w = w .device .units .settings
@@ -75,7 +76,7 @@ pub record OneMore (a : ℕ) (before after : List ℕ) : Type 0 where
 
 -- a field of the SCB
 abbrev pub inScb : World → ℕ → ℕ
-inScb w field = place (w .device .units .base) (w .device .units .scb) field
+inScb w field = ofScb (w .device .units) field
 
 -- +8 CRCERRS, +10 ALNERRS, +12 RSCERRS, +14 OVRNERRS; where there is none, memory is as it was
 abbrev pub Counts : Counter → World → List ℕ → Type 0

@@ -137,10 +137,6 @@ heldAfter d s = numbersOf (drop (length (ended d s)) (still s) ++ begun d s)
 abbrev pub advance : Deed → Scene → Scene
 advance d s = record { world = worldAfter d (s .world); next = s .next + takes d; held = heldAfter d s }
 
-abbrev pub after : List Deed → Scene → Scene
-after [] s = s
-after (d ∷ ds) s = after ds (advance d s)
-
 -- all that were held, in the order of their numbers; all that ended, in their order
 abbrev pub beginnings : List Deed → Scene → List Noted
 beginnings [] s = []

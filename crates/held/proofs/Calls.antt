@@ -9,7 +9,7 @@ use Rattle.closure.proofs.Driven.{LetsTurns, spread}
 use Rattle.held.specs.OnRecords.{Settled, Within, WithinByRuns}
 use Rattle.held.proofs.Exact.{frame}
 use Rattle.held.proofs.OnRecords.{Closed}
-use Rattle.held.proofs.OnRecords as kept
+use Rattle.held.proofs.OnRecords as on-records
 use Rattle.held.proofs.Lending as lending
 
 stays : Closed
@@ -18,7 +18,7 @@ stays c w f range wide m h out =
 
 -- demand 3, on the calls: a held frame is stored or counted within 132 turns that are not refused
 pub held-frame : Within 132
-held-frame = kept.held-frame stays
+held-frame = on-records.held-frame stays
 
 -- the same where the turns are taken in calls or in runs
 held-turns : LetsTurns WhileHeld

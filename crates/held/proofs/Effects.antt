@@ -29,7 +29,7 @@ use Rattle.traces.specs.Areas.{worldSaid}
 use Rattle.traces.specs.Driven.{Lending}
 use Rattle.held.specs.Held.{framesIn, Settled}
 use Rattle.held.specs.OnRecords.{framesKept}
-use Rattle.held.specs.OnRecords as kept
+use Rattle.held.specs.OnRecords as on-records
 use Rattle.held.specs.Effects.{Written}
 use Rattle.held.proofs.Turn.{isReceiving, turn-received}
 use Rattle.held.proofs.Held.{holding, passing, held-last}
@@ -119,7 +119,7 @@ pub settled-writes : (n : ℕ) (f : Frame) (es : List Event) (w : World) → (s 
     → Written f (run step (s .before) w) (turnOf (run step (s .before) w) (s .report))
 settled-writes n f es w s = effects f (run step (s .before) w) (s .report) (s .fate) (held-last f (s .before) w (s .holds)) (s .given)
 
-pub called-writes : (n : ℕ) (f : Frame) (ls : List Lending) (a : Areas) → (s : kept.Settled n f ls a)
+pub called-writes : (n : ℕ) (f : Frame) (ls : List Lending) (a : Areas) → (s : on-records.Settled n f ls a)
     → Written f (worldSaid (s .areas)) (turnOf (worldSaid (s .areas)) (s .report))
 called-writes n f ls a s =
     effects f (worldSaid (s .areas)) (s .report) (s .fate)

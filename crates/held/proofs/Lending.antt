@@ -14,7 +14,7 @@ use Rattle.memory.proofs.Bytes.{Bytes, bytes-nil, put-bytes, digits-bytes}
 use Rattle.scb.specs.Words.{bitsAt}
 use Rattle.device.specs.Limits.{holdingSize, outgoingSize, recordSize}
 use Rattle.device.specs.Numbers.{refusalNumber}
-use Rattle.device.specs.State.{isActive, cuState, isHolding, heldIn}
+use Rattle.device.specs.State.{heldIn, cuWorks, ruWorks}
 use Rattle.device.specs.declared.Answer.{Answer}
 use Rattle.device.specs.declared.Device.{Device}
 use Rattle.device.specs.declared.Refusal.the-variants as refusal
@@ -147,7 +147,7 @@ turn-number true true false w report = refl
 turn-accepted : (w : World) (report : ℕ) → turnOf w report .outcome .answer .number ≡ refusal.Accepted
 unfolding turnOf
 turn-accepted w report =
-    turn-number (isActive (cuState (w .device .units .cu))) (isHolding (w .device .units .ru)) (w .device .units .rulast) w report
+    turn-number (cuWorks (w .device .units .cu)) (ruWorks (w .device .units .ru)) (w .device .units .rulast) w report
 
 number-zero : (a : Answer) → a .number ≡ refusal.Accepted → number (answerNumber a) ≡ 0
 number-zero a e = told-number a ∙ ap refusalNumber e

@@ -6,7 +6,7 @@ use Prim.Native.Nat.{ℕ}
 use lib.Dec.{ltb}
 use lib.ListN.{length}
 use Rattle.device.specs.Limits.{header}
-use Rattle.device.specs.State.{isHolding, isActive, cuState}
+use Rattle.device.specs.State.{isHolding, cuWorks, ruWorks}
 use Rattle.device.specs.Answers.{isHeld}
 use Rattle.device.specs.declared.Frame.{Frame}
 use Rattle.device.specs.declared.Ru.{Ru}
@@ -73,7 +73,7 @@ pub turn-commanded : (w : World) (report : ℕ) → isHolding (w .device .units 
     → (turnOf w report ≡ commandTurn w report) × (w .device .units .rulast ≡ true)
 unfolding turnOf
 turn-commanded w report r h =
-    commanded-by (isActive (cuState (w .device .units .cu))) (isHolding (w .device .units .ru)) (w .device .units .rulast) w report r h
+    commanded-by (cuWorks (w .device .units .cu)) (ruWorks (w .device .units .ru)) (w .device .units .rulast) w report r h
 
 -- ---- an arrival: a frame that is already held stays, and another one is not held
 

@@ -20,7 +20,7 @@ use Rattle.traces.specs.Bytes.{number, sentLength}
 use Rattle.closure.proofs.Refusals.{gives-none}
 use Rattle.kinds.specs.Chips.{Chip, Meets}
 use Rattle.kinds.specs.Demands.{Demand1, lentOf, AsDefined, Demand2}
-use Rattle.kinds.specs.Kinds.{RefusesAll, OneAnswer, MemoryAsLent, settingsIn, SetsNothing, MeasuresNothing, SendsNothing, MarksOnly, Invented, anotherCounter, anotherEdge, fromEdge, Invents}
+use Rattle.kinds.specs.Kinds.{RefusesAll, OneAnswer, MemoryAsLent, setupIn, SetsNothing, MeasuresNothing, SendsNothing, MarksOnly, Invented, anotherCounter, anotherEdge, fromEdge, Invents}
 use Rattle.kinds.proofs.Ours.{has-demand1, has-demand2}
 use Rattle.kinds.proofs.Witness.{zeros, heldArea, sentArea, attending, turning, acceptable-on, handed-on, firstly, idly, first-answer, idle-answer, first-status, zero-status, block, withUnit, turned, settingUp, setting-wide, setting-range, setting-done, was-set, is-set, measuring, measuring-wide, measuring-range, measuring-done, measured, begun, sending, sending-wide, sending-range, sending-done, sent-length, not-done, not-measured}
 
@@ -106,8 +106,8 @@ module _ (chip : Chip) where
       k .each (chip .first) 0 (withUnit settingUp) zeros heldArea sentArea block s l
       (record { begun = refl; before = not-done; after = rw (r .memory) setting-done })
       in
-      let e : settingsIn (imageOf (turned settingUp .outcome .device)) ≡ settingsIn (imageOf (withUnit settingUp)) =
-      sym (ap settingsIn (r .kept)) ∙ x
+      let e : setupIn (imageOf (turned settingUp .outcome .device)) ≡ setupIn (imageOf (withUnit settingUp)) =
+      sym (ap setupIn (r .kept)) ∙ x
       in
       let z = ap (λ (y : List ℕ). getD y 2 0) e in
       omega (arith, z, was-set, is-set)

@@ -24,7 +24,7 @@ use Rattle.chip.specs.Call.{Call, reset, attention, arrive, turn}
 use Rattle.calls.specs.Calls.{Areas, areasOf, Called}
 use Rattle.kinds.specs.Chips.{Chip}
 use Rattle.kinds.specs.Demands.{lentOf}
-use Rattle.kinds.specs.Kinds.{InWork, Completes, settingsIn, MarksOnly}
+use Rattle.kinds.specs.Kinds.{InWork, Completes, setupIn, MarksOnly}
 use Rattle.kinds.proofs.Witness.{zeros, heldArea, sentArea, block, withUnit, measuring, measuring-wide, measuring-range, not-done}
 
 abbrev marks : RealAddress → Cu → List Write
@@ -78,7 +78,7 @@ pub marker-marks-only : MarksOnly marker
 unfolding bitsAt
 marker-marks-only =
     record {
-      settings = record { each = λ s report d m h out o k l c. ap settingsIn (record-kept (decodeOf (imageOf d)) (lentOf d m h out)) };
+      settings = record { each = λ s report d m h out o k l c. ap setupIn (record-kept (decodeOf (imageOf d)) (lentOf d m h out)) };
       tdr =
           record {
             each =

@@ -7,7 +7,7 @@ use native.Mathlib.Omega.{arith}
 use lib.ListN.{length}
 use Rattle.memory.specs.declared.Offset.{Offset}
 use Rattle.memory.specs.declared.RealAddress.{RealAddress}
-use Rattle.device.specs.State.{cuState, isActive, isHolding}
+use Rattle.device.specs.State.{cuState, isActive, cuWorks, ruWorks}
 use Rattle.device.specs.declared.Cu.{Cu}
 use Rattle.device.specs.declared.Cu.the-variants as cu
 use Rattle.device.specs.declared.Ru.the-variants as ru
@@ -36,17 +36,17 @@ busy-by false y z w r a h = absurd (let e : _≡_ {A = ℕ} 0 1 = cc in omega ar
 busy-by true true z w r a h = absurd (let e : _≡_ {A = ℕ} 0 1 = cc in omega arith)
 busy-by true false z w r a h = refl
 
-idle-turn : (w : World) (r : ℕ) → isActive (cuState (w .device .units .cu)) ≡ false → isHolding (w .device .units .ru) ≡ false
+idle-turn : (w : World) (r : ℕ) → cuWorks (w .device .units .cu) ≡ false → ruWorks (w .device .units .ru) ≡ false
     → afterwards (turnOf w r) ≡ w
 unfolding turnOf
-idle-turn w r a h = idle-by (isActive (cuState (w .device .units .cu))) (isHolding (w .device .units .ru)) (w .device .units .rulast) w r a h
+idle-turn w r a h = idle-by (cuWorks (w .device .units .cu)) (ruWorks (w .device .units .ru)) (w .device .units .rulast) w r a h
 
-busy-turn : (w : World) (r : ℕ) → isActive (cuState (w .device .units .cu)) ≡ true → isHolding (w .device .units .ru) ≡ false
+busy-turn : (w : World) (r : ℕ) → cuWorks (w .device .units .cu) ≡ true → ruWorks (w .device .units .ru) ≡ false
     → turnOf w r ≡ commandTurn w r
 unfolding turnOf
-busy-turn w r a h = busy-by (isActive (cuState (w .device .units .cu))) (isHolding (w .device .units .ru)) (w .device .units .rulast) w r a h
+busy-turn w r a h = busy-by (cuWorks (w .device .units .cu)) (ruWorks (w .device .units .ru)) (w .device .units .rulast) w r a h
 
-idle-runs : (rs : List ℕ) (w : World) → isActive (cuState (w .device .units .cu)) ≡ false → isHolding (w .device .units .ru) ≡ false → runs rs w ≡ w
+idle-runs : (rs : List ℕ) (w : World) → cuWorks (w .device .units .cu) ≡ false → ruWorks (w .device .units .ru) ≡ false → runs rs w ≡ w
 idle-runs [] w a h = refl
 idle-runs (r ∷ rs) w a h = ap (runs rs) (idle-turn w r a h) ∙ idle-runs rs w a h
 
@@ -95,10 +95,10 @@ module _ (n : ℕ) (tdr : Offset → Type 0) (whole : List Offset) (room : 8 ≤
   -- what remains to be shown of each shorter run
   abbrev Progress : List ℕ → Type 0
   Progress rs =
-      (w : World) (fs : List Offset) (b : Offset) (bs : List Offset) → isHolding (w .device .units .ru) ≡ false → Here w fs b bs
+      (w : World) (fs : List Offset) (b : Offset) (bs : List Offset) → ruWorks (w .device .units .ru) ≡ false → Here w fs b bs
       → rankOf (w .device .units .cu) (length bs) ≤ length rs → OverFrom w (runs rs w)
 
-  went : (rs : List ℕ) → Progress rs → (w : World) (r rank : ℕ) → isHolding (w .device .units .ru) ≡ false → rank ≤ suc (length rs)
+  went : (rs : List ℕ) → Progress rs → (w : World) (r rank : ℕ) → ruWorks (w .device .units .ru) ≡ false → rank ≤ suc (length rs)
       → Next n tdr (w .device .units .base) (ofScb (w .device .units) 0) whole (afterwards (commandTurn w r) .memory)
       (afterwards (commandTurn w r) .device .units .cu) rank
       → OverFrom w (runs rs (afterwards (commandTurn w r)))

@@ -36,7 +36,8 @@ use Rattle.command.specs.Service.{serviceBy}
 use Rattle.attention.specs.Status as status
 use Rattle.chip.specs.Turn.{raisedIn, statusBy}
 use Rattle.chip.proofs.Status.{writtenIfRaised}
-use Rattle.kinds.specs.Lists.{stops, Listed, All, NoResult, BlocksApart, isDone}
+use Rattle.lists.specs.Uses.{stops}
+use Rattle.kinds.specs.Lists.{Listed, All, NoResult, BlocksApart, isDone}
 use Rattle.kinds.proofs.Service.{atStatus, atWord, atScb, Own, AllOwn, own-append, own-kept, word-kept, ScbApart, own-command, own-link, done-kept, own-listed, rest-listed, kinds-kept, own-kinds}
 
 never : _≡_ {A = Bool} false true → ⊥

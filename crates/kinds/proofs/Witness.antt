@@ -41,7 +41,7 @@ use Rattle.traces.specs.Bytes.{sentLength}
 use Rattle.closure.specs.Refusals.{FrameRight}
 use Rattle.kinds.specs.Chips.{Given, Handed}
 use Rattle.kinds.specs.Demands.{Acceptable, lentOf}
-use Rattle.kinds.specs.Kinds.{settingsIn}
+use Rattle.kinds.specs.Kinds.{setupIn}
 
 -- ---- the areas
 
@@ -180,11 +180,11 @@ pub setting-done : bit (wordAt (turned settingUp .memory) (place (record { 0 = 0
 unfolding byteAt putByte bytesAt putBytes value digits fieldAt place bitsAt joined anyOf eventBits statusWord act nextAfter end service statusTo concluded commandTurn turnOf
 setting-done = refl
 
-pub was-set : getD (settingsIn (imageOf (withUnit settingUp))) 2 0 ≡ 255
+pub was-set : getD (setupIn (imageOf (withUnit settingUp))) 2 0 ≡ 255
 unfolding imageOf unitBytes front setupBytes packedOf digits eventBits joined numberOf cuWord ruWord ruRest bytesFrom
 was-set = refl
 
-pub is-set : getD (settingsIn (imageOf (turned settingUp .outcome .device))) 2 0 ≡ 0
+pub is-set : getD (setupIn (imageOf (turned settingUp .outcome .device))) 2 0 ≡ 0
 unfolding imageOf unitBytes front setupBytes packedOf digits eventBits joined numberOf cuWord ruWord ruRest bytesFrom byteAt putByte bytesAt putBytes value fieldAt place bitsAt anyOf statusWord act nextAfter end service statusTo concluded commandTurn turnOf
 is-set = refl
 

@@ -14,7 +14,8 @@ use Rattle.image.specs.Image.{imageOf}
 use Rattle.image.specs.Ranges.{inRange, Wide}
 use Rattle.chip.specs.World.{Ran, worldOf}
 use Rattle.chip.specs.Call.{Call, reset, ran}
-use Rattle.calls.specs.Calls.{Areas, areasOf, Called, answerNumber}
+use Rattle.calls.specs.Calls.{Areas, Called, answerNumber}
+use Rattle.traces.specs.Areas.{shown}
 use Rattle.traces.specs.Bytes.{number}
 use Rattle.closure.specs.Refusals.{FrameRight, When, Untouched}
 use Rattle.kinds.specs.Chips.{Chip, Handed}
@@ -42,7 +43,7 @@ pub record Acceptable (c : Call) (d : Device) (m h out : List ℕ) : Type 0 wher
   pub range : inRange d ≡ true
 
 abbrev pub lentOf : Device → List ℕ → List ℕ → List ℕ → Areas
-lentOf d m h out = areasOf m h out (imageOf d)
+lentOf d m h out = shown (worldOf d m h out)
 
 -- answer and every lent byte; the interrupt is high while byte 5 of the record is not 0
 pub record AsDefined (said : Ran) (r : Called) : Type 0 where

@@ -18,6 +18,8 @@ use Rattle.device.specs.declared.Cu.the-variants as cu
 use Rattle.device.specs.declared.Device.{Device}
 use Rattle.device.specs.declared.Units.{Units}
 use Rattle.numerals.specs.Places.{bytesFrom}
+use Rattle.packed.specs.Record.{setupAt}
+use Rattle.packed.specs.SetUp.{setupSize}
 use Rattle.actions.specs.Block.{blockStatusAt, argumentAt}
 use Rattle.control.specs.Obey.{ofScb}
 use Rattle.image.specs.Image.{imageOf}
@@ -76,12 +78,12 @@ AtCompletion chip p =
     → Handed (turn report) (lentOf d m h out)
     → Completes d m (chip .calls s (turn report) (lentOf d m h out)) o → p d m o (chip .calls s (turn report) (lentOf d m h out))
 
--- every setting, in the record: bytes 152 and 153 what Configure sets, 154-159 the own address, 160-255 the listed ones
-abbrev pub settingsIn : List ℕ → List ℕ
-settingsIn r = bytesFrom r 152 104
+-- every setting, in the record: what Configure sets, the own address, the listed ones
+abbrev pub setupIn : List ℕ → List ℕ
+setupIn r = bytesFrom r setupAt setupSize
 
 pub record SetsNothing (chip : Chip) : Type 0 where
-  pub each : AtCompletion chip (λ d m o r. settingsIn (r .areas .kept) ≡ settingsIn (imageOf d))
+  pub each : AtCompletion chip (λ d m o r. setupIn (r .areas .kept) ≡ setupIn (imageOf d))
 
 -- TDR's word
 pub record MeasuresNothing (chip : Chip) : Type 0 where

@@ -1,6 +1,6 @@
 -- A command list in memory, its start, and what bytes show of demand 3. Assumes nothing.
 use mathlib.Core.Path.{_≡_}
-use mathlib.Core.Bool.{Bool, true, false, _||_}
+use mathlib.Core.Bool.{true, false}
 use mathlib.Core.List.{List, [], _∷_}
 use Prim.Native.Nat.{ℕ, _*_, _^_, _≤_, _<_}
 use lib.ListN.{length}
@@ -26,13 +26,11 @@ use Rattle.progress.specs.Trace.{run, AllMay}
 use Rattle.traces.specs.Areas.{Hosted, shown}
 use Rattle.traces.specs.Event.{Event, call, host, step, answersOf, Calm}
 use Rattle.closure.specs.Refusals.{FrameRight}
+use Rattle.lists.specs.Uses.{stops}
 use Rattle.kinds.specs.Chips.{Chip, Given, Handed, chipRun, chipAnswers}
 use Rattle.kinds.specs.Demands.{Acceptable, lentOf}
 
 -- ---- a list: 01, "Turns". The first block that has EL or S is the last, each other's link leads to the next
-
-abbrev pub stops : ℕ → Bool
-stops word = bit word 15 || bit word 14
 
 abbrev pub Listed : RealAddress → List ℕ → List Offset → Type 0
 Listed base m [] = ⊥

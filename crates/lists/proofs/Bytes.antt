@@ -24,7 +24,7 @@ use Rattle.traces.specs.Bytes.{called, isRefused}
 use Rattle.traces.specs.Event.{Event, call, step, isTurn, DuringList}
 use Rattle.traces.specs.Areas.{AreBytes, Holds, worldIn, Shows}
 use Rattle.traces.specs.Driven.{Lending, left, isTaken, eventsOf, Drive, leftDriven, turnsDriven, unrolled, AllFair, AllFairDrive}
-use Rattle.closure.proofs.Runs.{carry-shown}
+use Rattle.closure.proofs.Carried.{carry-shown}
 use Rattle.closure.proofs.Driven.{turns-same, fair-along, LetsTurns, spread}
 use Rattle.lists.specs.Uses.{Listed, firstOf}
 use Rattle.lists.specs.Unit.{machine}
@@ -65,7 +65,7 @@ bytes-list-done May K bs ls a d l h r s first listed p =
     let count : 132 * length bs ≤ turns isTurn (eventsOf ls) = subst (λ (n : ℕ). 132 * length bs ≤ n) (sym (turns-same ls)) (p .turns) in
     let along = fair-along May ls (called attention a .areas) v (p .fair) (start-shows a d l h r) in (
       listDone May K bs (eventsOf ls) v (started bs w s first listed)
-          (record { size = least; apart = p .apart; events = along .1; kept = p .intact; turns = count }),
+          (record { size = least; apart = p .apart; events = along .1; intact = p .intact; turns = count }),
       along .0,
     )
 

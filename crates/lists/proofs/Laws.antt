@@ -14,7 +14,7 @@ use Rattle.memory.specs.declared.Offset.{Offset}
 use Rattle.memory.specs.declared.RealAddress.{RealAddress}
 use Rattle.device.specs.Limits.{addressLength, typeLength, mostListed}
 use Rattle.device.specs.Numbers.{transmit}
-use Rattle.device.specs.State.{cuState, isActive, isHolding}
+use Rattle.device.specs.State.{cuState, isActive, cuWorks, ruWorks}
 use Rattle.device.specs.declared.Action.{Action}
 use Rattle.device.specs.declared.Action.the-variants as action
 use Rattle.device.specs.declared.Begun.{Begun}
@@ -278,7 +278,7 @@ received : (w : World) → Received w (afterwards (receiveTurn w))
 unfolding receiveTurn concluded
 received w = record { part = refl; turned = refl }
 
-serve-by : (c h l : Bool) (w : World) (r : ℕ) → isActive (cuState (w .device .units .cu)) ≡ c → isCommand (servedBy c h l) ≡ true
+serve-by : (c h l : Bool) (w : World) (r : ℕ) → cuWorks (w .device .units .cu) ≡ c → isCommand (servedBy c h l) ≡ true
     → (isActive (cuState (w .device .units .cu)) ≡ true) × Commanded w r (afterwards (turnBy (servedBy c h l) w r))
 serve-by false false l w r a g = absurd (false≢true g)
 serve-by false true l w r a g = absurd (false≢true g)
@@ -290,7 +290,7 @@ serve-turn : (w : World) (r : ℕ) → commandNext (w .device .units) ≡ true �
 unfolding turnOf
 serve-turn w r g =
     let u = w .device .units in
-    let s = serve-by (isActive (cuState (u .cu))) (isHolding (u .ru)) (u .rulast) w r refl g in
+    let s = serve-by (cuWorks (u .cu)) (ruWorks (u .ru)) (u .rulast) w r refl g in
     record { part = s .1 .part; turned = s .1 .turned; busy = s .0 }
 
 serve : (e : Event) (w : World) → isTurn e ≡ true → commandNext (w .device .units) ≡ true → Served machine e w
@@ -305,7 +305,7 @@ record Waits (w v : World) : Type 0 where
   waits : isActive (cuState (w .device .units .cu)) ≡ true
       → (not (w .device .units .rulast) ≡ true) × (not (v .device .units .rulast) ≡ false)
 
-pass-by : (c h l : Bool) (w : World) (r : ℕ) → isActive (cuState (w .device .units .cu)) ≡ c → w .device .units .rulast ≡ l
+pass-by : (c h l : Bool) (w : World) (r : ℕ) → cuWorks (w .device .units .cu) ≡ c → w .device .units .rulast ≡ l
     → isCommand (servedBy c h l) ≡ false → Waits w (afterwards (turnBy (servedBy c h l) w r))
 pass-by false false l w r a e g = record { part = refl; waits = λ b. absurd (true≢false (sym b ∙ a)) }
 pass-by false true l w r a e g = record { part = received w .part; waits = λ b. absurd (true≢false (sym b ∙ a)) }
@@ -317,7 +317,7 @@ pass-turn : (w : World) (r : ℕ) → commandNext (w .device .units) ≡ false �
 unfolding turnOf
 pass-turn w r g =
     let u = w .device .units in
-    let s = pass-by (isActive (cuState (u .cu))) (isHolding (u .ru)) (u .rulast) w r refl refl g in
+    let s = pass-by (cuWorks (u .cu)) (ruWorks (u .ru)) (u .rulast) w r refl refl g in
     record { part = s .part; waits = s .waits }
 
 pass : (e : Event) (w : World) → isTurn e ≡ true → commandNext (w .device .units) ≡ false → Passed machine e w
@@ -348,14 +348,14 @@ laws May between =
 
 arrival-between : (w : World) (f : List ℕ) (v : ℕ) → Between machine (call (arrive f v)) w
 unfolding arrivalOf
-arrival-between w f v = record { part = refl; kept = refl }
+arrival-between w f v = record { part = refl; order = refl }
 
 list-between : (e : Event) (w : World) → DuringList e w → isTurn e ≡ false → Between machine e w
 list-between (call reset) w y t = absurd (false≢true (y .0))
 list-between (call attention) w y t = absurd (false≢true (y .0))
 list-between (call (arrive f v)) w y t = arrival-between w f v
 list-between (call (turn r)) w y t = absurd (true≢false t)
-list-between (host m h out) w y t = record { part = rw (y .1); kept = refl }
+list-between (host m h out) w y t = record { part = rw (y .1); order = refl }
 
 pub list-laws : Laws machine DuringList
 list-laws = laws DuringList list-between

@@ -20,8 +20,7 @@ use Rattle.traces.specs.Event.{Event, call, host, step, isTurn, DuringList}
 use Rattle.traces.specs.Areas.{FrameBytes, AreBytes, Holds, worldIn, Shows}
 use Rattle.traces.specs.Driven.{Lending, lending, refusedAt, leftBy, left, isTaken, eventsBy, eventsOf, AllFair}
 use Rattle.closure.specs.Carried.{Carried}
-use Rattle.closure.proofs.Carried.{carry}
-use Rattle.closure.proofs.Runs.{shows-world}
+use Rattle.closure.proofs.Carried.{carry, shows-world}
 use Rattle.lists.specs.Unit.{machine}
 use Rattle.lists.specs.Done.{Premises, bytesOf}
 use Rattle.lists.specs.OnBytes.{PremisesOnBytes}
@@ -153,6 +152,6 @@ lifted bs es a v s x p =
     record {
       fair = fair-lift es a a v v refl refl t x (p .events);
       apart = p .apart;
-      intact = intact-lift (bytesOf v bs) es a v v t m x (p .events) (p .kept);
+      intact = intact-lift (bytesOf v bs) es a v v t m x (p .events) (p .intact);
       turns = subst (λ (n : ℕ). 132 * length bs ≤ n) (sym (turns-lift es a x)) (p .turns);
     }

@@ -165,7 +165,7 @@ list-finished May laws bs es w st pr =
     let h = stands-start bs w st (pr .apart) in
     let L = bytesOf w bs in
     finish machine (listing (w .device .units .base) (w .memory) (pr .size) L (setupLeft w bs)) May laws L bs es w (h, sub-refl L, refl)
-    (covers-list bs w (pr .size) h) (pr .events) (pr .kept) (omega (arith, start-rank bs w st, pr .turns))
+    (covers-list bs w (pr .size) h) (pr .events) (pr .intact) (omega (arith, start-rank bs w st, pr .turns))
 
 -- Let a list of the blocks bs be started, the last the first that ends or suspends it; let no result be a byte of a later command; let the
 -- events of a trace be such as may occur, and nothing write into the list, as it stands at the start, but each command's own results. Once

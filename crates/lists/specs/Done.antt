@@ -66,5 +66,5 @@ pub record Premises (May : Event → World → Type 0) (bs : List ℕ) (es : Lis
   pub size : 8192 ≤ length (w .memory)
   pub apart : Apart bs w
   pub events : AllMay May step es w
-  pub kept : Undisturbed machine (bytesOf w bs) es w
+  pub intact : Undisturbed machine (bytesOf w bs) es w
   pub turns : 132 * length bs ≤ turns isTurn es

@@ -73,7 +73,7 @@ module _ (M : Machine) where
           notes = rw t (ih .notes);
           live = rw t (ih .live);
           was = ih .was;
-          pace = λ b. rw t (omega (arith, rw (bt .kept) at (ih .pace b)));
+          pace = λ b. rw t (omega (arith, rw (bt .order) at (ih .pace b)));
         }
 
     after : (t : Bool) (h : Bool) (e : E) (es : List E) (s : S) (v : P) (q : List ℕ) → may e s → isTurn e ≡ t → served s ≡ h

@@ -55,7 +55,8 @@ module _ (M : Machine) where
 
   pub record Between (e : E) (s : S) : Type 0 where
     pub part : view (step e s) ≡ view s
-    pub kept : last (step e s) ≡ last s
+    -- which unit was served last stays
+    pub order : last (step e s) ≡ last s
 
   -- may says which events may occur
   pub record Laws (may : E → S → Type 0) : Type 0 where

@@ -2,11 +2,11 @@
 use mathlib.Core.Path.{_≡_}
 use mathlib.Core.Bool.{true}
 use mathlib.Core.List.{List, []}
-use Prim.Native.Nat.{ℕ}
+use Prim.Native.Nat.{ℕ, _≤_}
 use lib.ListN.{length}
 use Rattle.memory.specs.Size.{Allowed}
 use Rattle.memory.proofs.Bytes.{Bytes}
-use Rattle.device.specs.Limits.{holdingSize, outgoingSize}
+use Rattle.device.specs.Limits.{longest, holdingSize, outgoingSize}
 use Rattle.device.specs.State.{freshUnits}
 use Rattle.device.specs.declared.Device.{Device}
 use Rattle.device.specs.declared.Units.{Units}
@@ -29,6 +29,10 @@ arriving (turn report) = []
 -- it is made of bytes, however many; nothing is asked of a verdict or of a line report
 abbrev pub FrameBytes : Call → Type 0
 FrameBytes c = Bytes (arriving c)
+
+-- it is not overlong
+abbrev pub NotOverlong : List ℕ → Type 0
+NotOverlong f = length f ≤ longest
 
 -- ---- areas
 

@@ -29,7 +29,7 @@ pub record PremisesBy (least : ℕ → ℕ) (bs : List ℕ) (es : List Event) (v
   pub size : 8192 ≤ length (v .memory)
   pub apart : Apart bs v
   pub events : AllMay DuringList step es v
-  pub kept : Undisturbed machine (bytesOf v bs) es v
+  pub intact : Undisturbed machine (bytesOf v bs) es v
   pub turns : least (length bs) ≤ turns isTurn es
 
 abbrev pub FirstHalf : (ℕ → ℕ) → Type 0
@@ -101,7 +101,7 @@ one-premises least l =
       size = lit≤ tt;
       apart = clash-ok (length (alone .memory)) (alone .device .units .base) (setupOf (alone .device)) (alone .memory) (0x18 ∷ []) tt;
       events = calls-ok (one 131) alone tt;
-      kept = one-kept;
+      intact = one-kept;
       turns = l;
     }
 
@@ -161,7 +161,7 @@ two-premises least l =
       size = lit≤ tt;
       apart = clash-ok (length (pair .memory)) (pair .device .units .base) (setupOf (pair .device)) (pair .memory) both tt;
       events = calls-ok (two 132) pair tt;
-      kept = two-kept;
+      intact = two-kept;
       turns = l;
     }
 
@@ -177,4 +177,4 @@ two-take-264 least l half =
 pub first-half : FirstHalf (λ n. 132 * n)
 first-half bs es w s first listed p =
     attention-list-done bs es w s first listed
-    (record { size = p .size; apart = p .apart; events = p .events; kept = p .kept; turns = p .turns })
+    (record { size = p .size; apart = p .apart; events = p .events; intact = p .intact; turns = p .turns })

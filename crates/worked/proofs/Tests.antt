@@ -13,7 +13,7 @@ use Rattle.scb.specs.Control.{codeOf}
 use Rattle.scb.specs.Words.{bitsAt, joined, acknowledged, anyOf, eventBits, statusWord}
 use Rattle.device.specs.Answers.{counts}
 use Rattle.device.specs.Numbers.{actionOf, verdictOf}
-use Rattle.device.specs.State.{cuState, isActive, isHolding}
+use Rattle.device.specs.State.{cuWorks, ruWorks}
 use Rattle.filter.specs.Match.{agree, isListed, matches}
 use Rattle.actions.specs.Actions.{settingsBy, listing, act, reported, isSent, sent}
 use Rattle.actions.specs.Setup.{Setup}
@@ -186,10 +186,10 @@ idle-by true h l w r a b = absurd (true≢false a)
 idle-by false true l w r a b = absurd (true≢false b)
 idle-by false false l w r a b = refl
 
-pub idle-turn : (w : World) (r : ℕ) → isActive (cuState (w .device .units .cu)) ≡ false → isHolding (w .device .units .ru) ≡ false
+pub idle-turn : (w : World) (r : ℕ) → cuWorks (w .device .units .cu) ≡ false → ruWorks (w .device .units .ru) ≡ false
     → step (call (turn r)) w ≡ w
 unfolding turnOf
-idle-turn w r a b = idle-by (isActive (cuState (w .device .units .cu))) (isHolding (w .device .units .ru)) (w .device .units .rulast) w r a b
+idle-turn w r a b = idle-by (cuWorks (w .device .units .cu)) (ruWorks (w .device .units .ru)) (w .device .units .rulast) w r a b
 
 not-next : (c h l : Bool) → c ≡ false → isCommand (servedBy c h l) ≡ false
 not-next true h l e = absurd (true≢false e)
@@ -200,12 +200,12 @@ idle-next : (r : ℕ) (L : List ℕ) (es : List Event) (w : World) → commandNe
     → Same L (w .memory) (apply (own machine (call (turn r)) w) (w .memory)) × Undisturbed machine L es w
 idle-next r L es w c k = (rw c (same-refl L (w .memory)), k)
 
-pub idle-kept : (n r : ℕ) (L : List ℕ) (w : World) → isActive (cuState (w .device .units .cu)) ≡ false → isHolding (w .device .units .ru) ≡ false
+pub idle-kept : (n r : ℕ) (L : List ℕ) (w : World) → cuWorks (w .device .units .cu) ≡ false → ruWorks (w .device .units .ru) ≡ false
     → Undisturbed machine L (replicate n (call (turn r))) w
 idle-kept zero r L w a b = tt
 idle-kept (suc n) r L w a b =
     let es : List Event = replicate n (call (turn r)) in
     let c : commandNext (w .device .units) ≡ false =
-    not-next (isActive (cuState (w .device .units .cu))) (isHolding (w .device .units .ru)) (w .device .units .rulast) a in
+    not-next (cuWorks (w .device .units .cu)) (ruWorks (w .device .units .ru)) (w .device .units .rulast) a in
     subst (λ (v : World). Same L (v .memory) (apply (own machine (call (turn r)) w) (w .memory)) × Undisturbed machine L es v)
     (sym (idle-turn w r a b)) (idle-next r L es w c (idle-kept n r L w a b))

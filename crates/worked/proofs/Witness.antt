@@ -126,7 +126,7 @@ premises =
       size = lit≤ tt;
       apart = clash-ok (length (begun .memory)) (begun .device .units .base) (setupOf (begun .device)) (begun .memory) three tt;
       events = mays;
-      kept =
+      intact =
           kept-append (bytesOf begun three) busy (replicate 383 (call (turn 0))) begun kept-busy
           (idle-kept 383 0 (bytesOf begun three) (run step busy begun) (idle-after .0) (idle-after .1));
       turns = lit≤ tt;
