@@ -18,6 +18,42 @@ const ARGUMENT: u16 = 6;
 
 const ADDRESSES: u16 = 8;
 
+// An address has six bytes, and at most sixteen are listed. The low 14 bits of an MC-Setup's argument count bytes.
+const ADDRESS_SIZE: usize = 6;
+
+const ADDRESS_BYTES: u16 = 6;
+
+const LISTED: u16 = 16;
+
+const COUNT_BITS: u16 = 14;
+
+// The bytes of a Configure that count here, by their numbers: byte count, save bad, address length and loopback, modes, minimum length.
+const COUNT: u16 = 0;
+
+const BAD: u16 = 2;
+
+const ADDRESSING: u16 = 3;
+
+const MODE: u16 = 8;
+
+const MINIMUM: u16 = 10;
+
+// The byte count is the low 4 bits; fewer than 4 bytes are taken as 4, more than 12 as 12.
+const LOW_BITS: u16 = 4;
+
+const LEAST: u16 = 4;
+
+const MOST: u16 = 12;
+
+// Byte 3: so many low bits are the address length; then the bit of the address location, and the two of loopback.
+const LENGTH_BITS: u16 = 3;
+
+const LOCATION: u16 = 3;
+
+const LOOPBACK: u16 = 6;
+
+const OTHER_LOOPBACK: u16 = 7;
+
 // Byte 2 of a Configure has save bad in its highest bit, byte 8 promiscuous and broadcast disabled in its lowest two.
 const SAVE_BAD: u8 = 1 << 7;
 
@@ -32,6 +68,27 @@ pub struct Done {
 const DONE: u16 = 0xA000;
 
 const FAILED: u16 = 0x8000;
+
+// The word that a TDR leaves.
+const TDR_WORD: u16 = 0x8000;
+
+// The commands by their numbers. 4 is a Transmit, which has no action of its own; 7, Diagnose, is what is left.
+const NOP: u64 = 0;
+
+const IA_SETUP: u64 = 1;
+
+const CONFIGURE: u64 = 2;
+
+const MC_SETUP: u64 = 3;
+
+const TDR: u64 = 5;
+
+const DUMP: u64 = 6;
+
+// What the line report's bits from 9 on and from 5 on count.
+const FROM_9: u16 = 1 << 9;
+
+const FROM_5: u16 = 1 << 5;
 
 // A status and a length.
 pub fn plainly(status: u16, length: u16) -> Done
@@ -50,7 +107,7 @@ fn ia_setup(memory: &[u8], base: RealAddress, setup: &mut [u8], block: Offset) -
     copies::copy_out(
         memory,
         memory::place(base, block, ARGUMENT),
-        6,
+        ADDRESS_SIZE,
         setup,
         setup::OWN,
     );
@@ -61,12 +118,12 @@ fn ia_setup(memory: &[u8], base: RealAddress, setup: &mut [u8], block: Offset) -
 fn clamp(byte: u8) -> u16
     ensures { λ r. ⌜ r ≡ actions.clamped byte ⌝ }
 {
-    let count = scb::bits_at(byte as u16, 0, 4);
-    if count < 4 {
-        return 4;
+    let count = scb::bits_at(byte as u16, 0, LOW_BITS);
+    if count < LEAST {
+        return LEAST;
     }
-    if 12 < count {
-        return 12;
+    if MOST < count {
+        return MOST;
     }
     count
 }
@@ -76,7 +133,10 @@ fn is_acceptable(byte: u8) -> bool
     ensures { λ r. ⌜ r ≡ actions.acceptable byte ⌝ }
 {
     let b = byte as u16;
-    (scb::bits_at(b, 0, 3) == 6) & !scb::is_set(b, 3) & !scb::is_set(b, 6) & !scb::is_set(b, 7)
+    (scb::bits_at(b, 0, LENGTH_BITS) == ADDRESS_BYTES)
+        & !scb::is_set(b, LOCATION)
+        & !scb::is_set(b, LOOPBACK)
+        & !scb::is_set(b, OTHER_LOOPBACK)
 }
 
 // Byte k of a Configure: its byte 0 is at +6.
@@ -91,9 +151,9 @@ fn byte_of(memory: &[u8], base: RealAddress, block: Offset, k: u16) -> u8
 fn settings_by(memory: &[u8], base: RealAddress, block: Offset, count: u16, kept: u8) -> u8
     ensures { λ r. ⌜ ((s : Settings) → kept ≡ settingsByte s → r ≡ settingsByte (actions.settingsBy count (actions.byteOf base block (now (memory .entry))) s)) ⌝ }
 {
-    let save = byte_of(memory, base, block, 2) / SAVE_BAD;
-    if 8 < count {
-        return setup::settings(save, byte_of(memory, base, block, 8) % MODES);
+    let save = byte_of(memory, base, block, BAD) / SAVE_BAD;
+    if MODE < count {
+        return setup::settings(save, byte_of(memory, base, block, MODE) % MODES);
     }
     setup::settings(save, setup::modes(kept))
 }
@@ -102,8 +162,8 @@ fn settings_by(memory: &[u8], base: RealAddress, block: Offset, count: u16, kept
 fn minimum_by(memory: &[u8], base: RealAddress, block: Offset, count: u16, kept: u8) -> u8
     ensures { λ r. ⌜ ((s : Settings) → kept ≡ s .minimum → r ≡ actions.settingsBy count (actions.byteOf base block (now (memory .entry))) s .minimum) ⌝ }
 {
-    if 10 < count {
-        return byte_of(memory, base, block, 10);
+    if MINIMUM < count {
+        return byte_of(memory, base, block, MINIMUM);
     }
     kept
 }
@@ -113,8 +173,8 @@ fn configure(memory: &[u8], base: RealAddress, setup: &mut [u8], block: Offset) 
     requires { ⌜ length (now setup) ≡ setupSize ⌝ }
     ensures { λ r. ⌜ ((s : Setup) → SetIs s (now (setup .entry)) → acts.Sets (actions.configure base s block (now (memory .entry))) r (now (setup .exit))) ⌝ }
 {
-    if is_acceptable(byte_of(memory, base, block, 3)) {
-        let count = clamp(byte_of(memory, base, block, 0));
+    if is_acceptable(byte_of(memory, base, block, ADDRESSING)) {
+        let count = clamp(byte_of(memory, base, block, COUNT));
         setup[setup::SETTINGS] = settings_by(memory, base, block, count, setup[setup::SETTINGS]);
         setup[setup::MINIMUM] = minimum_by(memory, base, block, count, setup[setup::MINIMUM]);
         return plainly(DONE, 0);
@@ -129,9 +189,9 @@ fn groups(memory: &[u8], base: RealAddress, block: Offset) -> u16
     scb::bits_at(
         memory::word_at(memory, memory::place(base, block, ARGUMENT)),
         0,
-        14,
+        COUNT_BITS,
     )
-        / 6
+        / ADDRESS_BYTES
 }
 
 // MC-Setup: the list is n addresses from +8 on, the unused slots zero; above 16 addresses 8000h, and the old list kept.
@@ -140,12 +200,12 @@ fn mc_setup(memory: &[u8], base: RealAddress, setup: &mut [u8], block: Offset) -
     ensures { λ r. ⌜ ((s : Setup) → SetIs s (now (setup .entry)) → acts.Sets (actions.mcSetup base s block (now (memory .entry))) r (now (setup .exit))) ⌝ }
 {
     let n = groups(memory, base, block);
-    if n <= 16 {
+    if n <= LISTED {
         numerals::clear(setup, setup::LISTED, setup::LISTED_SIZE);
         copies::copy_out(
             memory,
             memory::place(base, block, ADDRESSES),
-            n as usize * 6,
+            n as usize * ADDRESS_SIZE,
             setup,
             setup::LISTED,
         );
@@ -158,7 +218,7 @@ fn mc_setup(memory: &[u8], base: RealAddress, setup: &mut [u8], block: Offset) -
 fn tdr(memory: &mut [u8], base: RealAddress, block: Offset) -> Done
     ensures { λ r. ⌜ ((s : Setup) → acts.Writes (actions.tdr base s block) (now (memory .entry)) r (now (memory .exit))) ⌝ }
 {
-    memory::put_word(memory, memory::place(base, block, ARGUMENT), 0x8000);
+    memory::put_word(memory, memory::place(base, block, ARGUMENT), TDR_WORD);
     plainly(DONE, 0)
 }
 
@@ -168,12 +228,12 @@ pub fn act(memory: &mut [u8], base: RealAddress, setup: &mut [u8], kind: u64, bl
     ensures { λ r. ⌜ acts.ActsOn (actionOf kind) base block (now (memory .entry)) (now (setup .entry)) r (now (memory .exit)) (now (setup .exit)) ⌝ }
 {
     match kind {
-        0 => plainly(DONE, 0),
-        1 => ia_setup(memory, base, setup, block),
-        2 => configure(memory, base, setup, block),
-        3 => mc_setup(memory, base, setup, block),
-        5 => tdr(memory, base, block),
-        6 => plainly(FAILED, 0),
+        NOP => plainly(DONE, 0),
+        IA_SETUP => ia_setup(memory, base, setup, block),
+        CONFIGURE => configure(memory, base, setup, block),
+        MC_SETUP => mc_setup(memory, base, setup, block),
+        TDR => tdr(memory, base, block),
+        DUMP => plainly(FAILED, 0),
         _ => plainly(DONE, 0),
     }
 }
@@ -182,7 +242,9 @@ pub fn act(memory: &mut [u8], base: RealAddress, setup: &mut [u8], kind: u64, bl
 fn reported(report: u16) -> u16
     ensures { λ r. ⌜ (r ≡ actions.reported report) × (r < 2048) ⌝ }
 {
-    scb::bits_at(report, 9, 2) * 512 + scb::bits_at(report, 5, 3) * 32 + scb::bits_at(report, 0, 4)
+    scb::bits_at(report, 9, 2) * FROM_9
+        + scb::bits_at(report, 5, 3) * FROM_5
+        + scb::bits_at(report, 0, 4)
 }
 
 // Whether the line sent the frame: bits 10, 9 and 5 are clear.

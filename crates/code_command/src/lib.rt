@@ -42,12 +42,26 @@ const DESTINATION: u16 = 8;
 
 const TYPE: u16 = 14;
 
+// A command block's status: B while the command is busy; C, and bit 8 besides, of a Transmit that was not sent (ours).
+const BUSY: u16 = 0x4000;
+
+const UNSENT: u16 = 0x8100;
+
 // A command word: CMD is its rest by 8, and 4 is a Transmit; from bit 13 on stand I, S, EL.
 const COMMANDS: u16 = 8;
 
 const TRANSMIT: u16 = 4;
 
-const HELD: u16 = 1 << 13;
+const CONTROL_BITS: u16 = 1 << 13;
+
+// A frame's header: where the own address and the type stand in it, behind the destination.
+const ADDRESS_SIZE: usize = 6;
+
+const TYPE_SIZE: usize = 2;
+
+const SOURCE_IN: usize = ADDRESS_SIZE;
+
+const TYPE_IN: usize = SOURCE_IN + ADDRESS_SIZE;
 
 // A frame's header, and the most bytes of a frame. So many descriptors before it make a descriptor the last that a Transmit may use.
 const HEADER: u64 = 14;
@@ -56,8 +70,14 @@ const LONGEST: u64 = 2048;
 
 const LAST: u64 = 63;
 
-// A descriptor's word: the count is its rest by 16,384; EOF is the highest bit.
-const COUNT: u16 = 1 << 14;
+// The transmit buffer descriptor: +0 EOF and count, +2 next, +4 real address. EOF is the highest bit of +0, and the count its 14 lowest.
+const FILLED: u16 = 0;
+
+const NEXT: u16 = 2;
+
+const BUFFER: u16 = 4;
+
+const COUNTS: u16 = 1 << 14;
 
 const EOF: u16 = 1 << 15;
 
@@ -84,7 +104,7 @@ fn quiet(tag: u64, word: u64) -> Commanded
 fn begun_by(block: Offset, word: u16) -> u64
     ensures { λ r. ⌜ (r < 2 ^ 20) × BegunIs (begins.begunBy block word) r ⌝ }
 {
-    cu::begun(block, word / HELD)
+    cu::begun(block, word / CONTROL_BITS)
 }
 
 // A Transmit goes on to its first descriptor, or to its end where there is none.
@@ -106,12 +126,18 @@ fn put_header(memory: &[u8], outgoing: &mut [u8], setup: &[u8], base: RealAddres
     copies::copy_out(
         memory,
         memory::place(base, block, DESTINATION),
-        6,
+        ADDRESS_SIZE,
         outgoing,
         0,
     );
-    memory::put_run(outgoing, 6, &setup[setup::OWN..setup::OWN_END]);
-    copies::copy_out(memory, memory::place(base, block, TYPE), 2, outgoing, 12);
+    memory::put_run(outgoing, SOURCE_IN, &setup[setup::OWN..setup::OWN_END]);
+    copies::copy_out(
+        memory,
+        memory::place(base, block, TYPE),
+        TYPE_SIZE,
+        outgoing,
+        TYPE_IN,
+    );
 }
 
 // A Transmit is begun: its +6 is read, and its header placed.
@@ -164,7 +190,7 @@ fn begin(
 {
     let word = memory::word_at(memory, memory::place(base, block, COMMAND));
     let next = to_begun(memory, outgoing, setup, base, block, word);
-    memory::put_word(memory, memory::place(base, block, STATUS), 0x4000);
+    memory::put_word(memory, memory::place(base, block, STATUS), BUSY);
     next
 }
 
@@ -195,13 +221,13 @@ fn buffer(memory: &[u8], outgoing: &mut [u8], base: RealAddress, n: u64) -> Comm
     let o = packed::next_of(n);
     let filled = packed::size_of(n);
     let b = cu::begun_of(n);
-    let word = memory::word_at(memory, memory::place(base, o, 0));
-    let count = (word % COUNT) as u64;
+    let word = memory::word_at(memory, memory::place(base, o, FILLED));
+    let count = (word % COUNTS) as u64;
     if LONGEST < filled + count {
         return quiet(cu::FAILING, b);
     }
-    let next = memory::offset_at(memory, memory::place(base, o, 2));
-    let buffer = memory::real_at(memory, memory::place(base, o, 4));
+    let next = memory::offset_at(memory, memory::place(base, o, NEXT));
+    let buffer = memory::real_at(memory, memory::place(base, o, BUFFER));
     copies::copy_out(memory, buffer, count as usize, outgoing, filled as usize);
     after_buffer(EOF <= word, next, b, packed::kind_of(n), filled + count)
 }
@@ -262,7 +288,7 @@ fn done_by(
     match tag {
         cu::ACTING => code_actions::act(memory, base, setup, packed::kind_of(n), packed::at_of(n)),
         cu::ENDING => code_actions::send(packed::size_of(n) as u16, report),
-        _ => code_actions::plainly(0x8100, 0),
+        _ => code_actions::plainly(UNSENT, 0),
     }
 }
 

@@ -22,20 +22,28 @@ pub enum Decoded {
     Foreign,
 }
 
-// The letters B, G, T and the version, 1, which a record begins with.
-const LETTERS: u64 = 0x544742;
-
-const VERSION: u64 = 1;
-
-const FRONT: u64 = LETTERS + (VERSION << 24);
-
-const FRONT_END: u64 = 1 << 40;
-
-// The own address is written in two halves.
+// The own address is written in two halves. After reset it is all FFh, and the minimum length is 64.
 const OWN_BACK: usize = record::OWN + 3;
 
-// The minimum length after reset.
+const ONES: u64 = 0xFFFFFFFFFFFF;
+
+const HALF_ONES: u64 = 0xFFFFFF;
+
 const MINIMUM: u8 = 64;
+
+// A frame's header, the most bytes of a frame, and how many descriptors a walk that goes on may have used.
+const HEADER: u64 = 14;
+
+const LONGEST: u64 = 2048;
+
+const LAST: u64 = 63;
+
+// A Transmit is never Acting. A verdict is 0 if it is good, and below 3.
+const TRANSMIT: u64 = 4;
+
+const GOOD: u64 = 0;
+
+const VERDICTS: u64 = 3;
 
 // ---- a unit's word
 
@@ -44,14 +52,14 @@ fn is_sized(n: u64) -> bool
     ensures { λ x. ⌜ x ≡ numbers.sizedIn n ⌝ }
 {
     let size = packed::size_of(n);
-    (14 <= size) & (size <= 2048)
+    (HEADER <= size) & (size <= LONGEST)
 }
 
 // A walk goes on: fewer than 64 descriptors are used, and there is a next one.
-fn goes_on(n: u64, used: u64) -> bool
+fn has_next(n: u64, used: u64) -> bool
     ensures { λ x. ⌜ x ≡ numbers.hasNextIn n used ⌝ }
 {
-    (used <= 63) & !memory::is_none(packed::next_of(n))
+    (used <= LAST) & !memory::is_none(packed::next_of(n))
 }
 
 // The largest word of a phase that has an offset alone, or nothing.
@@ -66,20 +74,22 @@ fn offset_most(none: bool) -> u64
 fn acting_is(n: u64) -> bool
     ensures { λ x. ⌜ x ≡ numbers.actingIs n ⌝ }
 {
-    (n <= cu::ACTING_MOST) & (packed::flags_of(n) < cu::FLAGS) & (packed::kind_of(n) != 4)
+    (n <= cu::ACTING_MOST)
+        & (packed::flags_of(n) < cu::BEGUN_FLAGS)
+        & (packed::kind_of(n) != TRANSMIT)
 }
 
 fn sending_is(n: u64) -> bool
     ensures { λ x. ⌜ x ≡ numbers.sendingIs n ⌝ }
 {
-    (packed::flags_of(n) < cu::FLAGS) & goes_on(n, packed::kind_of(n)) & is_sized(n)
+    (packed::flags_of(n) < cu::BEGUN_FLAGS) & has_next(n, packed::kind_of(n)) & is_sized(n)
 }
 
 fn ending_is(n: u64) -> bool
     ensures { λ x. ⌜ x ≡ numbers.endingIs n ⌝ }
 {
     (n <= packed::SIZED_MOST)
-        & (packed::flags_of(n) < cu::FLAGS)
+        & (packed::flags_of(n) < cu::BEGUN_FLAGS)
         & (packed::kind_of(n) == 0)
         & is_sized(n)
 }
@@ -115,9 +125,9 @@ fn frame_is(n: u64, most: u64) -> bool
 {
     let verdict = packed::kind_of(n);
     (packed::flags_of(n) < most)
-        & (verdict < 3)
+        & (verdict < VERDICTS)
         & is_sized(n)
-        & (ru::save_bad(n) | (!ru::short(n) & (verdict == 0)))
+        & (ru::save_bad(n) | (!ru::short(n) & (verdict == GOOD)))
 }
 
 fn held_is(n: u64, rest: u64) -> bool
@@ -132,15 +142,15 @@ fn filling_is(n: u64, rest: u64) -> bool
 {
     (rest <= ru::FILLED_MOST)
         & frame_is(n, ru::STORING_FLAGS)
-        & goes_on(n, ru::above_filled(rest))
-        & (14 <= ru::filled(rest))
+        & has_next(n, ru::above_filled(rest))
+        & (HEADER <= ru::filled(rest))
         & (ru::filled(rest) < packed::size_of(n))
 }
 
 fn closing_is(n: u64, rest: u64) -> bool
     ensures { λ x. ⌜ x ≡ numbers.closingIs n rest ⌝ }
 {
-    (rest == 0) & frame_is(n, ru::CLOSING_FLAGS) & ((14 < packed::size_of(n)) | !ru::full(n))
+    (rest == 0) & frame_is(n, ru::CLOSING_FLAGS) & ((HEADER < packed::size_of(n)) | !ru::full(n))
 }
 
 fn lacking_is(n: u64, rest: u64) -> bool
@@ -149,7 +159,7 @@ fn lacking_is(n: u64, rest: u64) -> bool
     (n <= packed::SIZED_MOST)
         & (rest == 0)
         & frame_is(n, ru::STORING_FLAGS)
-        & (14 < packed::size_of(n))
+        & (HEADER < packed::size_of(n))
 }
 
 fn holding_is(tag: u64, n: u64, rest: u64) -> bool
@@ -169,8 +179,8 @@ fn ru_is(tag: u64, n: u64, rest: u64) -> bool
     ensures { λ x. ⌜ x ≡ numbers.ruIs tag n rest ⌝ }
 {
     if tag < ru::HELD {
-        if tag % 2 == 1 {
-            return n / packed::FLAGS | rest == 0;
+        if ru::has_offset(tag) {
+            return packed::above_offset(n) | rest == 0;
         }
         return n | rest == 0;
     }
@@ -229,7 +239,7 @@ fn packed_at(r: &[u8]) -> Packed
 fn front_is(n: u64) -> bool
     ensures { λ x. ⌜ x ≡ image.frontIs n ⌝ }
 {
-    n % FRONT_END == FRONT
+    n % record::FRONT_END == record::FRONT
 }
 
 fn words_are(front: u64, k: Packed) -> bool
@@ -258,7 +268,7 @@ fn is_fresh(r: &[u8]) -> bool
     (status_at(r) == 0)
         & (numerals::read8(r, record::SETTINGS) == 0)
         & (numerals::read8(r, record::MINIMUM) == MINIMUM)
-        & (numerals::read48(r, record::OWN) == 0xFFFFFFFFFFFF)
+        & (numerals::read48(r, record::OWN) == ONES)
         & numerals::is_zero(r, record::LISTED, setup::LISTED_SIZE / 8)
 }
 
@@ -310,11 +320,11 @@ fn renew_full(r: &mut [u8])
     ensures { λ _. ⌜ now (r .exit) ≡ image.imageOf device.fresh ⌝ }
 {
     numerals::clear(r, 0, record::SIZE);
-    numerals::put24(r, record::LETTERS, LETTERS);
-    numerals::put16(r, record::VERSION, VERSION);
+    numerals::put24(r, record::LETTERS, record::BGT);
+    numerals::put16(r, record::VERSION, record::VERSION_1);
     numerals::put8(r, record::MINIMUM, MINIMUM);
-    numerals::put24(r, record::OWN, 0xFFFFFF);
-    numerals::put24(r, OWN_BACK, 0xFFFFFF);
+    numerals::put24(r, record::OWN, HALF_ONES);
+    numerals::put24(r, OWN_BACK, HALF_ONES);
 }
 
 // The image of the fresh state goes to a record, whatever stood there; one of another length stays as it is.

@@ -8,6 +8,24 @@ ghost use lib.Seq.{sets};
 ghost use Rattle.memory.specs.Memory.{digits};
 ghost use Rattle.numerals.specs.Places.{field};
 
+// What the bytes of a number count, from its second on.
+const BYTE_1: u64 = 1 << 8;
+
+const BYTE_2: u64 = 1 << 16;
+
+const BYTE_3: u64 = 1 << 24;
+
+const BYTE_4: u64 = 1 << 32;
+
+const BYTE_5: u64 = 1 << 40;
+
+const BYTE_6: u64 = 1 << 48;
+
+const BYTE_7: u64 = 1 << 56;
+
+// How many values a byte has.
+const BYTES: u64 = 1 << 8;
+
 // ---- reading
 
 fn wide(b: u8) -> u64
@@ -28,7 +46,7 @@ pub fn read24(r: &[u8], at: usize) -> u32
     requires { ⌜ at + 2 < length (now r) ⌝ }
     ensures { λ x. ⌜ x ≡ field (now (r .entry)) at 3 ⌝ }
 {
-    (wide(r[at]) + 256 * wide(r[at + 1]) + 65536 * wide(r[at + 2])) as u32
+    (wide(r[at]) + BYTE_1 * wide(r[at + 1]) + BYTE_2 * wide(r[at + 2])) as u32
 }
 
 // Six bytes.
@@ -36,7 +54,7 @@ pub fn read48(r: &[u8], at: usize) -> u64
     requires { ⌜ at + 5 < length (now r) ⌝ }
     ensures { λ x. ⌜ x ≡ field (now (r .entry)) at 6 ⌝ }
 {
-    read24(r, at) as u64 + 16777216 * read24(r, at + 3) as u64
+    read24(r, at) as u64 + BYTE_3 * read24(r, at + 3) as u64
 }
 
 // Eight bytes, in one sum, which becomes one load.
@@ -45,13 +63,13 @@ pub fn read64(r: &[u8], at: usize) -> u64
     ensures { λ x. ⌜ x ≡ field (now (r .entry)) at 8 ⌝ }
 {
     wide(r[at])
-        + 256 * wide(r[at + 1])
-        + 65536 * wide(r[at + 2])
-        + 16777216 * wide(r[at + 3])
-        + 4294967296 * wide(r[at + 4])
-        + 1099511627776 * wide(r[at + 5])
-        + 281474976710656 * wide(r[at + 6])
-        + 72057594037927936 * wide(r[at + 7])
+        + BYTE_1 * wide(r[at + 1])
+        + BYTE_2 * wide(r[at + 2])
+        + BYTE_3 * wide(r[at + 3])
+        + BYTE_4 * wide(r[at + 4])
+        + BYTE_5 * wide(r[at + 5])
+        + BYTE_6 * wide(r[at + 6])
+        + BYTE_7 * wide(r[at + 7])
 }
 
 // Whether n times eight bytes are zero: the words are joined by OR, and one test is made at the end.
@@ -81,8 +99,8 @@ pub fn put16(r: &mut [u8], at: usize, v: u64)
     requires { ⌜ at + 1 < length (now r) ⌝ }
     ensures { λ _. ⌜ now (r .exit) ≡ sets (now (r .entry)) at (digits 2 v) ⌝ }
 {
-    r[at] = (v % 256) as u8;
-    r[at + 1] = (v / 256 % 256) as u8;
+    r[at] = (v % BYTES) as u8;
+    r[at + 1] = (v / BYTE_1 % BYTES) as u8;
 }
 
 // The low three bytes of a number.
@@ -91,7 +109,7 @@ pub fn put24(r: &mut [u8], at: usize, v: u64)
     ensures { λ _. ⌜ now (r .exit) ≡ sets (now (r .entry)) at (digits 3 v) ⌝ }
 {
     put16(r, at, v);
-    r[at + 2] = (v / 65536 % 256) as u8;
+    r[at + 2] = (v / BYTE_2 % BYTES) as u8;
 }
 
 fn put32(r: &mut [u8], at: usize, v: u64)
@@ -99,7 +117,7 @@ fn put32(r: &mut [u8], at: usize, v: u64)
     ensures { λ _. ⌜ now (r .exit) ≡ sets (now (r .entry)) at (digits 4 v) ⌝ }
 {
     put16(r, at, v);
-    put16(r, at + 2, v / 65536);
+    put16(r, at + 2, v / BYTE_2);
 }
 
 pub fn put64(r: &mut [u8], at: usize, v: u64)
@@ -107,7 +125,7 @@ pub fn put64(r: &mut [u8], at: usize, v: u64)
     ensures { λ _. ⌜ now (r .exit) ≡ sets (now (r .entry)) at (digits 8 v) ⌝ }
 {
     put32(r, at, v);
-    put32(r, at + 4, v / 4294967296);
+    put32(r, at + 4, v / BYTE_4);
 }
 
 // Zeros in n bytes.

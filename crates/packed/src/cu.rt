@@ -34,7 +34,7 @@ pub const PAUSING: u64 = crate::FLAGS << 3;
 const BEGUN: u64 = crate::FLAGS << 4;
 
 // What its flags are below; the largest word of a begun command alone, and the largest with the number of a command.
-pub const FLAGS: u64 = 1 << 4;
+pub const BEGUN_FLAGS: u64 = 1 << 4;
 
 pub const BEGUN_MOST: u64 = BEGUN - 1;
 

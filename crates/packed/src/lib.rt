@@ -133,7 +133,7 @@ pub fn status_is(s: u64) -> bool
 
 // From the lowest byte on: two of an offset, one of flags, one of kind, two of size, two of the next offset. A begun command is below its kind; the
 // units' flags are the modules' to say.
-pub const FLAGS: u64 = 1 << 16;
+const FLAGS: u64 = 1 << 16;
 
 const KIND: u64 = 1 << 24;
 
@@ -163,6 +163,13 @@ pub fn at_of(n: u64) -> Offset
     ensures { λ r. ⌜ r .0 ≡ fields.offsetIn n ⌝ }
 {
     Offset((n % OFFSETS) as u16)
+}
+
+// What a word has above its offset.
+pub fn above_offset(n: u64) -> u64
+    ensures { λ r. ⌜ r ≡ n / 2 ^ 16 ⌝ }
+{
+    n / FLAGS
 }
 
 pub fn flags_of(n: u64) -> u64

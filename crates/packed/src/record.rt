@@ -8,6 +8,15 @@ pub const LETTERS: usize = 0;
 
 pub const VERSION: usize = 3;
 
+// What they are: B, G, T, and 1. Both are read as the low five of the record's first eight bytes.
+pub const BGT: u64 = 0x544742;
+
+pub const VERSION_1: u64 = 1;
+
+pub const FRONT: u64 = BGT + (VERSION_1 << 24);
+
+pub const FRONT_END: u64 = 1 << 40;
+
 // The four numbers: status, the command unit's word, the receive unit's two.
 pub const STATUS: usize = 5;
 

@@ -7,7 +7,7 @@ ghost use Rattle.memory.specs.declared.Offset.{Offset};
 ghost use Rattle.device.specs.Numbers.{verdictOf};
 ghost use Rattle.device.specs.declared.Frame.{Frame};
 ghost use Rattle.device.specs.declared.Storing.{Storing};
-ghost use Rattle.phases.specs.Fields.{restBy, filledIn, aboveFilled, usedIn};
+ghost use Rattle.phases.specs.Fields.{odd, restBy, filledIn, aboveFilled, usedIn};
 ghost use Rattle.phases.specs.Phases.{wordOf, plain, frameOf, storingOf, frameNumber, frameWord, storingWith, storingWord};
 ghost use Rattle.packed.specs.Packed.{WordIs};
 
@@ -52,9 +52,16 @@ pub const CLOSING_FLAGS: u64 = 1 << 6;
 // The second word: how many bytes are stored, and above them in how many buffers.
 const USED: u64 = 1 << 16;
 
-const USED_MOST: u64 = 1 << 8;
+const USED_COUNTS: u64 = 1 << 8;
 
 pub const FILLED_MOST: u64 = (1 << 24) - 1;
+
+// Of the tags below Held, the odd ones go with an offset, the even ones with nothing.
+pub fn has_offset(tag: u64) -> bool
+    ensures { λ r. ⌜ r ≡ odd tag ⌝ }
+{
+    tag % 2 == 1
+}
 
 // ---- what is read of a frame's word
 
@@ -169,7 +176,7 @@ pub fn above_filled(rest: u64) -> u64
 pub fn used(rest: u64) -> u64
     ensures { λ r. ⌜ r ≡ usedIn rest ⌝ }
 {
-    rest / USED % USED_MOST
+    rest / USED % USED_COUNTS
 }
 
 pub fn rest_of(filled: u64, used: u64) -> u64

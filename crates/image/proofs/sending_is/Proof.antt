@@ -13,4 +13,4 @@ sending-is-spec =
     (λ c κs. search needs)
     (λ c κs. search needs)
     (λ c κs. search needs)
-    (λ c. rw (c .before .before .before .flags-of .ensures, c .before .goes-on .ensures, c .before .before .kind-of .ensures, c .is-sized .ensures)))
+    (λ c. rw (c .before .before .before .flags-of .ensures, c .before .has-next .ensures, c .before .before .kind-of .ensures, c .is-sized .ensures)))
