@@ -30,7 +30,7 @@ edge answer = bitsAt answer 32 1
 abbrev pub reason : ℕ → ℕ
 reason answer = bitsAt answer 40 8
 
--- the uppermost bits of C's 64: nothing stands above them
+-- all above bit 47, not 16 bits alone: with a budget of 16 bits, as C's, they are bits 48 to 63, and the statements hold of any budget
 abbrev pub turnsTaken : ℕ → ℕ
 turnsTaken answer = answer / 2 ^ 48
 

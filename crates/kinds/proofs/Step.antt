@@ -36,7 +36,7 @@ use Rattle.command.specs.Service.{serviceBy}
 use Rattle.attention.specs.Status as status
 use Rattle.chip.specs.Turn.{raisedIn, statusBy}
 use Rattle.chip.proofs.Status.{writtenIfRaised}
-use Rattle.lists.specs.Uses.{stops}
+use Rattle.lists.specs.Uses.{block, stops}
 use Rattle.kinds.specs.Lists.{Listed, All, NoResult, BlocksApart, isDone}
 use Rattle.kinds.proofs.Service.{atStatus, atWord, atScb, Own, AllOwn, own-append, own-kept, word-kept, ScbApart, own-command, own-link, done-kept, own-listed, rest-listed, kinds-kept, own-kinds}
 
@@ -437,7 +437,7 @@ module _ (n : ℕ) (tdr : Offset → Type 0) (p : Part) (scb : ℕ) (whole : Lis
   end-next (c ∷ cs) s =
       let e : end p g a m .part .unit ≡ cu.Waiting c =
       end-unit (c ∷ cs) s ∙ after-goes (g .el) (g .suspend || g .pausing) (offsetAt m (place (p .base) b 4)) (k .flags ∙ s .listed .0)
-      ∙ ap cu.Waiting (s .listed .1)
+      ∙ ap (λ (n : ℕ). cu.Waiting (block n)) (s .listed .1)
       in
       moved n tdr (p .base) scb whole m u fs b room c cs s all-writes (end p g a m .part .unit) end-own (end-done (s .size) (s .scb-rest .0)) e
 

@@ -1,7 +1,7 @@
 -- A command list in memory, its start, and what bytes show of demand 3. Assumes nothing.
 use mathlib.Core.Path.{_≡_}
 use mathlib.Core.Bool.{true, false}
-use mathlib.Core.List.{List, [], _∷_}
+use mathlib.Core.List.{List, [], _∷_, map}
 use Prim.Native.Nat.{ℕ, _*_, _^_, _≤_, _<_}
 use lib.ListN.{length}
 use Rattle.memory.specs.Address.{place, offsetAt}
@@ -16,7 +16,7 @@ use Rattle.device.specs.Numbers.{actionNumber}
 use Rattle.device.specs.State.{cuState, isActive, isHolding}
 use Rattle.device.specs.declared.Action.the-variants as action
 use Rattle.device.specs.declared.Device.{Device}
-use Rattle.actions.specs.Block.{blockStatusAt, blockCommandAt, blockLinkAt, argumentAt}
+use Rattle.actions.specs.Block.{blockStatusAt, blockCommandAt, argumentAt}
 use Rattle.command.specs.Begin.{cmd}
 use Rattle.control.specs.Obey.{ofScb}
 use Rattle.chip.specs.World.{World, worldOf}
@@ -26,17 +26,14 @@ use Rattle.progress.specs.Trace.{run, AllMay}
 use Rattle.traces.specs.Areas.{Hosted, shown}
 use Rattle.traces.specs.Event.{Event, call, host, step, answersOf, Calm}
 use Rattle.closure.specs.Refusals.{FrameRight}
-use Rattle.lists.specs.Uses.{stops}
+use Rattle.lists.specs.Uses as lists
 use Rattle.kinds.specs.Chips.{Chip, Given, Handed, chipRun, chipAnswers}
 use Rattle.kinds.specs.Demands.{Acceptable, lentOf}
 
 -- ---- a list: 01, "Turns". The first block that has EL or S is the last, each other's link leads to the next
 
 abbrev pub Listed : RealAddress → List ℕ → List Offset → Type 0
-Listed base m [] = ⊥
-Listed base m (b ∷ []) = stops (wordAt m (place base b blockCommandAt)) ≡ true
-Listed base m (b ∷ c ∷ cs) =
-    (stops (wordAt m (place base b blockCommandAt)) ≡ false) × (offsetAt m (place base b blockLinkAt) ≡ c) × Listed base m (c ∷ cs)
+Listed base m bs = lists.Listed base m (map (λ (b : Offset). b .0) bs)
 
 -- something of every block
 abbrev pub All : (Offset → Type 0) → List Offset → Type 0
