@@ -4,7 +4,7 @@ use code_calls::Asked;
 ghost use Rattle.calls.specs.Calls as calls;
 
 // Where in an answer the turns of a run are counted.
-const TURN: u64 = 281474976710656;
+const TURN: u64 = 1 << 48;
 
 // Reset takes the record alone, ignores its content and writes a fresh one.
 #[no_mangle]

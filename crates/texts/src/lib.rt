@@ -96,16 +96,25 @@ fn put_further(out: &mut [u8], at: usize, n: u64) -> usize
     put_decimal(out, next, n)
 }
 
+// What the length, the edge and the turns count in an answer, and the 16 bits that a number has there.
+const LENGTH: u64 = 1 << 16;
+
+const EDGE: u64 = 1 << 32;
+
+const TURN: u64 = 1 << 48;
+
+const NUMBERS: u64 = 1 << 16;
+
 // The line of an answer, which is one number: refusal, length sent, edge and the turns of a run stand in it from bits 0, 16, 32 and 48 on.
 pub fn put_answer(out: &mut [u8], at: usize, answer: u64) -> usize
     ensures { λ r. ⌜ Puts (texts.answerText answer) at (now (out .entry)) r (now (out .exit)) ⌝ }
 {
-    let first = put_decimal(out, at, answer % 65536);
+    let first = put_decimal(out, at, answer % NUMBERS);
     let second = put_byte(out, first, b' ');
-    let third = put_decimal(out, second, answer / 65536 % 65536);
+    let third = put_decimal(out, second, answer / LENGTH % NUMBERS);
     let fourth = put_byte(out, third, b' ');
-    let fifth = put_decimal(out, fourth, answer / 4294967296 % 2);
-    let sixth = put_further(out, fifth, answer / 281474976710656 % 65536);
+    let fifth = put_decimal(out, fourth, answer / EDGE % 2);
+    let sixth = put_further(out, fifth, answer / TURN % NUMBERS);
     put_byte(out, sixth, b'\n')
 }
 
