@@ -28,6 +28,9 @@ const LENGTH: u64 = 1 << 16;
 
 const EDGE: u64 = 1 << 32;
 
+// A report has 16 bits.
+const REPORTS: u32 = 1 << 16;
+
 // Number in bits 0 to 15, length in 16 to 31, edge in 32.
 fn answer_number(a: Answer) -> u64
     ensures { λ r. ⌜ r ≡ calls.answerNumber a ⌝ }
@@ -219,7 +222,7 @@ pub fn call(
         Asked::Attention => attention_on(memory, kept, k),
         Asked::Arrival => arrival_on(memory, holding, kept, k, &frame[..], line),
         Asked::Turns => {
-            let report = (line % 65536) as u16;
+            let report = (line % REPORTS) as u16;
             turns_on(memory, holding, outgoing, kept, k, report, budget, unit)
         }
     }

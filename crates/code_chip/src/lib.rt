@@ -12,7 +12,7 @@ ghost use Rattle.packed.specs.Packed as keeps;
 ghost use Rattle.packed.specs.SetUp.{setupSize};
 ghost use Rattle.code_chip.specs.Does as does;
 
-// What a turn comes to, besides the lent bytes; `told` is the length that it sent, with EDGE above it if it reports one. A turn that sends a
+// What a turn comes to, besides the lent bytes; `told` is the length that it sent, with TOLD_EDGE above it if it reports an edge. A turn that sends a
 // frame, reports an edge or has no work ends a run.
 pub struct Turned {
     pub kept: Packed,
@@ -27,7 +27,8 @@ pub struct Turns {
     pub taken: u16,
 }
 
-const EDGE: u32 = 1 << 16;
+// The edge above a turn's length, which has 16 bits; in an answer it stands elsewhere.
+const TOLD_EDGE: u32 = 1 << 16;
 
 // A frame has a header of 14 bytes; a shorter one is dropped before anything is asked of it.
 const HEADER: usize = 14;
@@ -43,7 +44,7 @@ fn conclude(memory: &mut [u8], k: Packed, raised: u64, length: u16) -> Turned
         code_attention::write_status(memory, k);
         return Turned {
             kept: k,
-            told: length as u32 + EDGE,
+            told: length as u32 + TOLD_EDGE,
             stops: true,
         };
     }

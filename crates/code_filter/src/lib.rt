@@ -14,17 +14,20 @@ const ADDRESS: usize = 6;
 
 const LISTED: usize = 16;
 
+// The broadcast address is all FFh.
+const ONES: u8 = 0xFF;
+
 // Whether the destination of a frame is all FFh.
 fn is_broadcast(frame: &[u8]) -> bool
     requires { ⌜ 14 ≤ length (now frame) ⌝ }
     ensures { λ r. ⌜ r ≡ match.allOnes (now (frame .entry)) ⌝ }
 {
-    (255 == frame[0])
-        & (255 == frame[1])
-        & (255 == frame[2])
-        & (255 == frame[3])
-        & (255 == frame[4])
-        & (255 == frame[5])
+    (ONES == frame[0])
+        & (ONES == frame[1])
+        & (ONES == frame[2])
+        & (ONES == frame[3])
+        & (ONES == frame[4])
+        & (ONES == frame[5])
 }
 
 // Whether it is the own address. The six bytes are compared without a branch between them.

@@ -18,7 +18,9 @@ fn judge(
     bytes: &[u8],
     out: &mut [u8],
 ) -> Session
-    ensures { λ r. ⌜ Runs (run.judged s reader (now (memory .entry)) (now (holding .entry)) (now (outgoing .entry)) (now (bytes .entry)) (now (out .entry))) r (now (memory .exit)) (now (holding .exit)) (now (outgoing .exit)) (now (bytes .entry)) (now (out .exit)) ⌝ }
+    ensures { λ r. ⌜ Runs (run.judged s reader
+        (now (memory .entry)) (now (holding .entry)) (now (outgoing .entry)) (now (bytes .entry)) (now (out .entry)))
+        r (now (memory .exit)) (now (holding .exit)) (now (outgoing .exit)) (now (bytes .entry)) (now (out .exit)) ⌝ }
 {
     if lines::is_right(reader) {
         let line = reader.line;
@@ -50,7 +52,9 @@ fn feed(
     c: u8,
     out: &mut [u8],
 ) -> Session
-    ensures { λ r. ⌜ Runs (run.fed (run.stateOf s (now (memory .entry)) (now (holding .entry)) (now (outgoing .entry)) (now (bytes .entry)) (now (out .entry))) c) r (now (memory .exit)) (now (holding .exit)) (now (outgoing .exit)) (now (bytes .exit)) (now (out .exit)) ⌝ }
+    ensures { λ r. ⌜ Runs (run.fed (run.stateOf s
+        (now (memory .entry)) (now (holding .entry)) (now (outgoing .entry)) (now (bytes .entry)) (now (out .entry))) c)
+        r (now (memory .exit)) (now (holding .exit)) (now (outgoing .exit)) (now (bytes .exit)) (now (out .exit)) ⌝ }
 {
     let reader = session::read_on(s, bytes, c);
     if session::ends_line(s, c) {
@@ -69,7 +73,9 @@ fn run(
     input: &[u8],
     out: &mut [u8],
 ) -> Session
-    ensures { λ r. ⌜ Runs (run.ran (run.stateOf s (now (memory .entry)) (now (holding .entry)) (now (outgoing .entry)) (now (bytes .entry)) (now (out .entry))) (now (input .entry))) r (now (memory .exit)) (now (holding .exit)) (now (outgoing .exit)) (now (bytes .exit)) (now (out .exit)) ⌝ }
+    ensures { λ r. ⌜ Runs (run.ran (run.stateOf s
+        (now (memory .entry)) (now (holding .entry)) (now (outgoing .entry)) (now (bytes .entry)) (now (out .entry))) (now (input .entry)))
+        r (now (memory .exit)) (now (holding .exit)) (now (outgoing .exit)) (now (bytes .exit)) (now (out .exit)) ⌝ }
 {
     let mut t = s;
     let mut i: usize = 0;
@@ -92,7 +98,9 @@ pub fn run_stretch(
     out: &mut [u8],
 ) -> Session
     requires { ⌜ newlines (now input) ≤ 1 ⌝ }
-    ensures { λ r. ⌜ Runs (run.ran (emptiedIn (run.stateOf s (now (memory .entry)) (now (holding .entry)) (now (outgoing .entry)) (now (bytes .entry)) (now (out .entry)))) (now (input .entry))) r (now (memory .exit)) (now (holding .exit)) (now (outgoing .exit)) (now (bytes .exit)) (now (out .exit)) ⌝ }
+    ensures { λ r. ⌜ Runs (run.ran (emptiedIn (run.stateOf s
+        (now (memory .entry)) (now (holding .entry)) (now (outgoing .entry)) (now (bytes .entry)) (now (out .entry)))) (now (input .entry)))
+        r (now (memory .exit)) (now (holding .exit)) (now (outgoing .exit)) (now (bytes .exit)) (now (out .exit)) ⌝ }
 {
     run(
         session::emptied(s),
