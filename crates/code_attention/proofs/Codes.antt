@@ -18,14 +18,14 @@ use Rattle.device.specs.declared.Ru.{Ru}
 use Rattle.device.specs.declared.Ru.the-variants as ru
 use Rattle.device.specs.declared.Units.{Units}
 use Rattle.phases.specs.Phases.{cuTag, ruTag}
-use Rattle.packed.specs.Packed.{CuIs, RuIs, PackedIs}
+use Rattle.packed.specs.Packed.{CuIs, RuIs, PackedIs, bothWith}
 use Rattle.packed.specs.declared.Packed.{Packed}
 use Rattle.control.specs.Obey.{obeyCuc, obeyRuc}
 use Rattle.attention.specs.Attention.{leaving}
 use Rattle.code_control.specs.Obeys.{CuObeys, RuObeys}
 use Rattle.code_control.specs.declared.CuObeyed.{CuObeyed}
 use Rattle.code_control.specs.declared.RuObeyed.{RuObeyed}
-use Rattle.code_attention.specs.Attends.{leftActive, leftReady, bothWith, codes, Obeys}
+use Rattle.code_attention.specs.Attends.{leftActive, leftReady, codes, Obeys}
 
 -- ---- codes of 0
 
@@ -118,6 +118,6 @@ codes-are u command m m1 m2 c r x oc or f =
     let after = apply (obeyCuc u command m .writes) m in
     let o : RuObeys (obeyRuc u command after) after r m2 = subst (λ (z : List ℕ). RuObeys (obeyRuc u command z) z r m2) (oc .memory) or in
     record {
-      kept = f (obeyCuc u command m .unit) (obeyRuc u command after .unit) (oc .unit) (o .unit);
+      packed = f (obeyCuc u command m .unit) (obeyRuc u command after .unit) (oc .unit) (o .unit);
       memory = o .memory ∙ sym (apply-append (obeyCuc u command m .writes) (obeyRuc u command after .writes) m);
     }

@@ -29,20 +29,20 @@ module _ (d : Device) (m : List ℕ) where
   obeys-all command m1 m2 k o e =
       let ws = codes (d .units) command m .writes in
       let after = statusTo (codes (d .units) command m .units) ∷ commandTo (codes (d .units) command m .units) ∷ [] in
-      record { kept = o .kept; memory = e ∙ ap (λ (z : List ℕ). apply after z) (o .memory) ∙ sym (apply-append ws after m) }
+      record { packed = o .packed; memory = e ∙ ap (λ (z : List ℕ). apply after z) (o .memory) ∙ sym (apply-append ws after m) }
 
   pub attends-reset : (m1 set : List ℕ) (k : Packed) → resets (wordAt m (ofScb (d .units) 2)) ≡ true → PackedIs freshUnits k
-      → m1 ≡ apply (commandTo (d .units) ∷ []) m → SetIs (setupOf fresh) set → Attends (attend d m) m (record { kept = k; edge = false }) m1 set
+      → m1 ≡ apply (commandTo (d .units) ∷ []) m → SetIs (setupOf fresh) set → Attends (attend d m) m (record { packed = k; edge = false }) m1 set
   unfolding attend attendBy
-  attends-reset m1 set k e h w s = rw e (record { kept = h; edge = refl; memory = w; setup = s })
+  attends-reset m1 set k e h w s = rw e (record { packed = h; edge = refl; memory = w; setup = s })
 
   pub attends-obeyed : (command : ℕ) (m1 set : List ℕ) (k : Packed) → command ≡ wordAt m (ofScb (d .units) 2) → resets command ≡ false
-      → Leaves (attendBy false d command m) m k m1 → SetIs (setupOf d) set → Attends (attend d m) m (record { kept = k; edge = not (eqb (marksIn k / 16) 0) }) m1 set
+      → Leaves (attendBy false d command m) m k m1 → SetIs (setupOf d) set → Attends (attend d m) m (record { packed = k; edge = not (eqb (marksIn k / 16) 0) }) m1 set
   unfolding attend attendBy
   attends-obeyed command m1 set k c e l s =
       let u = attendBy false d command m .outcome .device .units in
-      let edge : not (eqb (marksIn k / 16) 0) ≡ anyOf (u .events) = rw (events-is u k (l .kept)) (sym (any-bits (u .events))) in
-      rw (← c, e) (record { kept = l .kept; edge = edge; memory = l .memory; setup = s })
+      let edge : not (eqb (marksIn k / 16) 0) ≡ anyOf (u .events) = rw (events-is u k (l .packed)) (sym (any-bits (u .events))) in
+      rw (← c, e) (record { packed = l .packed; edge = edge; memory = l .memory; setup = s })
 
   pub attention-later : d .units .initialised ≡ true → attention d m ≡ attend d m
   unfolding attention
@@ -53,9 +53,9 @@ module _ (d : Device) (m : List ℕ) where
   attention-first e = ap (λ (b : Bool). attentionBy b d m) e
 
   pub attends-first : (m1 set : List ℕ) (k : Packed) → d .units .initialised ≡ false → Leaves (initialise d m) m k m1 → SetIs (setupOf d) set
-      → Attends (attention d m) m (record { kept = k; edge = true }) m1 set
+      → Attends (attention d m) m (record { packed = k; edge = true }) m1 set
   unfolding initialise
   attends-first m1 set k e l s =
-      let a : Attends (initialise d m) m (record { kept = k; edge = true }) m1 set =
-      record { kept = l .kept; edge = refl; memory = l .memory; setup = s } in
+      let a : Attends (initialise d m) m (record { packed = k; edge = true }) m1 set =
+      record { packed = l .packed; edge = refl; memory = l .memory; setup = s } in
       rw (attention-first e) a

@@ -1,33 +1,24 @@
--- Numbers of states: the status word, an initialisation, a reset, and the setup after it. Assumes nothing.
+-- Numbers of states: the status word, the events of an initialisation, a reset, and the setup after it. Assumes nothing.
 use mathlib.Core.Path.{_≡_, refl, ap, _∙_}
-use mathlib.Core.Bool.{true}
 use mathlib.Core.List.{List, [], _∷_, _++_, append-nil}
-use Prim.Native.Nat.{ℕ, _+_, _*_, _-_, _/_, _%_, _<_, _≤_}
+use Prim.Native.Nat.{ℕ, _+_, _*_, _%_, _<_, _≤_}
 use native.Mathlib.Nat.{zero-add}
 use native.Mathlib.Omega.{arith}
-use lib.Bits.{bitAnd, bitOr}
+use lib.Bits.{bitOr}
 use lib.ListN.{length, take, drop, length-append}
 use lib.Seq.{sets, sets-eq, drop-length}
-use Rattle.memory.specs.declared.Offset.{Offset}
-use Rattle.memory.specs.declared.RealAddress.{RealAddress}
-use Rattle.scb.specs.Words.{one, joined, eventBits, acknowledged, ruNumber}
+use Rattle.scb.specs.Words.{joined, eventBits, ruNumber}
 use Rattle.scb.proofs.Fields.{join-law}
-use Rattle.device.specs.Change.{withEvents, initialisedAt}
 use Rattle.device.specs.State.{ruState, freshUnits, fresh}
 use Rattle.device.specs.declared.Ru.{Ru}
 use Rattle.device.specs.declared.Ru.the-variants as ru
-use Rattle.device.specs.declared.Units.{Units}
 use Rattle.actions.specs.Setup.{Setup, setupOf}
-use Rattle.phases.specs.Phases.{numberOf, cuTag, cuWord, ruTag, ruWord, ruRest}
-use Rattle.phases.proofs.Units.{one-below}
-use Rattle.packed.specs.Packed.{marksBy, marksIn, statusBy, packedOf, PackedIs}
+use Rattle.phases.specs.Phases.{numberOf, cuWord, ruTag, ruWord, ruRest}
+use Rattle.packed.specs.Packed.{packedOf, PackedIs}
 use Rattle.packed.specs.SetUp.{setupBytes, SetIs}
-use Rattle.packed.specs.declared.Packed.{Packed}
-use Rattle.packed.proofs.Laws.{marks-is, events-is}
 use Rattle.attention.specs.Attention.{initialEvents}
 use Rattle.code_control.proofs.CuCodes.{cu-idle-is}
 use Rattle.code_control.proofs.RuCodes.{ru-idle-is}
-use Rattle.code_attention.proofs.Cleared.{cleared}
 
 -- ---- RUS of a tag
 
@@ -63,67 +54,11 @@ status-joined events cus rus a b c =
     join-law (joined (joined 0 4 rus) 8 cus) 12 events (omega arith) (omega arith) in
     cc
 
--- ---- a state put together from numbers
+-- ---- the units after reset, and the events of an initialisation
 
--- the events stand lowest in a status
-without : (x y z a b c d f : ℕ) → z + y ≡ x → 16 * x + a + b + c + d + f - 16 * z ≡ 16 * y + a + b + c + d + f
-without x y z a b c d f e = omega arith
-
-module _ (u : Units) (k : Packed) (h : PackedIs u k) where
-  -- the marks below the events
-  pub low-marks : marksIn k % 4 ≡ one (u .initialised) + 2 * one (u .rulast)
-  low-marks = rw (marks-is u k h) (omega (arith, one-below (u .initialised), one-below (u .rulast)))
-
-  rulast-bit : marksIn k / 2 % 2 ≡ one (u .rulast)
-  rulast-bit = omega (arith, low-marks, one-below (u .initialised), one-below (u .rulast))
-
-  pub acknowledges : (command : ℕ) → command < 65536
-      → PackedIs (withEvents u (acknowledged (u .events) command))
-      (record { status = k .status - 16 * bitAnd (marksIn k / 16) (command / 4096); cu = k .cu; ru = k .ru; rest = k .rest })
-  unfolding packedOf
-  acknowledges command l =
-      let e = acknowledged (u .events) command in
-      let s : k .status ≡ statusBy (u .scb .0) (marksBy (u .initialised) (u .rulast) (u .events)) (cuTag (u .cu)) (ruTag (u .ru)) (u .base .0) =
-      ap (λ (x : Packed). x .status) (h .same) in
-      let t : k .status - 16 * bitAnd (eventBits (u .events)) (command / 4096)
-      ≡ statusBy (u .scb .0) (marksBy (u .initialised) (u .rulast) e) (cuTag (u .cu)) (ruTag (u .ru)) (u .base .0) =
-      let q : marksBy (u .initialised) (u .rulast) (u .events) / 16 ≡ eventBits (u .events) = omega (arith, one-below (u .initialised), one-below (u .rulast)) in
-      let q' : marksBy (u .initialised) (u .rulast) e / 16 ≡ eventBits e = omega (arith, one-below (u .initialised), one-below (u .rulast)) in
-      let r : marksBy (u .initialised) (u .rulast) (u .events) % 4 ≡ one (u .initialised) + 2 * one (u .rulast) = omega (arith, one-below (u .initialised), one-below (u .rulast)) in
-      let r' : marksBy (u .initialised) (u .rulast) e % 4 ≡ one (u .initialised) + 2 * one (u .rulast) = omega (arith, one-below (u .initialised), one-below (u .rulast)) in
-      rw (s, q, q', r, r') (without (eventBits (u .events)) (eventBits e) (bitAnd (eventBits (u .events)) (command / 4096)) _ _ _ _ _ (cleared (u .events) command l)) in
-      record {
-        same =
-            rw (events-is u k h, t, ap (λ (x : Packed). x .cu) (h .same), ap (λ (x : Packed). x .ru) (h .same), ap (λ (x : Packed). x .rest) (h .same));
-        wide =
-            record {
-              scb-wide = h .wide .scb-wide;
-              base-wide = h .wide .base-wide;
-              cu-wide = h .wide .cu-wide;
-              ru-wide = h .wide .ru-wide;
-              filling-wide = h .wide .filling-wide;
-            };
-      }
-
-  pub initialises : (base : RealAddress) (scb : Offset) → base .0 < 16777216 → scb .0 < 65536
-      → PackedIs (initialisedAt u base scb initialEvents)
-      (record { status = statusBy (scb .0 % 65536) ((marksIn k / 2 % 2 * 2 + 161) % 256) 0 0 (base .0 % 16777216); cu = 0; ru = 0; rest = 0 })
-  unfolding packedOf numberOf cuWord ruWord ruRest eventBits joined
-  initialises base scb b s =
-      let p : scb .0 % 65536 ≡ scb .0 = omega arith in
-      let q : base .0 % 16777216 ≡ base .0 = omega arith in
-      let f : (marksIn k / 2 % 2 * 2 + 161) % 256 ≡ marksBy true (u .rulast) initialEvents = omega (arith, rulast-bit, one-below (u .rulast)) in
-      record {
-        same = rw (p, q, f);
-        wide =
-            record {
-              scb-wide = s;
-              base-wide = b;
-              cu-wide = cu-idle-is .wide;
-              ru-wide = ru-idle-is .wide;
-              filling-wide = tt;
-            };
-      }
+pub initial-bits : 10 ≡ eventBits initialEvents
+unfolding eventBits joined
+initial-bits = refl
 
 pub fresh-is : PackedIs freshUnits (record { status = 0; cu = 0; ru = 0; rest = 0 })
 unfolding packedOf numberOf cuWord ruWord ruRest eventBits joined

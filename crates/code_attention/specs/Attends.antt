@@ -4,15 +4,14 @@ use mathlib.Core.Bool.{Bool, not, _&&_}
 use mathlib.Core.List.{List, _++_}
 use Prim.Native.Nat.{ℕ}
 use Rattle.memory.specs.Memory.{Write, wordTo, apply}
-use Rattle.scb.specs.Words.{scbCommandAt, acknowledged, raise}
-use Rattle.scb.specs.declared.Events.{Events}
-use Rattle.device.specs.Change.{withCu, withRu, withEvents}
+use Rattle.scb.specs.Words.{scbCommandAt, acknowledged}
+use Rattle.device.specs.Change.{withEvents}
 use Rattle.device.specs.State.{cuState, ruState, isActive, isReady}
 use Rattle.device.specs.declared.Cu.{Cu}
 use Rattle.device.specs.declared.Ru.{Ru}
 use Rattle.device.specs.declared.Units.{Units}
 use Rattle.actions.specs.Setup.{setupOf}
-use Rattle.packed.specs.Packed.{PackedIs}
+use Rattle.packed.specs.Packed.{PackedIs, bothWith}
 use Rattle.packed.specs.SetUp.{SetIs}
 use Rattle.packed.specs.declared.Packed.{Packed}
 use Rattle.control.specs.Obey.{ofScb, obeyCuc, obeyRuc}
@@ -26,10 +25,6 @@ leftActive b a = isActive (cuState b) && not (isActive (cuState a))
 
 abbrev pub leftReady : (before after : Ru) → Bool
 leftReady b a = isReady (ruState b) && not (isReady (ruState a))
-
--- both units as said, and events came up
-abbrev pub bothWith : Units → Cu → Ru → Events → Units
-bothWith u c v by = withEvents (withRu (withCu u c) v) (raise (u .events) by)
 
 -- write command 0
 abbrev pub commandTo : Units → Write
@@ -52,17 +47,17 @@ codes u command m =
 
 -- numbers and a memory are those of units after the codes
 pub record Obeys (said : Codes) (before : List ℕ) (r : Packed) (m : List ℕ) : Type 0 where
-  pub kept : PackedIs (said .units) r
+  pub packed : PackedIs (said .units) r
   pub memory : m ≡ apply (said .writes) before
 
 -- numbers and a memory are those of a device after an attention
 pub record Leaves (said : attentions.Attended) (before : List ℕ) (r : Packed) (m : List ℕ) : Type 0 where
-  pub kept : PackedIs (said .outcome .device .units) r
+  pub packed : PackedIs (said .outcome .device .units) r
   pub memory : m ≡ apply (said .writes) before
 
 -- and its edge and setup are those of the attention too
 pub record Attends (said : attentions.Attended) (before : List ℕ) (r : Attended) (m set : List ℕ) : Type 0 where
-  pub kept : PackedIs (said .outcome .device .units) (r .kept)
+  pub packed : PackedIs (said .outcome .device .units) (r .packed)
   pub edge : r .edge ≡ said .outcome .answer .edge
   pub memory : m ≡ apply (said .writes) before
   pub setup : SetIs (setupOf (said .outcome .device)) set

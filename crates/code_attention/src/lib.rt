@@ -1,7 +1,5 @@
 // A channel attention over the units' numbers: the first after reset initialises, every other obeys the command word of the SCB.
 // It takes every memory and all numbers; specs/ says what comes of numbers that are a device's, in the words of the room attention.
-use code_control::CuObeyed;
-use code_control::RuObeyed;
 use memory::Offset;
 use memory::RealAddress;
 use packed::Packed;
@@ -16,7 +14,6 @@ ghost use lib.ListN.{length};
 ghost use Rattle.memory.specs.Address as addresses;
 ghost use Rattle.memory.specs.Memory as bytes;
 ghost use Rattle.scb.specs.Words as words;
-ghost use Rattle.scb.specs.declared.Events.{Events};
 ghost use Rattle.device.specs.Change as change;
 ghost use Rattle.device.specs.State as states;
 ghost use Rattle.device.specs.declared.Cu.{Cu};
@@ -26,7 +23,7 @@ ghost use Rattle.device.specs.declared.Units.{Units};
 ghost use Rattle.actions.specs.Setup.{setupOf};
 ghost use Rattle.phases.specs.Fields.{odd};
 ghost use Rattle.phases.specs.Phases.{cuTag, ruTag};
-ghost use Rattle.packed.specs.Packed as kept;
+ghost use Rattle.packed.specs.Packed as packs;
 ghost use Rattle.packed.specs.SetUp as setups;
 ghost use Rattle.control.specs.Obey as obeys;
 ghost use Rattle.attention.specs.Attention as attentions;
@@ -67,8 +64,8 @@ const CNA: u64 = 2;
 
 const RNR: u64 = 1;
 
-// The marks of an initialisation: initialised, CX and CNA.
-const INITIALISED: u64 = packed::INITIALISED + packed::EVENTS * (CX + CNA);
+// Those of an initialisation.
+const INITIAL_EVENTS: u64 = CX + CNA;
 
 // The setup after reset: the minimum length, and each byte of the own address.
 const MINIMUM: u8 = 64;
@@ -97,7 +94,7 @@ fn status_word(events: u16, cus: u16, rus: u16) -> u16
 
 // The SCB's status is written.
 pub fn write_status(memory: &mut [u8], k: Packed)
-    ensures { λ _. ⌜ ((u : Units) → kept.PackedIs u k → now (memory .exit) ≡ bytes.apply (statuses.statusTo u ∷ []) (now (memory .entry))) ⌝ }
+    ensures { λ _. ⌜ ((u : Units) → packs.PackedIs u k → now (memory .exit) ≡ bytes.apply (statuses.statusTo u ∷ []) (now (memory .entry))) ⌝ }
 {
     let cus = code_control::cu_number(packed::cu_tag(k)) as u16;
     let rus = ru_number(packed::ru_tag(k));
@@ -134,44 +131,25 @@ fn base_of(memory: &[u8], iscp: RealAddress) -> RealAddress
     memory::real_at(memory, memory::beyond(iscp, SCB_BASE))
 }
 
-// Initialised, with the events CX and CNA and both units Idle; which unit was served last stays.
-fn initialised_at(k: Packed, base: RealAddress, scb: Offset) -> Packed
-    ensures { λ r. ⌜ ((u : Units) → base .0 < 16777216 → kept.PackedIs u k → kept.PackedIs (change.initialisedAt u base scb attentions.initialEvents) r) ⌝ }
-{
-    let marks = packed::marks(k) / packed::RU_LAST % 2 * packed::RU_LAST + INITIALISED;
-    Packed {
-        status: packed::status_of(scb.0 as u64, marks, cu::IDLE, ru::IDLE, base.0 as u64),
-        cu: 0,
-        ru: 0,
-        rest: 0,
-    }
-}
-
 // The first attention after reset. The command word is not obeyed.
 fn initialise(memory: &mut [u8], k: Packed) -> Packed
-    ensures { λ r. ⌜ ((d : Device) → kept.PackedIs (d .units) k
+    ensures { λ r. ⌜ ((d : Device) → packs.PackedIs (d .units) k
         → attends.Leaves (attentions.initialise d (now (memory .entry))) (now (memory .entry)) r (now (memory .exit))) ⌝ }
 {
     let iscp = iscp_of(memory);
     let base = base_of(memory, iscp);
     let scb = memory::offset_at(memory, memory::beyond(iscp, SCB_OFFSET));
     initial_writes(memory, iscp, base, scb);
-    initialised_at(k, base, scb)
+    packed::initialised_at(k, base, scb, INITIAL_EVENTS)
 }
 
 // ---- the control codes
 
 // The acknowledged events are cleared: bits 15 to 12 of the command stand for them in their order.
 fn acknowledge(k: Packed, command: u16) -> Packed
-    ensures { λ r. ⌜ ((u : Units) → kept.PackedIs u k → kept.PackedIs (change.withEvents u (words.acknowledged (u .events) command)) r) ⌝ }
+    ensures { λ r. ⌜ ((u : Units) → packs.PackedIs u k → packs.PackedIs (change.withEvents u (words.acknowledged (u .events) command)) r) ⌝ }
 {
-    let cleared = packed::events(k) & (command >> ACKNOWLEDGED) as u64;
-    Packed {
-        status: k.status - packed::EVENTS * cleared,
-        cu: k.cu,
-        ru: k.ru,
-        rest: k.rest,
-    }
+    packed::without_events(k, (command >> ACKNOWLEDGED) as u64)
 }
 
 // CNA if the command unit left Active.
@@ -200,31 +178,9 @@ fn left_ready(before: u64, after: u64) -> u64
     0
 }
 
-// Both units are what their tags and words say, and events came up.
-fn after_codes(k: Packed, c: CuObeyed, r: RuObeyed, raised: u64) -> Packed
-    requires { ⌜ raised < 16 ⌝ }
-    ensures { λ x. ⌜ ((u : Units) (a : Cu) (v : Ru) (by : Events) → kept.PackedIs u k → kept.CuIs a (c .tag) (c .word) → kept.RuIs v (r .tag) (r .word) (r .rest)
-        → raised ≡ words.eventBits by → kept.PackedIs (attends.bothWith u a v by) x) ⌝ }
-{
-    let marks = packed::marks(k) % packed::MARK_SETS
-        + packed::EVENTS * packed::raise(packed::events(k), raised);
-    Packed {
-        status: packed::status_of(
-            k.status / packed::SCB,
-            marks,
-            c.tag,
-            r.tag,
-            k.status / packed::BASE,
-        ),
-        cu: c.word,
-        ru: r.word,
-        rest: r.rest,
-    }
-}
-
 // Acknowledge, CUC, RUC.
 fn obey_codes(memory: &mut [u8], k: Packed, command: u16) -> Packed
-    ensures { λ r. ⌜ ((u : Units) → kept.PackedIs u k → attends.Obeys (attends.codes u command (now (memory .entry))) (now (memory .entry)) r (now (memory .exit))) ⌝ }
+    ensures { λ r. ⌜ ((u : Units) → packs.PackedIs u k → attends.Obeys (attends.codes u command (now (memory .entry))) (now (memory .entry)) r (now (memory .exit))) ⌝ }
 {
     let base = packed::base(k);
     let scb = packed::scb(k);
@@ -233,12 +189,13 @@ fn obey_codes(memory: &mut [u8], k: Packed, command: u16) -> Packed
     let c = code_control::obey_cuc(memory, base, scb, cu, k.cu, command);
     let r = code_control::obey_ruc(memory, base, scb, ru, k.ru, k.rest, command);
     let raised = left_active(cu, c.tag) + left_ready(ru, r.tag);
-    after_codes(acknowledge(k, command), c, r, raised)
+    let acknowledged = acknowledge(k, command);
+    packed::after_codes(acknowledged, c.tag, c.word, r.tag, r.word, r.rest, raised)
 }
 
 // The units after a command. Where both codes are 0, as in most commands, a unit stays as it is.
 fn obeyed(memory: &mut [u8], k: Packed, command: u16) -> Packed
-    ensures { λ r. ⌜ ((u : Units) → kept.PackedIs u k → attends.Obeys (attends.codes u command (now (memory .entry))) (now (memory .entry)) r (now (memory .exit))) ⌝ }
+    ensures { λ r. ⌜ ((u : Units) → packs.PackedIs u k → attends.Obeys (attends.codes u command (now (memory .entry))) (now (memory .entry)) r (now (memory .exit))) ⌝ }
 {
     if command & CODES == 0 {
         return acknowledge(k, command);
@@ -250,7 +207,7 @@ fn obeyed(memory: &mut [u8], k: Packed, command: u16) -> Packed
 
 // Command 0 is written.
 fn clear_command(memory: &mut [u8], k: Packed)
-    ensures { λ _. ⌜ ((u : Units) → kept.PackedIs u k → now (memory .exit) ≡ bytes.apply (attends.commandTo u ∷ []) (now (memory .entry))) ⌝ }
+    ensures { λ _. ⌜ ((u : Units) → packs.PackedIs u k → now (memory .exit) ≡ bytes.apply (attends.commandTo u ∷ []) (now (memory .entry))) ⌝ }
 {
     memory::put_word(
         memory,
@@ -261,7 +218,7 @@ fn clear_command(memory: &mut [u8], k: Packed)
 
 // Acknowledge, CUC, RUC, status, command.
 fn obey(memory: &mut [u8], k: Packed, command: u16) -> Packed
-    ensures { λ r. ⌜ ((d : Device) → kept.PackedIs (d .units) k
+    ensures { λ r. ⌜ ((d : Device) → packs.PackedIs (d .units) k
         → attends.Leaves (attentions.attendBy false d command (now (memory .entry))) (now (memory .entry)) r (now (memory .exit))) ⌝ }
 {
     let after = obeyed(memory, k, command);
@@ -272,7 +229,7 @@ fn obey(memory: &mut [u8], k: Packed, command: u16) -> Packed
 
 // The command word of the SCB.
 fn command_of(memory: &[u8], k: Packed) -> u16
-    ensures { λ r. ⌜ ((u : Units) → kept.PackedIs u k → r ≡ bytes.wordAt (now (memory .entry)) (obeys.ofScb u 2)) ⌝ }
+    ensures { λ r. ⌜ ((u : Units) → packs.PackedIs u k → r ≡ bytes.wordAt (now (memory .entry)) (obeys.ofScb u 2)) ⌝ }
 {
     memory::word_at(
         memory,
@@ -282,7 +239,7 @@ fn command_of(memory: &[u8], k: Packed) -> u16
 
 // The units after reset.
 fn fresh() -> Packed
-    ensures { λ r. ⌜ kept.PackedIs states.freshUnits r ⌝ }
+    ensures { λ r. ⌜ packs.PackedIs states.freshUnits r ⌝ }
 {
     Packed {
         status: 0,
@@ -309,7 +266,7 @@ fn renew(setup: &mut [u8])
 
 // Whether the first attention was.
 fn initialised(k: Packed) -> bool
-    ensures { λ r. ⌜ r ≡ odd (kept.marksIn k) ⌝ }
+    ensures { λ r. ⌜ r ≡ odd (packs.marksIn k) ⌝ }
 {
     packed::initialised(k)
 }
@@ -318,13 +275,13 @@ fn initialised(k: Packed) -> bool
 
 // The units after an attention, and whether it reports an edge. It sends nothing.
 pub struct Attended {
-    pub kept: Packed,
+    pub packed: Packed,
     pub edge: bool,
 }
 
 // An attention to an initialised chip: the command word is read once.
 fn attend_initialised(memory: &mut [u8], setup: &mut [u8], k: Packed) -> Attended
-    ensures { λ r. ⌜ ((d : Device) → kept.PackedIs (d .units) k → setups.SetIs (setupOf d) (now (setup .entry))
+    ensures { λ r. ⌜ ((d : Device) → packs.PackedIs (d .units) k → setups.SetIs (setupOf d) (now (setup .entry))
         → attends.Attends (attentions.attend d (now (memory .entry))) (now (memory .entry)) r (now (memory .exit)) (now (setup .exit))) ⌝ }
 {
     let command = command_of(memory, k);
@@ -332,27 +289,27 @@ fn attend_initialised(memory: &mut [u8], setup: &mut [u8], k: Packed) -> Attende
         clear_command(memory, k);
         renew(setup);
         return Attended {
-            kept: fresh(),
+            packed: fresh(),
             edge: false,
         };
     }
     let after = obey(memory, k, command);
     Attended {
-        kept: after,
+        packed: after,
         edge: packed::events(after) != 0,
     }
 }
 
 // A channel attention: the first after reset initialises; every other is attended to.
 pub fn attend(memory: &mut [u8], setup: &mut [u8], k: Packed) -> Attended
-    ensures { λ r. ⌜ ((d : Device) → kept.PackedIs (d .units) k → setups.SetIs (setupOf d) (now (setup .entry))
+    ensures { λ r. ⌜ ((d : Device) → packs.PackedIs (d .units) k → setups.SetIs (setupOf d) (now (setup .entry))
         → attends.Attends (attentions.attention d (now (memory .entry))) (now (memory .entry)) r (now (memory .exit)) (now (setup .exit))) ⌝ }
 {
     if initialised(k) {
         return attend_initialised(memory, setup, k);
     }
     Attended {
-        kept: initialise(memory, k),
+        packed: initialise(memory, k),
         edge: true,
     }
 }

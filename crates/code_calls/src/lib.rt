@@ -98,7 +98,7 @@ fn attention_on(memory: &mut [u8], kept: &mut [u8], k: Packed) -> u64
     ensures { λ r. ⌜ ((u : Units) → inner.Finds (now (kept .entry)) k u → inner.AttendsOn u (now (memory .entry)) (now (kept .entry)) r (now (memory .exit)) (now (kept .exit))) ⌝ }
 {
     let a = code_attention::attend(memory, &mut kept[record::SETUP..record::SIZE], k);
-    let after = a.kept;
+    let after = a.packed;
     image::store(kept, after);
     answer_of(a.edge)
 }
@@ -162,7 +162,7 @@ fn turns_on(
         report,
         budget,
     );
-    let after = t.kept;
+    let after = t.packed;
     image::store(kept, after);
     answer_told(t.told, t.taken, unit)
 }

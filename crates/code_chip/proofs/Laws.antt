@@ -74,9 +74,9 @@ holding-tag (ru.Closing s o full) = refl
 holding-tag (ru.Lacking s) = refl
 
 -- the numbers have no settings in them
-pub kept-settings : (u : Units) (k : Packed) (s : Settings) → PackedIs u k → PackedIs (withSettings u s) k
+pub packed-settings : (u : Units) (k : Packed) (s : Settings) → PackedIs u k → PackedIs (withSettings u s) k
 unfolding packedOf
-kept-settings u k s h =
+packed-settings u k s h =
     record {
       same = h .same;
       wide =
@@ -117,16 +117,16 @@ quiet u by k n before r m f e = f .told ∙ tells-nothing n (anyOf by) (sym (f .
 
 module _ (u : Units) (by : Events) (k : Packed) (length raised : ℕ) (before m : List ℕ) (e : raised ≡ eventBits by) where
   pub concludes-raised : (raised ≡ 0 → ⊥) → m ≡ apply (statusTo u ∷ []) before
-      → Concludes u by k length before (record { kept = k; told = length + 65536; stops = true }) m
+      → Concludes u by k length before (record { packed = k; told = length + 65536; stops = true }) m
   concludes-raised n w =
       let a : anyOf by ≡ true = any-bits by ∙ rw (← e, ne-eqb raised 0 n) in
-      record { kept = refl; told = rw a; stops = rw (a, or-true (not (eqb length 0))); memory = rw a w }
+      record { packed = refl; told = rw a; stops = rw (a, or-true (not (eqb length 0))); memory = rw a w }
 
   pub concludes-quiet : raised ≡ 0 → m ≡ before
-      → Concludes u by k length before (record { kept = k; told = length; stops = not (eqb length 0) }) m
+      → Concludes u by k length before (record { packed = k; told = length; stops = not (eqb length 0) }) m
   concludes-quiet z w =
       let a : anyOf by ≡ false = any-bits by ∙ rw (← e, z) in
-      record { kept = refl; told = rw a (omega arith); stops = rw (a, or-false (not (eqb length 0))); memory = rw a w }
+      record { packed = refl; told = rw a (omega arith); stops = rw (a, or-false (not (eqb length 0))); memory = rw a w }
 
 -- ---- a service of each unit
 
@@ -139,14 +139,14 @@ module _ (d : Device) (m h out : List ℕ) (report : ℕ) where
   commandedUnits = raisedIn (commandUnits d served) (served .raised)
 
   pub commanded-is : (k : Packed) → PackedIs (cuServed (d .units) (served .part .unit) (served .raised)) k → PackedIs commandedUnits k
-  commanded-is k e = kept-settings (cuServed (d .units) (served .part .unit) (served .raised)) k (served .part .setup .settings) e
+  commanded-is k e = packed-settings (cuServed (d .units) (served .part .unit) (served .raised)) k (served .part .setup .settings) e
 
   pub command-tells : (k : Packed) (c : Commanded) (r : Turned) (m1 m2 out1 set1 : List ℕ) → command-serves.Serves served m c m1 out1 set1 → PackedIs commandedUnits k
       → Concludes commandedUnits (served .raised) k (c .length) m1 r m2 → Tells (commandTurn (worldOf d m h out) report) r m2 out1 set1
   unfolding commandTurn concluded
   command-tells k c r m1 m2 out1 set1 s e f =
       record {
-        device = record { units = rw (f .kept) e; setup = s .setup };
+        device = record { units = rw (f .packed) e; setup = s .setup };
         told = f .told ∙ ap (λ (n : ℕ). toldBy n (anyOf (served .raised))) (s .length);
         stops = f .stops ∙ ap (λ (n : ℕ). tells (answered n (anyOf (served .raised)))) (s .length);
         nothing = λ q. quiet _ _ _ _ _ _ _ f q;
@@ -168,7 +168,7 @@ module _ (d : Device) (m h out set : List ℕ) where
   unfolding receiveTurn concluded
   receive-tells k c r m1 m2 s e t f =
       record {
-        device = record { units = rw (f .kept) e; setup = t };
+        device = record { units = rw (f .packed) e; setup = t };
         told = f .told;
         stops = f .stops;
         nothing = λ q. quiet _ _ _ _ _ _ _ f q;
@@ -197,7 +197,7 @@ module _ (w : World) (report : ℕ) (r : Turned) (m out set : List ℕ) where
   by-receive false true c e f t = t
   by-receive false false c e f t = absurd (false≢true f)
 
-  by-neither : (a b c : Bool) → isCommand (servedBy a b c) ≡ false → b ≡ false → DeviceIs (w .device) (r .kept) set → r .told ≡ 0 → r .stops ≡ true
+  by-neither : (a b c : Bool) → isCommand (servedBy a b c) ≡ false → b ≡ false → DeviceIs (w .device) (r .packed) set → r .told ≡ 0 → r .stops ≡ true
       → m ≡ w .memory → out ≡ w .outgoing
       → Does (turnBy (servedBy a b c) w report) (stops (servedBy a b c) (turnBy (servedBy a b c) w report .outcome .answer)) r m out set
   unfolding stops
@@ -222,7 +222,7 @@ module _ (w : World) (report : ℕ) (r : Turned) (m out set : List ℕ) where
   unfolding turnOf commands
   turn-receive e f t = by-receive active holds (w .device .units .rulast) e f t
 
-  pub turn-neither : commands (w .device .units) ≡ false → holds ≡ false → DeviceIs (w .device) (r .kept) set → r .told ≡ 0
+  pub turn-neither : commands (w .device .units) ≡ false → holds ≡ false → DeviceIs (w .device) (r .packed) set → r .told ≡ 0
       → r .stops ≡ true → m ≡ w .memory → out ≡ w .outgoing → Does (turnOf w report) (stopsAt w report) r m out set
   unfolding turnOf commands
   turn-neither e f d l s x y = by-neither active holds (w .device .units .rulast) e f d l s x y

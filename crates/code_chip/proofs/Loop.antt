@@ -48,18 +48,18 @@ module _ (total : Run) (report budget taken told : ℕ) (k : Packed) (m h out se
     left : afterwards (turnOf world report) ≡ worldOf (turnOf world report .outcome .device) m1 h out1
     left = rw (s .memory, s .outgoing, holding-kept world report)
 
-    pub going-on : t .stops ≡ false → Going total report budget (taken + 1) (t .told) (t .kept) m1 h out1 set1
+    pub going-on : t .stops ≡ false → Going total report budget (taken + 1) (t .told) (t .packed) m1 h out1 set1
     going-on e =
         let n : budget - (taken + 1) ≡ budget - taken - 1 = omega arith in
         let z = from-goes taken (budget - taken) world report (omega arith) (sym (s .stops) ∙ e) in
         record { here = turnOf world report .outcome .device; nothing = s .nothing e; numbers = s .device; rest = rw (← left, n) (sym z ∙ g .rest) }
 
-    pub going-stops : t .stops ≡ true → Runs total (record { kept = t .kept; told = t .told; taken = taken + 1 }) m1 out1 set1
+    pub going-stops : t .stops ≡ true → Runs total (record { packed = t .packed; told = t .told; taken = taken + 1 }) m1 out1 set1
     going-stops e =
         let z = sym (from-stops taken (budget - taken) world report (omega arith) (sym (s .stops) ∙ e)) ∙ g .rest in
         rw (← z) (record { device = s .device; told = s .told; taken = refl; memory = s .memory; outgoing = s .outgoing })
 
-  pub going-none : taken ≤ budget → budget ≤ taken → Runs total (record { kept = k; told = told; taken = taken }) m out set
+  pub going-none : taken ≤ budget → budget ≤ taken → Runs total (record { packed = k; told = told; taken = taken }) m out set
   going-none a b =
       let n : budget - taken ≡ 0 = omega arith in
       let z = rw n at (g .rest) in

@@ -40,14 +40,14 @@ commands u = isCommand (servedOf u)
 
 -- the end of a working turn, after which the units are u: the status is written if an event was raised, which is whenever it is due
 pub record Concludes (u : Units) (by : Events) (k : Packed) (length : ℕ) (before : List ℕ) (r : Turned) (m : List ℕ) : Type 0 where
-  pub kept : r .kept ≡ k
+  pub packed : r .packed ≡ k
   pub told : r .told ≡ toldBy length (anyOf by)
   pub stops : r .stops ≡ tells (answered length (anyOf by))
   pub memory : m ≡ apply (statusBy (anyOf by) u) before
 
 -- a turn; `stopped` says whether it ends a run. One that does not has nothing to tell
 pub record Does (said : Ran) (stopped : Bool) (r : Turned) (m out set : List ℕ) : Type 0 where
-  pub device : DeviceIs (said .outcome .device) (r .kept) set
+  pub device : DeviceIs (said .outcome .device) (r .packed) set
   pub told : r .told ≡ toldOf (said .outcome .answer)
   pub stops : r .stops ≡ stopped
   pub nothing : r .stops ≡ false → r .told ≡ 0
@@ -72,7 +72,7 @@ TurnTakes k report m h out set r m1 out1 set1 =
 
 -- turns in a row
 pub record Runs (said : Run) (r : Turns) (m out set : List ℕ) : Type 0 where
-  pub device : DeviceIs (said .world .device) (r .kept) set
+  pub device : DeviceIs (said .world .device) (r .packed) set
   pub told : r .told ≡ toldOf (said .answer)
   pub taken : r .taken ≡ said .taken
   pub memory : m ≡ said .world .memory

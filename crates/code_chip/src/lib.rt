@@ -8,21 +8,21 @@ ghost use lib.ListN.{length};
 ghost use Rattle.scb.specs.Words as words;
 ghost use Rattle.scb.specs.declared.Events.{Events};
 ghost use Rattle.device.specs.declared.Units.{Units};
-ghost use Rattle.packed.specs.Packed as keeps;
+ghost use Rattle.packed.specs.Packed as packs;
 ghost use Rattle.packed.specs.SetUp.{setupSize};
 ghost use Rattle.code_chip.specs.Does as does;
 
 // What a turn comes to, besides the lent bytes; `told` is the length that it sent, with TOLD_EDGE above it if it reports an edge. A turn that sends a
 // frame, reports an edge or has no work ends a run.
 pub struct Turned {
-    pub kept: Packed,
+    pub packed: Packed,
     pub told: u32,
     pub stops: bool,
 }
 
 // What turns in a row come to: what the last one told, and how many were taken.
 pub struct Turns {
-    pub kept: Packed,
+    pub packed: Packed,
     pub told: u32,
     pub taken: u16,
 }
@@ -38,18 +38,18 @@ const HEADER: usize = 14;
 // The end of a working turn: the status is written if an event was raised. That is whenever it is due, since no unit changes its state at a turn
 // that raises none (`chip`, proofs/Status).
 fn conclude(memory: &mut [u8], k: Packed, raised: u64, length: u16) -> Turned
-    ensures { λ r. ⌜ ((u : Units) (by : Events) → keeps.PackedIs u k → raised ≡ words.eventBits by → does.Concludes u by k length (now (memory .entry)) r (now (memory .exit))) ⌝ }
+    ensures { λ r. ⌜ ((u : Units) (by : Events) → packs.PackedIs u k → raised ≡ words.eventBits by → does.Concludes u by k length (now (memory .entry)) r (now (memory .exit))) ⌝ }
 {
     if raised != 0 {
         code_attention::write_status(memory, k);
         return Turned {
-            kept: k,
+            packed: k,
             told: length as u32 + TOLD_EDGE,
             stops: true,
         };
     }
     Turned {
-        kept: k,
+        packed: k,
         told: length as u32,
         stops: length != 0,
     }
@@ -99,7 +99,7 @@ fn receive_turn(memory: &mut [u8], holding: &[u8], k: Packed) -> Turned
 
 // Whether the command unit is served: it has work while Active, and of two units with work the one not served at the last working turn is.
 fn commands(k: Packed) -> bool
-    ensures { λ r. ⌜ ((u : Units) → keeps.PackedIs u k → r ≡ does.commands u) ⌝ }
+    ensures { λ r. ⌜ ((u : Units) → packs.PackedIs u k → r ≡ does.commands u) ⌝ }
 {
     if packed::cu_tag(k) < cu::WAITING {
         return false;
@@ -130,7 +130,7 @@ pub fn turn(
         return receive_turn(memory, holding, k);
     }
     Turned {
-        kept: k,
+        packed: k,
         told: 0,
         stops: true,
     }
@@ -159,17 +159,17 @@ pub fn run(
         let t = turn(memory, holding, outgoing, setup, state, report);
         taken += 1;
         told = t.told;
-        state = t.kept;
+        state = t.packed;
         if t.stops {
             return Turns {
-                kept: state,
+                packed: state,
                 told: told,
                 taken: taken,
             };
         }
     }
     Turns {
-        kept: state,
+        packed: state,
         told: told,
         taken: taken,
     }

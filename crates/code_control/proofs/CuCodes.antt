@@ -4,7 +4,6 @@ use mathlib.Core.Bool.{Bool, true, false, cond}
 use mathlib.Core.List.{List, [], _∷_}
 use Prim.Native.Nat.{ℕ, _%_, _<_, _≤_}
 use native.Mathlib.Omega.{arith}
-use lib.Bits.{bitOr}
 use lib.Dec.{eqb, ltb}
 use Rattle.memory.specs.Address.{place, offsetAt}
 use Rattle.memory.specs.Memory.{Write, wordTo, apply}
@@ -18,13 +17,13 @@ use Rattle.device.specs.State.{cuState}
 use Rattle.device.specs.declared.Cu.{Cu}
 use Rattle.device.specs.declared.Cu.the-variants as cu
 use Rattle.device.specs.declared.Units.{Units}
-use Rattle.phases.specs.Phases.{numberOf, cuTag, cuWord}
-use Rattle.packed.specs.Packed.{CuIs}
+use Rattle.phases.specs.Phases.{numberOf, plain, cuTag, cuWord}
+use Rattle.packed.specs.Packed.{WordIs, CuIs, begunPausing}
 use Rattle.control.specs.Control.{cuStart, cuSuspend, cuBy, abortedCu, cuWrites}
 use Rattle.control.specs.Obey.{ofScb, obeyCuc}
 use Rattle.code_control.specs.Obeys.{ofWord, aborted, firstOf, CuObeys}
 use Rattle.code_control.specs.declared.CuObeyed.{CuObeyed}
-use Rattle.code_control.proofs.Flags.{at-is, fourth-set, plain-wide, offset-of, real-of, from}
+use Rattle.code_control.proofs.Flags.{at-is, plain-wide, offset-of, real-of, from}
 
 -- ---- the command unit: a law for each arm of the code
 
@@ -65,48 +64,28 @@ suspend-waiting (cu.Sending b w) tag n e h = absurd (omega arith)
 suspend-waiting (cu.Ending b k) tag n e h = absurd (omega arith)
 suspend-waiting (cu.Failing b) tag n e h = absurd (omega arith)
 
-pub suspend-begun : (c : Cu) (tag n : ℕ) → 2 < cuTag c → CuIs c tag n → CuIs (cuSuspend c) tag (bitOr n 524288)
+pub suspend-begun : (c : Cu) (tag n paused : ℕ) → 2 < cuTag c → CuIs c tag n → WordIs (begunPausing (cuWord c)) paused → CuIs (cuSuspend c) tag paused
 unfolding cuWord
-suspend-begun cu.Idle tag n l h = absurd (omega arith)
-suspend-begun (cu.Suspended o) tag n l h = absurd (omega arith)
-suspend-begun (cu.Waiting o) tag n l h = absurd (omega arith)
-suspend-begun (cu.Acting b a) tag n l h =
-    record {
-      tag-is = h .tag-is;
-      word-is = rw (h .word-is) (fourth-set _ _ _ _ _ _ _ _ _ _ (h .wide .at));
-      wide = record { at = h .wide .at; kind = h .wide .kind; size = h .wide .size; next = h .wide .next };
-    }
-suspend-begun (cu.Sending b w) tag n l h =
-    record {
-      tag-is = h .tag-is;
-      word-is = rw (h .word-is) (fourth-set _ _ _ _ _ _ _ _ _ _ (h .wide .at));
-      wide = record { at = h .wide .at; kind = h .wide .kind; size = h .wide .size; next = h .wide .next };
-    }
-suspend-begun (cu.Ending b k) tag n l h =
-    record {
-      tag-is = h .tag-is;
-      word-is = rw (h .word-is) (fourth-set _ _ _ _ _ _ _ _ _ _ (h .wide .at));
-      wide = record { at = h .wide .at; kind = h .wide .kind; size = h .wide .size; next = h .wide .next };
-    }
-suspend-begun (cu.Failing b) tag n l h =
-    record {
-      tag-is = h .tag-is;
-      word-is = rw (h .word-is) (fourth-set _ _ _ _ _ _ _ _ _ _ (h .wide .at));
-      wide = record { at = h .wide .at; kind = h .wide .kind; size = h .wide .size; next = h .wide .next };
-    }
+suspend-begun cu.Idle tag n paused l h i = absurd (omega arith)
+suspend-begun (cu.Suspended o) tag n paused l h i = absurd (omega arith)
+suspend-begun (cu.Waiting o) tag n paused l h i = absurd (omega arith)
+suspend-begun (cu.Acting b a) tag n paused l h i = record { tag-is = h .tag-is; word-is = i .number-is; wide = i .wide }
+suspend-begun (cu.Sending b w) tag n paused l h i = record { tag-is = h .tag-is; word-is = i .number-is; wide = i .wide }
+suspend-begun (cu.Ending b k) tag n paused l h i = record { tag-is = h .tag-is; word-is = i .number-is; wide = i .wide }
+suspend-begun (cu.Failing b) tag n paused l h i = record { tag-is = h .tag-is; word-is = i .number-is; wide = i .wide }
 
-waiting-is : (first : Offset) → first .0 < 65536 → CuIs (cu.Waiting first) 2 (first .0)
-unfolding numberOf cuWord
-waiting-is first h = record { tag-is = refl; word-is = omega arith; wide = plain-wide (first .0) h }
+waiting-is : (first : Offset) (n : ℕ) → WordIs (plain (first .0)) n → CuIs (cu.Waiting first) 2 n
+unfolding cuWord
+waiting-is first n i = record { tag-is = refl; word-is = i .number-is; wide = i .wide }
 
-pub active-from : (first : Offset) (c : Cu) → first .0 < 65536 → cuTag c < 2 → CuIs (cuStart first c) 2 (first .0)
-active-from first cu.Idle w h = waiting-is first w
-active-from first (cu.Suspended o) w h = waiting-is first w
-active-from first (cu.Waiting o) w h = absurd (omega arith)
-active-from first (cu.Acting b a) w h = absurd (omega arith)
-active-from first (cu.Sending b k) w h = absurd (omega arith)
-active-from first (cu.Ending b n) w h = absurd (omega arith)
-active-from first (cu.Failing b) w h = absurd (omega arith)
+pub active-from : (first : Offset) (n : ℕ) (c : Cu) → WordIs (plain (first .0)) n → cuTag c < 2 → CuIs (cuStart first c) 2 n
+active-from first n cu.Idle i h = waiting-is first n i
+active-from first n (cu.Suspended o) i h = waiting-is first n i
+active-from first n (cu.Waiting o) i h = absurd (omega arith)
+active-from first n (cu.Acting b a) i h = absurd (omega arith)
+active-from first n (cu.Sending b k) i h = absurd (omega arith)
+active-from first n (cu.Ending b k) i h = absurd (omega arith)
+active-from first n (cu.Failing b) i h = absurd (omega arith)
 
 pub active-stays : (first : Offset) (c : Cu) → 2 ≤ cuTag c → cuStart first c ≡ c
 active-stays first cu.Idle h = absurd (omega arith)

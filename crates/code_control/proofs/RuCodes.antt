@@ -4,7 +4,6 @@ use mathlib.Core.Bool.{Bool, true, false, cond}
 use mathlib.Core.List.{List, [], _∷_}
 use Prim.Native.Nat.{ℕ, _%_, _<_, _≤_}
 use native.Mathlib.Omega.{arith}
-use lib.Bits.{bitOr}
 use lib.Dec.{eqb, ltb}
 use Rattle.memory.specs.Address.{place, offsetAt}
 use Rattle.memory.specs.Memory.{Write, wordTo, apply}
@@ -19,13 +18,13 @@ use Rattle.device.specs.State.{ruState}
 use Rattle.device.specs.declared.Ru.{Ru}
 use Rattle.device.specs.declared.Ru.the-variants as ru
 use Rattle.device.specs.declared.Units.{Units}
-use Rattle.phases.specs.Phases.{numberOf, ruTag, ruWord, ruRest}
-use Rattle.packed.specs.Packed.{RuIs}
+use Rattle.phases.specs.Phases.{numberOf, plain, ruTag, ruWord, ruRest}
+use Rattle.packed.specs.Packed.{WordIs, RuIs, heldPausing}
 use Rattle.control.specs.Control.{ruStart, ruSuspend, ruBy, abortedRu, ruWrites}
 use Rattle.control.specs.Obey.{ofScb, obeyRuc}
 use Rattle.code_control.specs.Obeys.{ofWord, aborted, firstOf, RuObeys}
 use Rattle.code_control.specs.declared.RuObeyed.{RuObeyed}
-use Rattle.code_control.proofs.Flags.{at-is, first-set, plain-wide, offset-of, real-of, from}
+use Rattle.code_control.proofs.Flags.{at-is, plain-wide, offset-of, real-of, from}
 
 -- ---- the receive unit
 
@@ -70,58 +69,31 @@ suspend-ready (ru.Filling s w) tag n rest e h = absurd (omega arith)
 suspend-ready (ru.Closing s o full) tag n rest e h = absurd (omega arith)
 suspend-ready (ru.Lacking s) tag n rest e h = absurd (omega arith)
 
-pub suspend-held : (v : Ru) (tag n rest : ℕ) → 3 < ruTag v → RuIs v tag n rest → RuIs (ruSuspend v) tag (bitOr n 65536) rest
+pub suspend-held : (v : Ru) (tag n paused rest : ℕ) → 3 < ruTag v → RuIs v tag n rest → WordIs (heldPausing (ruWord v)) paused
+    → RuIs (ruSuspend v) tag paused rest
 unfolding ruWord ruRest
-suspend-held ru.Idle tag n rest l h = absurd (omega arith)
-suspend-held ru.NoResources tag n rest l h = absurd (omega arith)
-suspend-held (ru.Suspended o) tag n rest l h = absurd (omega arith)
-suspend-held (ru.Ready o) tag n rest l h = absurd (omega arith)
-suspend-held (ru.Held o f p) tag n rest l h =
-    record {
-      tag-is = h .tag-is;
-      word-is = rw (h .word-is) (first-set _ _ _ _ _ _ _ _ _ _ (h .wide .at));
-      rest-is = h .rest-is;
-      wide = record { at = h .wide .at; kind = h .wide .kind; size = h .wide .size; next = h .wide .next };
-      filling = tt;
-    }
-suspend-held (ru.Filling s w) tag n rest l h =
-    record {
-      tag-is = h .tag-is;
-      word-is = rw (h .word-is) (first-set _ _ _ _ _ _ _ _ _ _ (h .wide .at));
-      rest-is = h .rest-is;
-      wide = record { at = h .wide .at; kind = h .wide .kind; size = h .wide .size; next = h .wide .next };
-      filling = h .filling;
-    }
-suspend-held (ru.Closing s o full) tag n rest l h =
-    record {
-      tag-is = h .tag-is;
-      word-is = rw (h .word-is) (first-set _ _ _ _ _ _ _ _ _ _ (h .wide .at));
-      rest-is = h .rest-is;
-      wide = record { at = h .wide .at; kind = h .wide .kind; size = h .wide .size; next = h .wide .next };
-      filling = tt;
-    }
-suspend-held (ru.Lacking s) tag n rest l h =
-    record {
-      tag-is = h .tag-is;
-      word-is = rw (h .word-is) (first-set _ _ _ _ _ _ _ _ _ _ (h .wide .at));
-      rest-is = h .rest-is;
-      wide = record { at = h .wide .at; kind = h .wide .kind; size = h .wide .size; next = h .wide .next };
-      filling = tt;
-    }
+suspend-held ru.Idle tag n paused rest l h i = absurd (omega arith)
+suspend-held ru.NoResources tag n paused rest l h i = absurd (omega arith)
+suspend-held (ru.Suspended o) tag n paused rest l h i = absurd (omega arith)
+suspend-held (ru.Ready o) tag n paused rest l h i = absurd (omega arith)
+suspend-held (ru.Held o f p) tag n paused rest l h i = record { tag-is = h .tag-is; word-is = i .number-is; rest-is = h .rest-is; wide = i .wide; filling = tt }
+suspend-held (ru.Filling s w) tag n paused rest l h i = record { tag-is = h .tag-is; word-is = i .number-is; rest-is = h .rest-is; wide = i .wide; filling = h .filling }
+suspend-held (ru.Closing s o full) tag n paused rest l h i = record { tag-is = h .tag-is; word-is = i .number-is; rest-is = h .rest-is; wide = i .wide; filling = tt }
+suspend-held (ru.Lacking s) tag n paused rest l h i = record { tag-is = h .tag-is; word-is = i .number-is; rest-is = h .rest-is; wide = i .wide; filling = tt }
 
-ready-is : (first : Offset) → first .0 < 65536 → RuIs (ru.Ready first) 3 (first .0) 0
-unfolding numberOf ruWord ruRest
-ready-is first h = record { tag-is = refl; word-is = omega arith; rest-is = refl; wide = plain-wide (first .0) h; filling = tt }
+ready-is : (first : Offset) (n : ℕ) → WordIs (plain (first .0)) n → RuIs (ru.Ready first) 3 n 0
+unfolding ruWord ruRest
+ready-is first n i = record { tag-is = refl; word-is = i .number-is; rest-is = refl; wide = i .wide; filling = tt }
 
-pub ready-from : (first : Offset) (v : Ru) → first .0 < 65536 → ruTag v < 3 → RuIs (ruStart first v) 3 (first .0) 0
-ready-from first ru.Idle w h = ready-is first w
-ready-from first ru.NoResources w h = ready-is first w
-ready-from first (ru.Suspended o) w h = ready-is first w
-ready-from first (ru.Ready o) w h = absurd (omega arith)
-ready-from first (ru.Held o f p) w h = absurd (omega arith)
-ready-from first (ru.Filling s k) w h = absurd (omega arith)
-ready-from first (ru.Closing s o full) w h = absurd (omega arith)
-ready-from first (ru.Lacking s) w h = absurd (omega arith)
+pub ready-from : (first : Offset) (n : ℕ) (v : Ru) → WordIs (plain (first .0)) n → ruTag v < 3 → RuIs (ruStart first v) 3 n 0
+ready-from first n ru.Idle i h = ready-is first n i
+ready-from first n ru.NoResources i h = ready-is first n i
+ready-from first n (ru.Suspended o) i h = ready-is first n i
+ready-from first n (ru.Ready o) i h = absurd (omega arith)
+ready-from first n (ru.Held o f p) i h = absurd (omega arith)
+ready-from first n (ru.Filling s k) i h = absurd (omega arith)
+ready-from first n (ru.Closing s o full) i h = absurd (omega arith)
+ready-from first n (ru.Lacking s) i h = absurd (omega arith)
 
 pub ready-stays : (first : Offset) (v : Ru) → 3 ≤ ruTag v → ruStart first v ≡ v
 ready-stays first ru.Idle h = absurd (omega arith)

@@ -14,7 +14,7 @@ ghost use Rattle.device.specs.declared.Cu.{Cu};
 ghost use Rattle.device.specs.declared.Ru.{Ru};
 ghost use Rattle.device.specs.declared.Units.{Units};
 ghost use Rattle.phases.specs.Phases.{cuTag, ruTag};
-ghost use Rattle.packed.specs.Packed as kept;
+ghost use Rattle.packed.specs.Packed as packs;
 ghost use Rattle.control.specs.Control as control;
 ghost use Rattle.control.specs.Obey as obeys;
 ghost use Rattle.code_control.specs.Obeys.{CuObeys, RuObeys, aborted, firstOf};
@@ -34,11 +34,6 @@ const START: u16 = 1;
 const ABORTED_BLOCK: u16 = 0x9000;
 
 const ABORTED_DESCRIPTOR: u16 = 0;
-
-// The number of Active in CUS, and the column of Ready in the control table.
-const CUS_ACTIVE: u8 = 2;
-
-const READY_COLUMN: u8 = 3;
 
 // ---- what both units do
 
@@ -85,14 +80,14 @@ pub fn cu_number(tag: u64) -> u8
     ensures { λ r. ⌜ (r < 4) × ((c : Cu) → tag ≡ cuTag c → r ≡ words.cuNumber (states.cuState c)) ⌝ }
 {
     if cu::WAITING < tag {
-        return CUS_ACTIVE;
+        return scb::ACTIVE;
     }
     tag as u8
 }
 
 // SUSPEND: at the end of a begun command, else at once; a unit that is not Active stays as it is.
 fn cu_suspended(tag: u64, word: u64) -> CuObeyed
-    ensures { λ r. ⌜ ((c : Cu) → kept.CuIs c tag word → kept.CuIs (control.cuSuspend c) (r .tag) (r .word)) ⌝ }
+    ensures { λ r. ⌜ ((c : Cu) → packs.CuIs c tag word → packs.CuIs (control.cuSuspend c) (r .tag) (r .word)) ⌝ }
 {
     if tag < cu::WAITING {
         return CuObeyed {
@@ -108,18 +103,18 @@ fn cu_suspended(tag: u64, word: u64) -> CuObeyed
     }
     CuObeyed {
         tag: tag,
-        word: word | cu::PAUSING,
+        word: cu::pause(word),
     }
 }
 
 // To Active, at the block said; an Active unit goes on as it is.
 fn cu_active(first: Offset, tag: u64, word: u64) -> CuObeyed
-    ensures { λ r. ⌜ ((c : Cu) → kept.CuIs c tag word → kept.CuIs (control.cuStart first c) (r .tag) (r .word)) ⌝ }
+    ensures { λ r. ⌜ ((c : Cu) → packs.CuIs c tag word → packs.CuIs (control.cuStart first c) (r .tag) (r .word)) ⌝ }
 {
     if tag < cu::WAITING {
         return CuObeyed {
             tag: cu::WAITING,
-            word: first.0 as u64,
+            word: packed::plain(first),
         };
     }
     CuObeyed {
@@ -137,30 +132,23 @@ pub fn obey_cuc(
     word: u64,
     command: u16,
 ) -> CuObeyed
-    ensures { λ r. ⌜ ((u : Units) → base .0 ≡ u .base .0 → scb .0 ≡ u .scb .0 → kept.CuIs (u .cu) tag word
+    ensures { λ r. ⌜ ((u : Units) → base .0 ≡ u .base .0 → scb .0 ≡ u .scb .0 → packs.CuIs (u .cu) tag word
         → CuObeys (obeys.obeyCuc u command (now (memory .entry))) (now (memory .entry)) r (now (memory .exit))) ⌝ }
 {
     match scb::cu_goes(command, cu_number(tag)) {
-        0 => {
+        scb::IDLE => {
             abort(memory, base, cu::WAITING < tag, word, ABORTED_BLOCK);
             CuObeyed {
                 tag: cu::IDLE,
                 word: 0,
             }
         }
-        1 => cu_suspended(tag, word),
-        _ => cu_active(
-            first_of(
-                memory,
-                base,
-                scb,
-                scb::cu_control(command) == START,
-                CBL,
-                word,
-            ),
-            tag,
-            word,
-        ),
+        scb::SUSPENDED => cu_suspended(tag, word),
+        _ => {
+            let start = scb::cu_control(command) == START;
+            let first = first_of(memory, base, scb, start, CBL, word);
+            cu_active(first, tag, word)
+        }
     }
 }
 
@@ -178,14 +166,14 @@ fn ru_column(tag: u64) -> u8
     ensures { λ r. ⌜ (r < 4) × ((v : Ru) → tag ≡ ruTag v → r ≡ numbers.ruColumn (states.ruState v)) ⌝ }
 {
     if ru::READY < tag {
-        return READY_COLUMN;
+        return scb::READY;
     }
     tag as u8
 }
 
 // SUSPEND: at the end of a held frame, else at once; a unit that is not Ready stays as it is.
 fn ru_suspended(tag: u64, word: u64, rest: u64) -> RuObeyed
-    ensures { λ r. ⌜ ((v : Ru) → kept.RuIs v tag word rest → kept.RuIs (control.ruSuspend v) (r .tag) (r .word) (r .rest)) ⌝ }
+    ensures { λ r. ⌜ ((v : Ru) → packs.RuIs v tag word rest → packs.RuIs (control.ruSuspend v) (r .tag) (r .word) (r .rest)) ⌝ }
 {
     if tag < ru::READY {
         return RuObeyed {
@@ -203,19 +191,19 @@ fn ru_suspended(tag: u64, word: u64, rest: u64) -> RuObeyed
     }
     RuObeyed {
         tag: tag,
-        word: word | ru::PAUSING,
+        word: ru::pause(word),
         rest: rest,
     }
 }
 
 // To Ready, at the frame descriptor said; a Ready unit goes on as it is.
 fn ru_ready(first: Offset, tag: u64, word: u64, rest: u64) -> RuObeyed
-    ensures { λ r. ⌜ ((v : Ru) → kept.RuIs v tag word rest → kept.RuIs (control.ruStart first v) (r .tag) (r .word) (r .rest)) ⌝ }
+    ensures { λ r. ⌜ ((v : Ru) → packs.RuIs v tag word rest → packs.RuIs (control.ruStart first v) (r .tag) (r .word) (r .rest)) ⌝ }
 {
     if tag < ru::READY {
         return RuObeyed {
             tag: ru::READY,
-            word: first.0 as u64,
+            word: packed::plain(first),
             rest: 0,
         };
     }
@@ -236,11 +224,11 @@ pub fn obey_ruc(
     rest: u64,
     command: u16,
 ) -> RuObeyed
-    ensures { λ r. ⌜ ((u : Units) → base .0 ≡ u .base .0 → scb .0 ≡ u .scb .0 → kept.RuIs (u .ru) tag word rest
+    ensures { λ r. ⌜ ((u : Units) → base .0 ≡ u .base .0 → scb .0 ≡ u .scb .0 → packs.RuIs (u .ru) tag word rest
         → RuObeys (obeys.obeyRuc u command (now (memory .entry))) (now (memory .entry)) r (now (memory .exit))) ⌝ }
 {
     match scb::ru_goes(command, ru_column(tag)) {
-        0 => {
+        scb::IDLE => {
             abort(memory, base, ru::HELD < tag, word, ABORTED_DESCRIPTOR);
             RuObeyed {
                 tag: ru::IDLE,
@@ -248,24 +236,16 @@ pub fn obey_ruc(
                 rest: 0,
             }
         }
-        1 => ru_suspended(tag, word, rest),
-        2 => RuObeyed {
+        scb::SUSPENDED => ru_suspended(tag, word, rest),
+        scb::NO_RESOURCES => RuObeyed {
             tag: tag,
             word: word,
             rest: rest,
         },
-        _ => ru_ready(
-            first_of(
-                memory,
-                base,
-                scb,
-                scb::ru_control(command) == START,
-                RFA,
-                word,
-            ),
-            tag,
-            word,
-            rest,
-        ),
+        _ => {
+            let start = scb::ru_control(command) == START;
+            let first = first_of(memory, base, scb, start, RFA, word);
+            ru_ready(first, tag, word, rest)
+        }
     }
 }

@@ -50,6 +50,10 @@ cuServed u c by = withEvents (servedRu (withCu u c) false) (raise (u .events) by
 abbrev pub ruServed : Units → Ru → Events → Units
 ruServed u v by = withEvents (servedRu (withRu u v) true) (raise (u .events) by)
 
+-- both units obeyed their control codes, and events came up
+abbrev pub bothWith : Units → Cu → Ru → Events → Units
+bothWith u c v by = withEvents (withRu (withCu u c) v) (raise (u .events) by)
+
 -- ---- what is read of the status
 
 abbrev pub scbIn : Packed → ℕ
@@ -77,6 +81,37 @@ statusIs s = eqb (s % 2 ^ 4) 0 && eqb (s / 2 ^ 11 % 2) 0 && eqb (s / 2 ^ 14 % 2 
 pub record WordIs (w : Word) (n : ℕ) : Type 0 where
   pub number-is : n ≡ numberOf w
   pub wide : WordWide w
+
+-- a begun command's word, and a held frame's, with a SUSPEND that waits
+abbrev pub begunPausing : Word → Word
+begunPausing w =
+    record {
+      at = w .at;
+      first = w .first;
+      second = w .second;
+      third = w .third;
+      fourth = true;
+      fifth = w .fifth;
+      sixth = w .sixth;
+      kind = w .kind;
+      size = w .size;
+      next = w .next;
+    }
+
+abbrev pub heldPausing : Word → Word
+heldPausing w =
+    record {
+      at = w .at;
+      first = true;
+      second = w .second;
+      third = w .third;
+      fourth = w .fourth;
+      fifth = w .fifth;
+      sixth = w .sixth;
+      kind = w .kind;
+      size = w .size;
+      next = w .next;
+    }
 
 -- a number is a begun command's, with nothing above its marks
 abbrev pub BegunIs : Begun → ℕ → Type 0

@@ -5,7 +5,8 @@ ghost use Prim.Native.Nat.{_<_, _^_};
 ghost use Rattle.scb.specs.Words.{one};
 ghost use Rattle.device.specs.declared.Begun.{Begun};
 ghost use Rattle.phases.specs.Phases.{wordOf, begunOf, begunWith, begunWord};
-ghost use Rattle.packed.specs.Packed.{WordIs, BegunIs};
+ghost use Rattle.phases.specs.declared.Word.{Word};
+ghost use Rattle.packed.specs.Packed.{WordIs, BegunIs, begunPausing};
 
 // The tags. From Waiting on the unit is Active, from Acting on a command is begun.
 pub const IDLE: u64 = 0;
@@ -29,7 +30,7 @@ const SUSPEND: u64 = crate::FLAGS << 1;
 
 const EL: u64 = crate::FLAGS << 2;
 
-pub const PAUSING: u64 = crate::FLAGS << 3;
+const PAUSING: u64 = crate::FLAGS << 3;
 
 const BEGUN: u64 = crate::FLAGS << 4;
 
@@ -84,6 +85,13 @@ pub fn begun(block: Offset, flags: u16) -> u64
     ensures { λ r. ⌜ (r < 2 ^ 20) × BegunIs (begunWith block flags) r ⌝ }
 {
     block.0 as u64 + INTERRUPT * flags as u64
+}
+
+// A SUSPEND waits for the end of a begun command.
+pub fn pause(n: u64) -> u64
+    ensures { λ r. ⌜ ((w : Word) → WordIs w n → WordIs (begunPausing w) r) ⌝ }
+{
+    n | PAUSING
 }
 
 // One whose end is next, by its number.

@@ -9,7 +9,8 @@ pub mod setup;
 use memory::Offset;
 use memory::RealAddress;
 ghost use mathlib.Core.Path.{_≡_};
-ghost use Prim.Native.Nat.{_/_, _%_, _<_, _^_};
+ghost use Prim.Native.Nat.{_+_, _/_, _%_, _<_, _^_};
+ghost use lib.Bits.{bitAnd};
 ghost use Rattle.scb.specs.Words as words;
 ghost use Rattle.scb.specs.declared.Events.{Events};
 ghost use Rattle.device.specs.Change as change;
@@ -33,7 +34,7 @@ pub struct Packed {
 
 // From the lowest bit on: four that are zero, the events, the command unit's tag and a zero, the marks and two zeros, the receive unit's tag, the
 // SCB's offset, the base.
-pub const EVENTS: u64 = 1 << 4;
+const EVENTS: u64 = 1 << 4;
 
 const CU: u64 = 1 << 8;
 
@@ -41,21 +42,21 @@ const MARKS: u64 = 1 << 12;
 
 const RU: u64 = 1 << 16;
 
-pub const SCB: u64 = 1 << 24;
+const SCB: u64 = 1 << 24;
 
-pub const BASE: u64 = 1 << 40;
+const BASE: u64 = 1 << 40;
 
 // Among the marks.
-pub const INITIALISED: u64 = 1 << 0;
+const INITIALISED: u64 = 1 << 0;
 
-pub const RU_LAST: u64 = 1 << 1;
+const RU_LAST: u64 = 1 << 1;
 
 // How many numbers a field holds.
 const EVENT_SETS: u64 = 1 << 4;
 
 const CU_TAGS: u64 = 1 << 3;
 
-pub const MARK_SETS: u64 = 1 << 2;
+const MARK_SETS: u64 = 1 << 2;
 
 const MARK_BITS: u64 = 1 << 8;
 
@@ -214,7 +215,7 @@ pub fn raise(events: u64, raised: u64) -> u64
 }
 
 // The status of its parts. What would not fit into its field is cut, though no caller has such a number.
-pub fn status_of(scb: u64, marks: u64, cu: u64, ru: u64, base: u64) -> u64
+fn status_of(scb: u64, marks: u64, cu: u64, ru: u64, base: u64) -> u64
     ensures { λ r. ⌜ r ≡ packed.statusBy (scb % 2 ^ 16) (marks % 2 ^ 8) (cu % 2 ^ 3) (ru % 2 ^ 8) (base % 2 ^ 24) ⌝ }
 {
     EVENTS * (marks % MARK_BITS / EVENTS)
@@ -260,5 +261,57 @@ pub fn with_ru(k: Packed, tag: u64, word: u64, rest: u64) -> Packed
         cu: k.cu,
         ru: word,
         rest: rest,
+    }
+}
+
+// Both units obeyed their control codes: they are what their tags and words say, and events came up.
+pub fn after_codes(
+    k: Packed,
+    cu_tag: u64,
+    cu: u64,
+    ru_tag: u64,
+    ru: u64,
+    rest: u64,
+    raised: u64,
+) -> Packed
+    requires { ⌜ raised < 16 ⌝ }
+    ensures { λ r. ⌜ ((u : Units) (c : Cu) (v : Ru) (by : Events) → packed.PackedIs u k → packed.CuIs c «cu_tag» cu → packed.RuIs v «ru_tag» ru rest
+        → raised ≡ words.eventBits by → packed.PackedIs (packed.bothWith u c v by) r) ⌝ }
+{
+    let marks = marks(k) % MARK_SETS + EVENTS * raise(events(k), raised);
+    Packed {
+        status: status_of(k.status / SCB, marks, cu_tag, ru_tag, k.status / BASE),
+        cu: cu,
+        ru: ru,
+        rest: rest,
+    }
+}
+
+// Events are cleared: those of a number that stand.
+pub fn without_events(k: Packed, cleared: u64) -> Packed
+    ensures { λ r. ⌜ ((u : Units) (e : Events) → packed.PackedIs u k → bitAnd (words.eventBits (u .events)) cleared + words.eventBits e ≡ words.eventBits (u .events)
+        → packed.PackedIs (change.withEvents u e) r) ⌝ }
+{
+    let stood = events(k) & cleared;
+    Packed {
+        status: k.status - EVENTS * stood,
+        cu: k.cu,
+        ru: k.ru,
+        rest: k.rest,
+    }
+}
+
+// Initialised, with the events said and both units Idle; which unit was served last stays.
+pub fn initialised_at(k: Packed, base: RealAddress, scb: Offset, events: u64) -> Packed
+    requires { ⌜ events < 16 ⌝ }
+    ensures { λ r. ⌜ ((u : Units) (e : Events) → base .0 < 2 ^ 24 → packed.PackedIs u k → events ≡ words.eventBits e
+        → packed.PackedIs (change.initialisedAt u base scb e) r) ⌝ }
+{
+    let marks = marks(k) / RU_LAST % 2 * RU_LAST + INITIALISED + EVENTS * events;
+    Packed {
+        status: status_of(scb.0 as u64, marks, cu::IDLE, ru::IDLE, base.0 as u64),
+        cu: 0,
+        ru: 0,
+        rest: 0,
     }
 }

@@ -9,7 +9,8 @@ ghost use Rattle.device.specs.declared.Frame.{Frame};
 ghost use Rattle.device.specs.declared.Storing.{Storing};
 ghost use Rattle.phases.specs.Fields.{odd, restBy, filledIn, aboveFilled, usedIn};
 ghost use Rattle.phases.specs.Phases.{wordOf, plain, frameOf, storingOf, frameNumber, frameWord, storingWith, storingWord};
-ghost use Rattle.packed.specs.Packed.{WordIs};
+ghost use Rattle.phases.specs.declared.Word.{Word};
+ghost use Rattle.packed.specs.Packed.{WordIs, heldPausing};
 
 // The tags. From Ready on the unit is Ready, from Held on it holds a frame, from Filling on the frame is begun.
 pub const IDLE: u64 = 0;
@@ -30,7 +31,7 @@ pub const LACKING: u64 = 7;
 
 // The flags of a held frame: a waiting SUSPEND, short, save bad at arrival; of a begun one S and EL besides, as the descriptor's word had them in
 // bits 14 and 15; and whether the last buffer used had EL.
-pub const PAUSING: u64 = crate::FLAGS;
+const PAUSING: u64 = crate::FLAGS;
 
 const SHORT: u64 = crate::FLAGS << 1;
 
@@ -141,6 +142,13 @@ pub fn begun(n: u64, flags: u16) -> u64
     ensures { λ r. ⌜ (r < 2 ^ 48) × ((o : Offset) (f : Frame) (p : Bool) → WordIs (frameWord o f p) n → WordIs (storingWord (storingWith o f p flags) 0 false) r) ⌝ }
 {
     flagged(n, SUSPEND * flags as u64)
+}
+
+// A SUSPEND waits for the end of a held frame.
+pub fn pause(n: u64) -> u64
+    ensures { λ r. ⌜ ((w : Word) → WordIs w n → WordIs (heldPausing w) r) ⌝ }
+{
+    n | PAUSING
 }
 
 // A frame that is being filled is at its last buffer, which has EL or has not; no offset is next.

@@ -32,6 +32,7 @@ cuRow i s a cu.Active = a
 abbrev pub cuNext : Code → CuState → CuState
 cuNext start s = cuRow cu.Active cu.Active cu.Active s
 cuNext resume s = cuRow cu.Idle cu.Active cu.Active s
+-- Active: at the end of a begun command, else at once: control/Control
 cuNext suspend s = cuRow cu.Idle cu.Suspended cu.Suspended s
 cuNext abort s = cuRow cu.Idle cu.Idle cu.Idle s
 cuNext other s = cuRow cu.Idle cu.Suspended cu.Active s
@@ -48,6 +49,7 @@ ruRow i s n r ru.Ready = r
 abbrev pub ruNext : Code → RuState → RuState
 ruNext start s = ruRow ru.Ready ru.Ready ru.Ready ru.Ready s
 ruNext resume s = ruRow ru.Idle ru.Ready ru.NoResources ru.Ready s
+-- Ready: at the end of a held frame, else at once: control/Control
 ruNext suspend s = ruRow ru.Idle ru.Suspended ru.NoResources ru.Suspended s
 ruNext abort s = ruRow ru.Idle ru.Idle ru.Idle ru.Idle s
 ruNext other s = ruRow ru.Idle ru.Suspended ru.NoResources ru.Ready s

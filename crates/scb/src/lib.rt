@@ -98,26 +98,39 @@ const ENTRY_BITS: u8 = 2;
 const ENTRY: u8 = 3;
 
 // The states' numbers: the command unit's as CUS has them, the receive unit's by their columns.
-const IDLE: u8 = 0;
+pub const IDLE: u8 = 0;
 
-const SUSPENDED: u8 = 1;
+pub const SUSPENDED: u8 = 1;
 
-const ACTIVE: u8 = 2;
+pub const ACTIVE: u8 = 2;
 
-const NO_RESOURCES: u8 = 2;
+pub const NO_RESOURCES: u8 = 2;
 
-const READY: u8 = 3;
+pub const READY: u8 = 3;
 
-// The command unit: from Idle, from Suspended, from Active.
-const CU_START: u8 = ACTIVE | ACTIVE << 2 | ACTIVE << 4;
+// Where in a row stands what a code does from a state; from Idle it stands lowest.
+const FROM_SUSPENDED: u8 = ENTRY_BITS * SUSPENDED;
 
-const CU_RESUME: u8 = IDLE | ACTIVE << 2 | ACTIVE << 4;
+const FROM_ACTIVE: u8 = ENTRY_BITS * ACTIVE;
 
-const CU_SUSPEND: u8 = IDLE | SUSPENDED << 2 | SUSPENDED << 4;
+const FROM_NO_RESOURCES: u8 = ENTRY_BITS * NO_RESOURCES;
 
-const CU_ABORT: u8 = IDLE | IDLE << 2 | IDLE << 4;
+const FROM_READY: u8 = ENTRY_BITS * READY;
 
-const CU_STAYS: u8 = IDLE | SUSPENDED << 2 | ACTIVE << 4;
+// The command unit. 1 START: Idle, Suspended to Active.
+const CU_START: u8 = ACTIVE | ACTIVE << FROM_SUSPENDED | ACTIVE << FROM_ACTIVE;
+
+// 2 RESUME: Suspended to Active.
+const CU_RESUME: u8 = IDLE | ACTIVE << FROM_SUSPENDED | ACTIVE << FROM_ACTIVE;
+
+// 3 SUSPEND: Active to Suspended, at the end of a begun command, else at once: the room code_control.
+const CU_SUSPEND: u8 = IDLE | SUSPENDED << FROM_SUSPENDED | SUSPENDED << FROM_ACTIVE;
+
+// 4 ABORT: any to Idle.
+const CU_ABORT: u8 = IDLE | IDLE << FROM_SUSPENDED | IDLE << FROM_ACTIVE;
+
+// Every other code does nothing.
+const CU_STAYS: u8 = IDLE | SUSPENDED << FROM_SUSPENDED | ACTIVE << FROM_ACTIVE;
 
 const CU_NEXT: [u8; 8] = [
     CU_STAYS,
@@ -130,16 +143,32 @@ const CU_NEXT: [u8; 8] = [
     CU_STAYS,
 ];
 
-// The receive unit: from Idle, from Suspended, from No Resources, from Ready.
-const RU_START: u8 = READY | READY << 2 | READY << 4 | READY << 6;
+// The receive unit. 1 START: Idle, Suspended, No Resources to Ready.
+const RU_START: u8 = READY
+    | READY << FROM_SUSPENDED
+    | READY << FROM_NO_RESOURCES
+    | READY << FROM_READY;
 
-const RU_RESUME: u8 = IDLE | READY << 2 | NO_RESOURCES << 4 | READY << 6;
+// 2 RESUME: Suspended to Ready.
+const RU_RESUME: u8 = IDLE
+    | READY << FROM_SUSPENDED
+    | NO_RESOURCES << FROM_NO_RESOURCES
+    | READY << FROM_READY;
 
-const RU_SUSPEND: u8 = IDLE | SUSPENDED << 2 | NO_RESOURCES << 4 | SUSPENDED << 6;
+// 3 SUSPEND: Ready to Suspended, at the end of a held frame, else at once: the room code_control.
+const RU_SUSPEND: u8 = IDLE
+    | SUSPENDED << FROM_SUSPENDED
+    | NO_RESOURCES << FROM_NO_RESOURCES
+    | SUSPENDED << FROM_READY;
 
-const RU_ABORT: u8 = IDLE | IDLE << 2 | IDLE << 4 | IDLE << 6;
+// 4 ABORT: any to Idle.
+const RU_ABORT: u8 = IDLE | IDLE << FROM_SUSPENDED | IDLE << FROM_NO_RESOURCES | IDLE << FROM_READY;
 
-const RU_STAYS: u8 = IDLE | SUSPENDED << 2 | NO_RESOURCES << 4 | READY << 6;
+// Every other code does nothing.
+const RU_STAYS: u8 = IDLE
+    | SUSPENDED << FROM_SUSPENDED
+    | NO_RESOURCES << FROM_NO_RESOURCES
+    | READY << FROM_READY;
 
 const RU_NEXT: [u8; 8] = [
     RU_STAYS,

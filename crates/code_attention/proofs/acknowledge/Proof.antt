@@ -1,8 +1,7 @@
--- `code_attention::acknowledge` meets its contract: what is cleared was set. Assumes nothing.
+-- `code_attention::acknowledge` meets its contract: what is cleared, and what is left, are together what stood. Assumes nothing.
 use native.Mathlib.Omega.{arith}
-use Prim.Native.Nat.{_/_}
-use lib.Bits.{and-le-l}
-use Rattle.code_attention.proofs.States.{acknowledges}
+use Rattle.scb.specs.Words.{acknowledged}
+use Rattle.code_attention.proofs.Cleared.{cleared}
 use borrow.Author.Needs.{needs}
 use Rattle.code_attention.proofs.acknowledge.Statement.{statement}
 use Rattle.code_attention.proofs.acknowledge.Tie as tie
@@ -11,8 +10,7 @@ pub acknowledge-spec : {M : Type 1} → statement M
 acknowledge-spec =
     tie.close
     (tie.spec
-    (λ c κs. search needs)
     (λ c. search needs)
-    (λ c. omega (arith, c .events .ensures, and-le-l (c .events .result) (c .before .args .command / 4096)))
-    (λ c. omega (arith, c .before .events .ensures, and-le-l (c .before .events .result) (c .before .before .args .command / 4096)))
-    (λ c. λ u h. rw (c .before .events .ensures) (acknowledges u (c .before .before .args .k) h (c .before .before .args .command) (omega (arith, c .before .before .fits .command)))))
+    (λ c κs. search needs)
+    (λ c. λ u h. let s : tie.Start = search needs in
+    c .without-events .ensures u (acknowledged (u .events) (s .args .command)) h (cleared (u .events) (s .args .command) (omega (arith, s .fits .command)))))

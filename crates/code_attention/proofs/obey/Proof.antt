@@ -17,4 +17,4 @@ obey-spec =
     (λ c. λ d h. let m = c .before .before .before .before .before .before .before .before .before .before .before .before .before .args .memory .now in
     let o = c .before .before .before .before .before .before .before .before .before .before .obeyed .ensures (d .units) h in
     let u = codes (d .units) (c .before .before .before .before .before .before .before .before .before .before .before .before .before .args .command) m .units in
-    obeys-all d m (c .before .before .before .before .before .before .before .before .before .before .before .before .before .args .command) _ _ (c .before .before .before .before .before .before .before .before .before .before .obeyed .result) o (c .before .before .clear-command .ensures u (o .kept) ∙ rw (c .before .before .before .before .before .before .write-status .ensures u (o .kept)))))
+    obeys-all d m (c .before .before .before .before .before .before .before .before .before .before .before .before .before .args .command) _ _ (c .before .before .before .before .before .before .before .before .before .before .obeyed .result) o (c .before .before .clear-command .ensures u (o .packed) ∙ rw (c .before .before .before .before .before .before .write-status .ensures u (o .packed)))))

@@ -10,7 +10,7 @@ obeyed-spec =
     tie.close
     (tie.spec
     (λ c κs. search needs)
-    (λ c. λ u h. rw (codes-none u (c .before .before .before .args .command) (c .before .before .before .args .memory .now) (c .before .if1 .taken)) (record { kept = c .acknowledge .ensures u h; memory = refl }))
+    (λ c. λ u h. rw (codes-none u (c .before .before .before .args .command) (c .before .before .before .args .memory .now) (c .before .if1 .taken)) (record { packed = c .acknowledge .ensures u h; memory = refl }))
     (λ c κs. search needs)
     (λ c. search needs)
     (λ c. search needs))

@@ -36,5 +36,5 @@ attention-on-spec =
     record {
       answer = λ h out. c .answer-of .ensures ∙ ap (λ (x : Bool). answerNumber (answered 0 x)) (a .edge) ∙ ap answerNumber (sym (attention-plain (deviceAt r u) (s .args .memory .now)));
       memory = λ h out. a .memory;
-      kept = λ h out. c .before .before .before .store .ensures ∙ put-back r (s .args .k) u (s .pre) b f _ _ _ (record { units = a .kept; setup = a .setup });
+      kept = λ h out. c .before .before .before .store .ensures ∙ put-back r (s .args .k) u (s .pre) b f _ _ _ (record { units = a .packed; setup = a .setup });
     }))

@@ -21,4 +21,4 @@ obey-cuc-spec =
     (λ c. λ u b s h. cuc-idle u (c .before .before .before .before .before .before .before .before .args .base) (c .before .before .before .before .before .before .before .before .args .command) (c .before .before .before .before .before .before .before .before .args .tag) (c .before .before .before .before .before .before .before .before .args .word) (c .before .before .before .before .before .before .before .before .args .memory .now) b h _ (sym (c .before .before .before .before .match .keys1) ∙ c .before .before .before .before .before .cu-goes .ensures (cuState (u .cu)) (c .before .before .before .before .before .before .cu-number .ensures .1 (u .cu) (h .tag-is))) (c .before .before .abort .ensures))
     (λ c. λ u b s h. cuc-suspended u (c .before .before .before .before .before .args .base) (c .before .before .before .before .before .args .command) (c .before .before .before .before .before .args .tag) (c .before .before .before .before .before .args .word) (c .before .before .before .before .before .args .memory .now) b h (c .cu-suspended .result) (sym (c .before .match .keys2) ∙ c .before .before .cu-goes .ensures (cuState (u .cu)) (c .before .before .before .cu-number .ensures .1 (u .cu) (h .tag-is))) (c .cu-suspended .ensures (u .cu) h))
     (λ c. search needs)
-    (λ c. λ u b s h. let e = c .before .before .before .before .before .cu-goes .ensures (cuState (u .cu)) (c .before .before .before .before .before .before .cu-number .ensures .1 (u .cu) (h .tag-is)) in cuc-active u (c .before .before .before .before .before .before .before .before .args .base) (c .before .before .before .before .before .before .before .before .args .command) (c .before .before .before .before .before .before .before .before .args .tag) (c .before .before .before .before .before .before .before .before .args .word) (c .before .before .before .before .before .before .before .before .args .memory .now) b h (c .cu-active .result) (c .before .before .before .before .before .before .before .before .args .scb) (c .before .first-of .result) s (λ z. c .before .before .before .before .match .rest .0 .1 (e ∙ z)) (λ z. c .before .before .before .before .match .rest .1 (e ∙ z)) (rw (c .before .before .cu-control .ensures) at (c .before .first-of .ensures)) (c .cu-active .ensures (u .cu) h)))
+    (λ c. λ u b s h. let e = c .before .before .before .before .before .cu-goes .ensures (cuState (u .cu)) (c .before .before .before .before .before .before .cu-number .ensures .1 (u .cu) (h .tag-is)) in cuc-active u (c .before .before .before .before .before .before .before .before .args .base) (c .before .before .before .before .before .before .before .before .args .command) (c .before .before .before .before .before .before .before .before .args .tag) (c .before .before .before .before .before .before .before .before .args .word) (c .before .before .before .before .before .before .before .before .args .memory .now) b h (c .cu-active .result) (c .before .before .before .before .before .before .before .before .args .scb) (c .before .first-of .result) s (λ z. c .before .before .before .before .match .rest .0 .1 (e ∙ z)) (λ z. c .before .before .before .before .match .rest .1 (e ∙ z)) (rw (c .before .before .before .cu-control .ensures) at (c .before .first-of .ensures)) (c .cu-active .ensures (u .cu) h)))

@@ -22,4 +22,4 @@ obey-ruc-spec =
     (λ c. λ u b s h. ruc-suspended u (c .before .before .before .before .before .args .base) (c .before .before .before .before .before .args .command) (c .before .before .before .before .before .args .tag) (c .before .before .before .before .before .args .word) (c .before .before .before .before .before .args .rest) (c .before .before .before .before .before .args .memory .now) b h (c .ru-suspended .result) (sym (c .before .match .keys2) ∙ c .before .before .ru-goes .ensures (ruState (u .ru)) (c .before .before .before .ru-column .ensures .1 (u .ru) (h .tag-is))) (c .ru-suspended .ensures (u .ru) h))
     (λ c. λ u b s h. ruc-none u (c .before .before .before .before .args .base) (c .before .before .before .before .args .command) (c .before .before .before .before .args .tag) (c .before .before .before .before .args .word) (c .before .before .before .before .args .rest) (c .before .before .before .before .args .memory .now) b h (sym (c .match .keys3) ∙ c .before .ru-goes .ensures (ruState (u .ru)) (c .before .before .ru-column .ensures .1 (u .ru) (h .tag-is))))
     (λ c. search needs)
-    (λ c. λ u b s h. let e = c .before .before .before .before .before .ru-goes .ensures (ruState (u .ru)) (c .before .before .before .before .before .before .ru-column .ensures .1 (u .ru) (h .tag-is)) in ruc-ready u (c .before .before .before .before .before .before .before .before .args .base) (c .before .before .before .before .before .before .before .before .args .command) (c .before .before .before .before .before .before .before .before .args .tag) (c .before .before .before .before .before .before .before .before .args .word) (c .before .before .before .before .before .before .before .before .args .rest) (c .before .before .before .before .before .before .before .before .args .memory .now) b h (c .ru-ready .result) (c .before .before .before .before .before .before .before .before .args .scb) (c .before .first-of .result) s (λ z. c .before .before .before .before .match .rest .0 .0 .1 (e ∙ z)) (λ z. c .before .before .before .before .match .rest .0 .1 (e ∙ z)) (λ z. c .before .before .before .before .match .rest .1 (e ∙ z)) (rw (c .before .before .ru-control .ensures) at (c .before .first-of .ensures)) (c .ru-ready .ensures (u .ru) h)))
+    (λ c. λ u b s h. let e = c .before .before .before .before .before .ru-goes .ensures (ruState (u .ru)) (c .before .before .before .before .before .before .ru-column .ensures .1 (u .ru) (h .tag-is)) in ruc-ready u (c .before .before .before .before .before .before .before .before .args .base) (c .before .before .before .before .before .before .before .before .args .command) (c .before .before .before .before .before .before .before .before .args .tag) (c .before .before .before .before .before .before .before .before .args .word) (c .before .before .before .before .before .before .before .before .args .rest) (c .before .before .before .before .before .before .before .before .args .memory .now) b h (c .ru-ready .result) (c .before .before .before .before .before .before .before .before .args .scb) (c .before .first-of .result) s (λ z. c .before .before .before .before .match .rest .0 .0 .1 (e ∙ z)) (λ z. c .before .before .before .before .match .rest .0 .1 (e ∙ z)) (λ z. c .before .before .before .before .match .rest .1 (e ∙ z)) (rw (c .before .before .before .ru-control .ensures) at (c .before .first-of .ensures)) (c .ru-ready .ensures (u .ru) h)))

@@ -9,6 +9,6 @@ pub ru-ready-spec : {M : Type 1} → statement M
 ru-ready-spec =
     tie.close
     (tie.spec
-    (λ c. search needs)
-    (λ c. λ x h. ready-from (c .before .before .args .first) x (omega (arith, c .struct-known .given)) (omega (arith, h .tag-is, c .before .if1 .taken)))
+    (λ c κs. search needs)
+    (λ c. λ x h. ready-from (c .before .before .args .first) (c .plain .result) x (c .plain .ensures) (omega (arith, h .tag-is, c .before .if1 .taken)))
     (λ c. λ x h. rw (ready-stays (c .before .args .first) x (omega (arith, h .tag-is, c .if1 .left))) h))
