@@ -4,9 +4,16 @@ ghost use mathlib.Core.Path.{_≡_};
 ghost use Prim.Native.Nat.{min};
 ghost use Rattle.board.specs.Board as board;
 
+// The device record has 256 bytes, of which one has the events. N at the start.
+const RECORD: usize = 256;
+
+const EVENTS: usize = 5;
+
+const START: usize = 1 << 16;
+
 // The device record.
 pub struct Record {
-    pub bytes: [u8; 256],
+    pub bytes: [u8; RECORD],
 }
 
 // What a call gives back to a program that holds its record by value: the record, and the answer as one number.
@@ -53,8 +60,8 @@ pub fn start() -> Board
     ensures { λ r. ⌜ r ≡ board.start ⌝ }
 {
     Board {
-        kept: Record { bytes: [0; 256] },
-        size: 65536,
+        kept: Record { bytes: [0; RECORD] },
+        size: START,
     }
 }
 
@@ -71,7 +78,7 @@ pub fn interrupt(b: Board) -> bool
 {
     let kept = b.kept;
     let bytes = kept.bytes;
-    bytes[5] != 0
+    bytes[EVENTS] != 0
 }
 
 // ---- a call

@@ -35,7 +35,9 @@ const STATUS: u16 = 0;
 
 const COMMAND: u16 = 2;
 
-// The ISCP: +0 BUSY, +2 the SCB's offset, +4 the SCB's base.
+// The SCP: +6 where the ISCP is. The ISCP: +0 BUSY, +2 the SCB's offset, +4 the SCB's base.
+const ISCP: u16 = 6;
+
 const BUSY: u16 = 0;
 
 const SCB_OFFSET: u16 = 2;
@@ -48,6 +50,9 @@ const EVENTS: u16 = 12;
 const CUS: u16 = 8;
 
 const RUS: u16 = 4;
+
+// The status after the first attention: CX and CNA, both units Idle.
+const INITIAL: u16 = 0xA000;
 
 // The command word: from bit 12 on it acknowledges events; CUC and RUC together.
 const ACKNOWLEDGED: u16 = 12;
@@ -113,7 +118,7 @@ fn initial_writes(memory: &mut [u8], iscp: RealAddress, base: RealAddress, scb: 
     ensures { λ _. ⌜ now (memory .exit) ≡ bytes.apply (attentions.initialWrites iscp base scb) (now (memory .entry)) ⌝ }
 {
     memory::put_byte(memory, memory::beyond(iscp, BUSY), 0);
-    memory::put_word(memory, memory::place(base, scb, STATUS), 0xA000);
+    memory::put_word(memory, memory::place(base, scb, STATUS), INITIAL);
     memory::put_word(memory, memory::place(base, scb, COMMAND), 0);
 }
 
@@ -121,7 +126,7 @@ fn initial_writes(memory: &mut [u8], iscp: RealAddress, base: RealAddress, scb: 
 fn iscp_of(memory: &[u8]) -> RealAddress
     ensures { λ r. ⌜ r ≡ attentions.iscpOf (now (memory .entry)) ⌝ }
 {
-    memory::real_at(memory, memory::beyond(memory::scp(), 6))
+    memory::real_at(memory, memory::beyond(memory::scp(), ISCP))
 }
 
 // The SCB's base, which has 24 bits.

@@ -2,7 +2,7 @@
 use mathlib.Core.Path.{_≡_}
 use mathlib.Core.Bool.{true}
 use mathlib.Core.List.{List}
-use Prim.Native.Nat.{ℕ, _+_, _*_, _%_}
+use Prim.Native.Nat.{ℕ, _+_, _*_, _%_, _^_}
 use Rattle.device.specs.declared.Refusal.{Refusal}
 use Rattle.device.specs.declared.Units.{Units}
 use Rattle.packed.specs.Packed.{packedOf}
@@ -52,7 +52,7 @@ keptTurns unit r =
 abbrev pub askedOn : Asked → (f : List ℕ) (line budget unit : ℕ) → World → Called
 askedOn asked.Attention f line budget unit w = onBytes (attentionOf w)
 askedOn asked.Arrival f line budget unit w = onBytes (arrivalOf w f line)
-askedOn asked.Turns f line budget unit w = keptTurns unit (runOf budget w (line % 65536))
+askedOn asked.Turns f line budget unit w = keptTurns unit (runOf budget w (line % 2 ^ 16))
 
 -- every call but reset
 unfoldable pub askedCall : Asked → Areas → (f : List ℕ) (line budget unit : ℕ) → Called
