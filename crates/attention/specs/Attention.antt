@@ -23,33 +23,7 @@ pub record Attended : Type 0 where
   pub outcome : Outcome
   pub writes : List Write
 
--- ---- the first attention after reset
-
--- SCP: its pointer to ISCP is the real address at FFFFFCh
-unfoldable pub iscpOf : List ℕ → RealAddress
-iscpOf m = addressAt m (beyond scp 6)
-
--- the events CX and CNA
-abbrev pub initialEvents : Events
-initialEvents = record { cx = true; fr = false; cna = true; rnr = false }
-
--- clears BUSY, writes SCB status A000h (CX, CNA) and command 0000h
-abbrev pub initialWrites : RealAddress → RealAddress → Offset → List Write
-initialWrites iscp base scb =
-    bytesTo (beyond iscp 0) (0 ∷ []) ∷ wordTo (place base scb scbStatusAt) 0xA000 ∷ wordTo (place base scb scbCommandAt) 0x0000 ∷ []
-
--- ISCP: BUSY byte +0, SCB offset +2, SCB base (real) +4. It doesn't obey the command word
-unfoldable pub initialise : Device → List ℕ → Attended
-initialise d m =
-    let iscp = iscpOf m in
-    let scb = offsetAt m (beyond iscp 2) in
-    let base = addressAt m (beyond iscp 4) in
-    record {
-      outcome = outcomeOf (withUnits d (initialisedAt (d .units) base scb initialEvents)) (answered 0 true) [];
-      writes = initialWrites iscp base scb;
-    }
-
--- ---- every other attention
+-- ---- an attention of a chip that is initialised
 
 -- leaving Active raises CNA, leaving Ready raises RNR
 abbrev pub leaving : (cu ru : Bool) → Events
@@ -87,7 +61,33 @@ unfoldable pub attend : Device → List ℕ → Attended
 attend d m =
     let command = wordAt m (ofScb (d .units) scbCommandAt) in attendBy (resets command) d command m
 
--- ---- an attention
+-- ---- the first attention after reset
+
+-- SCP: its pointer to ISCP is the real address at FFFFFCh
+unfoldable pub iscpOf : List ℕ → RealAddress
+iscpOf m = addressAt m (beyond scp 6)
+
+-- the events CX and CNA
+abbrev pub initialEvents : Events
+initialEvents = record { cx = true; fr = false; cna = true; rnr = false }
+
+-- clears BUSY, writes SCB status A000h (CX, CNA) and command 0000h
+abbrev pub initialWrites : RealAddress → RealAddress → Offset → List Write
+initialWrites iscp base scb =
+    bytesTo (beyond iscp 0) (0 ∷ []) ∷ wordTo (place base scb scbStatusAt) 0xA000 ∷ wordTo (place base scb scbCommandAt) 0x0000 ∷ []
+
+-- ISCP: BUSY byte +0, SCB offset +2, SCB base (real) +4. It doesn't obey the command word
+unfoldable pub initialise : Device → List ℕ → Attended
+initialise d m =
+    let iscp = iscpOf m in
+    let scb = offsetAt m (beyond iscp 2) in
+    let base = addressAt m (beyond iscp 4) in
+    record {
+      outcome = outcomeOf (withUnits d (initialisedAt (d .units) base scb initialEvents)) (answered 0 true) [];
+      writes = initialWrites iscp base scb;
+    }
+
+-- ---- either
 
 abbrev pub attentionBy : (initialised : Bool) → Device → List ℕ → Attended
 attentionBy false d m = initialise d m
