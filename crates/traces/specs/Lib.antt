@@ -3,3 +3,4 @@ pub mod Event
 pub mod Bytes
 pub mod Areas
 pub mod Driven
+pub mod Told
