@@ -1,7 +1,7 @@
 -- Demand 2 of frames at every call while a frame is held: what becomes of a good one, and of a bad one. Assumes nothing.
 use mathlib.Core.Path.{_≡_, refl, sym, ap, ap₂, _∙_, subst}
 use mathlib.Core.Bool.{Bool, true, false, not, cond, _&&_, _||_, true≢false, false≢true}
-use mathlib.Core.List.{List, [], _∷_, _++_, nil≢cons}
+use mathlib.Core.List.{List, [], _∷_, _++_, nil≢cons, append-nil}
 use Prim.Native.Nat.{ℕ}
 use borrow.Author.Tests.{eqb-true}
 use lib.Dec.{eqb, leb, ltb}
@@ -9,8 +9,11 @@ use lib.ListN.{length}
 use Rattle.memory.specs.Memory.{Write, wordTo, apply}
 use Rattle.memory.specs.declared.Offset.{Offset}
 use Rattle.scb.specs.Control.{Code, codeOf, start, resume, suspend, abort, other}
-use Rattle.scb.specs.Words.{scbCommandAt, resets, ruc, cuNumber, ruNumber, eventBits}
+use Rattle.scb.specs.Words.{scbCommandAt, resets, ruc, cuNumber, ruNumber, eventBits, noEvents, anyOf}
+use Rattle.scb.specs.declared.Events.{Events}
+use Rattle.scb.proofs.Raising.{raise-none}
 use Rattle.device.specs.Answers.{isHeld}
+use Rattle.device.specs.Change.{withEvents, withUnits}
 use Rattle.device.specs.Limits.{header}
 use Rattle.device.specs.State.{cuState, ruState, isHolding, heldIn, isGood, fresh, cuWorks, ruWorks}
 use Rattle.device.proofs.Laws.{some-held}
@@ -36,11 +39,12 @@ use Rattle.attention.specs.Attention as attentions
 use Rattle.chip.specs.Arrival as chip
 use Rattle.chip.specs.Attention.{attentionOf}
 use Rattle.chip.specs.Call.{Call, reset, attention, arrive, turn, ran}
-use Rattle.chip.specs.Turn.{servedBy, isReceive, turnBy, turnOf, commandTurn, receiveTurn, concluded}
+use Rattle.chip.specs.Turn.{servedBy, isReceive, raisedIn, changes, statusBy, receiveUnits, turnBy, turnOf, commandTurn, receiveTurn, concluded}
 use Rattle.chip.specs.World.{World, Ran, writing, resetOf}
+use Rattle.chip.proofs.Status.{receive-due}
 use Rattle.filter.specs.Match.{matches}
 use Rattle.frames.specs.Arrival.{inScb, unitOf, settingsOf}
-use Rattle.frames.specs.Held.{ofHeld, chosen, heldFates, forEach, commandOf, loses, endIsNext, ends, StaysHeld, Lost, by-reset, by-resetting, by-abort, GoodFate, BadFate}
+use Rattle.frames.specs.Held.{ofHeld, chosen, heldFates, forEach, commandOf, loses, endIsNext, isServed, ends, StaysHeld, begunTo, begunUnit, dataTo, filledTo, filledUnit, OnlyWrites, Serves, Waits, untouched, suspends, Meanwhile, served, unserved, Lost, by-reset, by-resetting, by-abort, GoodFate, BadFate}
 use Rattle.frames.specs.Held as held
 use Rattle.frames.proofs.End.{part, turned, Closed, closed, Both, both, OnlyCounted, only-counted, Kept, kept}
 
@@ -129,7 +133,7 @@ held-saved d f r h = unit-saved (d .units .ru) f h (units-fit (d .units) (parts 
 -- ---- what every held frame can come to, good or bad
 
 pub data HeldFate (f : Frame) (c : Call) (w : World) : Type 0 where
-  stays : loses c w ≡ false → ends c w ≡ false → StaysHeld f w (ran c w) → HeldFate f c w
+  stays : loses c w ≡ false → ends c w ≡ false → StaysHeld f w (ran c w) → Meanwhile f c w → HeldFate f c w
   closing : (s : Storing) (free : Offset) (full : Bool) → ends c w ≡ true → unitOf w ≡ ru.Closing s free full → s .frame ≡ f
       → Closed w s free full (ran c w)
       → HeldFate f c w
@@ -161,6 +165,15 @@ at-arrival w f bs v h =
     let j = arrivals.judged (settingsOf w) bs v in
     let k = arrival-fate few matched (unitOf w) j f h in
     record { unit = rw (k .0) h; holding = rw (k .0); fates = ap (λ (b : Bool). chosen b (arrivals.fateBy few matched (unitOf w) j) []) (k .1) }
+
+-- the receive unit as it was
+arrival-untouched : (w : World) (f : Frame) (bs : List ℕ) (v : ℕ) → heldIn (unitOf w) ≡ f ∷ []
+    → chip.arrivalOf w bs v .outcome .device .units .ru ≡ unitOf w
+unfolding chip.arrivalOf chip.arrival arrivals.arrival arrivals.fateOf
+arrival-untouched w f bs v h =
+    let few = ltb (length bs) header in
+    let matched = matches (settingsOf w) (w .device .own) (w .device .listed) bs in
+    rw (arrival-fate few matched (unitOf w) (arrivals.judged (settingsOf w) bs v) f h .0)
 
 -- ---- an attention
 
@@ -296,6 +309,64 @@ obeyed-keeps w f h a =
     let k : heldIn (obeyedRuc w .unit) ≡ f ∷ [] = ruc-keeps w a ∙ h in
     record { unit = k; holding = refl; fates = not-lost (heldIn (unitOf w)) (heldIn (obeyedRuc w .unit)) f [] k }
 
+-- how far storing has come stays
+start-waits : (rfa : Offset) (u : Ru) → isHolding u ≡ true → ruStart rfa u ≡ u
+start-waits rfa ru.Idle h = absurd (false≢true h)
+start-waits rfa ru.NoResources h = absurd (false≢true h)
+start-waits rfa (ru.Suspended fd) h = absurd (false≢true h)
+start-waits rfa (ru.Ready fd) h = absurd (false≢true h)
+start-waits rfa (ru.Held fd f p) h = refl
+start-waits rfa (ru.Filling s w) h = refl
+start-waits rfa (ru.Closing s free full) h = refl
+start-waits rfa (ru.Lacking s) h = refl
+
+resume-waits : (u : Ru) → isHolding u ≡ true → ruResume u ≡ u
+resume-waits ru.Idle h = absurd (false≢true h)
+resume-waits ru.NoResources h = absurd (false≢true h)
+resume-waits (ru.Suspended fd) h = absurd (false≢true h)
+resume-waits (ru.Ready fd) h = absurd (false≢true h)
+resume-waits (ru.Held fd f p) h = refl
+resume-waits (ru.Filling s w) h = refl
+resume-waits (ru.Closing s free full) h = refl
+resume-waits (ru.Lacking s) h = refl
+
+abbrev isSuspend : Code → Bool
+isSuspend start = false
+isSuspend resume = false
+isSuspend suspend = true
+isSuspend abort = false
+isSuspend other = false
+
+three-by : (a b c d : Bool) → isSuspend (cond a start (cond b resume (cond c suspend (cond d abort other)))) ≡ true → c ≡ true
+three-by true b c d h = absurd (false≢true h)
+three-by false true c d h = absurd (false≢true h)
+three-by false false true d h = refl
+three-by false false false true h = absurd (false≢true h)
+three-by false false false false h = absurd (false≢true h)
+
+is-three : (n : ℕ) → codeOf n ≡ suspend → n ≡ 3
+unfolding codeOf
+is-three n h = eqb-true n 3 (three-by (eqb n 1) (eqb n 2) (eqb n 3) (eqb n 4) (ap isSuspend h))
+
+unit-waits : (code : Code) (rfa : Offset) (w : World) → codeOf (ruc (commandOf w)) ≡ code → isHolding (unitOf w) ≡ true → isAbort code ≡ false
+    → attentionOf w .outcome .device .units .ru ≡ ruBy code rfa (unitOf w) → Waits w attention
+unit-waits start rfa w c h a e = untouched attention (e ∙ start-waits rfa (unitOf w) h)
+unit-waits resume rfa w c h a e = untouched attention (e ∙ resume-waits (unitOf w) h)
+unit-waits suspend rfa w c h a e = suspends (is-three (ruc (commandOf w)) c) e
+unit-waits abort rfa w c h a e = absurd (true≢false a)
+unit-waits other rfa w c h a e = untouched attention e
+
+obeyed-unit : (w : World) → obeyed w .outcome .device .units .ru ≡ obeyedRuc w .unit
+unfolding attended attentions.attendBy
+obeyed-unit w = refl
+
+obeyed-waits : (w : World) (f : Frame) → heldIn (unitOf w) ≡ f ∷ [] → eqb (ruc (commandOf w)) 4 ≡ false → obeyed w ≡ attentionOf w
+    → Waits w attention
+unfolding obeyRuc
+obeyed-waits w f h a to =
+    unit-waits (codeOf (ruc (commandOf w))) _ w refl (holds (unitOf w) f h) (not-abort (ruc (commandOf w)) a)
+    (ap (λ (r : Ran). r .outcome .device .units .ru) (sym to) ∙ obeyed-unit w)
+
 at-abort : (w : World) → resets (commandOf w) ≡ false → ruc (commandOf w) ≡ 4 → Aborted w (attentionOf w) → Lost w attention
 at-abort w r a x = by-abort r a (x .fates) (x .unit) (x .memory)
 
@@ -310,7 +381,7 @@ at-attention false true w f h i r a =
     lost (ap₂ (λ (x y : Bool). x || y) r a) (at-abort w r e (subst (Aborted w) to (aborted w e)))
 at-attention false false w f h i r a =
     let to = ap (λ (b : Bool). attended w (attentions.attendBy b (w .device) (commandOf w) (w .memory))) (sym r) ∙ to-attend w i in
-    stays (ap₂ (λ (x y : Bool). x || y) r a) refl (subst (StaysHeld f w) to (obeyed-keeps w f h a))
+    stays (ap₂ (λ (x y : Bool). x || y) r a) refl (subst (StaysHeld f w) to (obeyed-keeps w f h a)) (unserved refl (obeyed-waits w f h a to))
 
 -- ---- a turn
 
@@ -318,6 +389,10 @@ at-attention false false w f h i r a =
 command-keeps : (w : World) (f : Frame) (report : ℕ) → heldIn (unitOf w) ≡ f ∷ [] → StaysHeld f w (commandTurn w report)
 unfolding commandTurn concluded
 command-keeps w f report h = record { unit = h; holding = refl; fates = refl }
+
+command-untouched : (w : World) (report : ℕ) → commandTurn w report .outcome .device .units .ru ≡ unitOf w
+unfolding commandTurn concluded
+command-untouched w report = refl
 
 -- the receive unit is
 pub to-turned : (w : World) (u : Ru) → unitOf w ≡ u → turned w (services.serviceBy u (part w) (w .memory)) ≡ receiveTurn w
@@ -340,6 +415,27 @@ quiet-keeps : (w : World) (u : Ru) (ws : List Write) (f : Frame) → heldIn u �
 unfolding turned concluded
 quiet-keeps w u ws f h = record { unit = h; holding = refl; fates = refl }
 
+-- it writes what the service says, and nothing else
+quiet-writes : (w : World) (next : Ru) (ws : List Write) → services.serviceBy (unitOf w) (part w) (w .memory) ≡ receive.quietly next ws
+    → OnlyWrites next ws w (turned w (receive.quietly next ws))
+unfolding turned concluded anyOf services.service
+quiet-writes w next ws e =
+    let u = receiveUnits (w .device) (receive.quietly next ws) in
+    let due : (anyOf noEvents || changes (w .device .units) u) ≡ anyOf noEvents =
+    subst (λ (s : receive.Service). (anyOf (s .raised) || changes (w .device .units) (receiveUnits (w .device) s)) ≡ anyOf (s .raised)) e
+    (receive-due (w .device) (w .memory) (w .holding))
+    in
+    record {
+      memory =
+          ap (λ (b : Bool). apply (ws ++ statusBy b (raisedIn u noEvents)) (w .memory)) due
+          ∙ ap (λ (l : List Write). apply l (w .memory)) (append-nil ws);
+      holding = refl;
+      outgoing = refl;
+      answer = refl;
+      fates = refl;
+      device = ap (λ (e : Events). withUnits (w .device) (withEvents u e)) (raise-none (w .device .units .events));
+    }
+
 begin-keeps : (w : World) (fd : Offset) (f : Frame) (p : Bool) → StaysHeld f w (turned w (begins.begin (part w) fd f p (w .memory)))
 unfolding begins.begin begins.begunBy
 begin-keeps w fd f p = quiet-keeps w _ _ f (rw first-keeps)
@@ -348,23 +444,35 @@ fill-keeps : (w : World) (s : Storing) (k : Walk) → StaysHeld (s .frame) w (tu
 unfolding buffers.buffer
 fill-keeps w s k = quiet-keeps w _ _ (s .frame) (rw buffer-keeps)
 
+begin-writes : (w : World) (fd : Offset) (f : Frame) (p : Bool) → unitOf w ≡ ru.Held fd f p
+    → OnlyWrites (begunUnit w fd f p) (begunTo w fd ∷ []) w (turned w (begins.begin (part w) fd f p (w .memory)))
+unfolding begins.begin
+begin-writes w fd f p e = quiet-writes w _ _ (ap (λ (u : Ru). services.serviceBy u (part w) (w .memory)) e)
+
+fill-writes : (w : World) (s : Storing) (k : Walk) → unitOf w ≡ ru.Filling s k
+    → OnlyWrites (filledUnit w s k) (dataTo w s k ∷ filledTo w s k ∷ []) w (turned w (buffers.buffer (part w) s k (w .memory)))
+unfolding buffers.buffer
+fill-writes w s k e = quiet-writes w _ _ (ap (λ (u : Ru). services.serviceBy u (part w) (w .memory)) e)
+
 at-service : (u : Ru) (w : World) (f : Frame) (c : Call) → unitOf w ≡ u → heldIn u ≡ f ∷ []
     → turned w (services.serviceBy u (part w) (w .memory)) ≡ ran c w
-    → loses c w ≡ false → ends c w ≡ endIsNext u → HeldFate f c w
-at-service ru.Idle w f c e h r l n = absurd (none≢one h)
-at-service ru.NoResources w f c e h r l n = absurd (none≢one h)
-at-service (ru.Suspended fd) w f c e h r l n = absurd (none≢one h)
-at-service (ru.Ready fd) w f c e h r l n = absurd (none≢one h)
-at-service (ru.Held fd g p) w f c e h r l n =
-    let k = subst (λ (x : Frame). StaysHeld x w (turned w (begins.begin (part w) fd g p (w .memory)))) (same-frame f g h) (begin-keeps w fd g p) in
-    stays l n (subst (StaysHeld f w) r k)
-at-service (ru.Filling s k) w f c e h r l n =
+    → loses c w ≡ false → isServed c w ≡ true → ends c w ≡ endIsNext u → HeldFate f c w
+at-service ru.Idle w f c e h r l v n = absurd (none≢one h)
+at-service ru.NoResources w f c e h r l v n = absurd (none≢one h)
+at-service (ru.Suspended fd) w f c e h r l v n = absurd (none≢one h)
+at-service (ru.Ready fd) w f c e h r l v n = absurd (none≢one h)
+at-service (ru.Held fd g p) w f c e h r l v n =
+    let e′ = same-frame f g h in
+    let k = subst (λ (x : Frame). StaysHeld x w (turned w (begins.begin (part w) fd g p (w .memory)))) e′ (begin-keeps w fd g p) in
+    let own = subst (λ (x : Ran). Serves g w x) r (held.begin fd p e (begin-writes w fd g p e)) in
+    stays l n (subst (StaysHeld f w) r k) (served v (subst (λ (x : Frame). Serves x w (ran c w)) e′ own))
+at-service (ru.Filling s k) w f c e h r l v n =
     let e′ = same-frame f (s .frame) h in
     let j = subst (λ (x : Frame). StaysHeld x w (turned w (buffers.buffer (part w) s k (w .memory)))) e′ (fill-keeps w s k) in
-    stays l n (subst (StaysHeld f w) r j)
-at-service (ru.Closing s free full) w f c e h r l n =
+    stays l n (subst (StaysHeld f w) r j) (served v (held.buffer s k e e′ (subst (OnlyWrites _ _ w) r (fill-writes w s k e))))
+at-service (ru.Closing s free full) w f c e h r l v n =
     closing s free full n e (same-frame f (s .frame) h) (subst (Closed w s free full) r (closed w s free full))
-at-service (ru.Lacking s) w f c e h r l n = lacking s n e (same-frame f (s .frame) h) r
+at-service (ru.Lacking s) w f c e h r l v n = lacking s n e (same-frame f (s .frame) h) r
 
 pub served-as : (c h l : Bool) (w : World) (report : ℕ) → cuWorks (w .device .units .cu) ≡ c → ruWorks (unitOf w) ≡ h
     → w .device .units .rulast ≡ l
@@ -375,27 +483,37 @@ served-as c h l w report a b d =
     ∙ ap (λ (x : Bool). turnBy (servedBy (cuWorks (w .device .units .cu)) x l) w report) (sym b)
     ∙ ap (λ (x : Bool). turnBy (servedBy (cuWorks (w .device .units .cu)) (ruWorks (unitOf w)) x) w report) (sym d)
 
+served-is : (c h l : Bool) (w : World) (report : ℕ) → cuWorks (w .device .units .cu) ≡ c → ruWorks (unitOf w) ≡ h
+    → w .device .units .rulast ≡ l
+    → isServed (turn report) w ≡ isReceive (servedBy c h l)
+served-is c h l w report a b d =
+    ap (λ (x : Bool). isReceive (servedBy (cuWorks (w .device .units .cu)) (ruWorks (unitOf w)) x)) d
+    ∙ ap (λ (x : Bool). isReceive (servedBy (cuWorks (w .device .units .cu)) x l)) b
+    ∙ ap (λ (x : Bool). isReceive (servedBy x h l)) a
+
 ends-as : (c h l : Bool) (w : World) (report : ℕ) → cuWorks (w .device .units .cu) ≡ c → ruWorks (unitOf w) ≡ h
     → w .device .units .rulast ≡ l
     → ends (turn report) w ≡ (isReceive (servedBy c h l) && endIsNext (unitOf w))
-ends-as c h l w report a b d =
-    ap (λ (x : Bool). isReceive (servedBy (cuWorks (w .device .units .cu)) (ruWorks (unitOf w)) x) && endIsNext (unitOf w)) d
-    ∙ ap (λ (x : Bool). isReceive (servedBy (cuWorks (w .device .units .cu)) x l) && endIsNext (unitOf w)) b
-    ∙ ap (λ (x : Bool). isReceive (servedBy x h l) && endIsNext (unitOf w)) a
+ends-as c h l w report a b d = ap (λ (x : Bool). x && endIsNext (unitOf w)) (served-is c h l w report a b d)
 
 at-turn : (c l : Bool) (w : World) (f : Frame) (report : ℕ) → heldIn (unitOf w) ≡ f ∷ [] → cuWorks (w .device .units .cu) ≡ c
     → w .device .units .rulast ≡ l
     → HeldFate f (turn report) w
 at-turn true true w f report h a b =
     let k = holds (unitOf w) f h in
-    stays refl (ends-as true true true w report a k b) (subst (StaysHeld f w) (served-as true true true w report a k b) (command-keeps w f report h))
+    let to = served-as true true true w report a k b in
+    stays refl (ends-as true true true w report a k b) (subst (StaysHeld f w) to (command-keeps w f report h))
+    (unserved (served-is true true true w report a k b)
+    (untouched (turn report) (subst (λ (r : Ran). r .outcome .device .units .ru ≡ unitOf w) to (command-untouched w report))))
 at-turn true false w f report h a b =
     let k = holds (unitOf w) f h in
     at-service (unitOf w) w f (turn report) refl h (to-turned w (unitOf w) refl ∙ served-as true true false w report a k b) refl
+    (served-is true true false w report a k b)
     (ends-as true true false w report a k b)
 at-turn false l w f report h a b =
     let k = holds (unitOf w) f h in
     at-service (unitOf w) w f (turn report) refl h (to-turned w (unitOf w) refl ∙ served-as false true l w report a k b) refl
+    (served-is false true l w report a k b)
     (ends-as false true l w report a k b)
 
 -- ---- every call
@@ -407,7 +525,8 @@ reset-lost w = by-reset refl refl
 pub held-fate : (c : Call) (w : World) (f : Frame) → w .device .units .initialised ≡ true → heldIn (unitOf w) ≡ f ∷ [] → HeldFate f c w
 held-fate reset w f i h = lost refl (reset-lost w)
 held-fate attention w f i h = at-attention (resets (commandOf w)) (eqb (ruc (commandOf w)) 4) w f h i refl refl
-held-fate (arrive bs v) w f i h = stays refl refl (at-arrival w f bs v h)
+held-fate (arrive bs v) w f i h =
+    stays refl refl (at-arrival w f bs v h) (unserved refl (untouched (arrive bs v) (arrival-untouched w f bs v h)))
 held-fate (turn report) w f i h = at-turn (cuWorks (w .device .units .cu)) (w .device .units .rulast) w f report h refl refl
 
 -- ---- a good one
@@ -423,7 +542,7 @@ good-lacking false c w f s n e q g b r =
     held.counted s n e q b (x .fates) (x .counted)
 
 pub good-of : (c : Call) (w : World) (f : Frame) → isGood f ≡ true → HeldFate f c w → GoodFate f c w
-good-of c w f g (stays l n k) = held.stays l n k
+good-of c w f g (stays l n k m) = held.stays l n k m
 good-of c w f g (closing s free full n e q k) = held.stored s free full n e q (k .fates) (k .stored)
 good-of c w f g (lacking s n e q r) = good-lacking (f .savebad) c w f s n e q g refl r
 good-of c w f g (lost l k) = held.lost l k
@@ -440,7 +559,7 @@ or-right true b h n = absurd (true≢false n)
 or-right false b h n = h
 
 pub bad-of : (c : Call) (w : World) (f : Frame) → isGood f ≡ false → f .savebad ≡ true → HeldFate f c w → BadFate f c w
-bad-of c w f g b (stays l n k) = held.stays l n k
+bad-of c w f g b (stays l n k m) = held.stays l n k m
 bad-of c w f g b (closing s free full n e q k) = held.stored s free full n e q (k .fates) (k .stored)
 bad-of c w f g b (lacking s n e q r) =
     let x = subst (Kept w s) r (kept w s (ap (λ (k : Frame). k .savebad) q ∙ b) (ap isGood q ∙ g)) in

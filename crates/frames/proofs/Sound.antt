@@ -160,7 +160,7 @@ one-ends w r f x h e k = ends w r e (ap (λ (fs : List Fate). length fs) k ∙ s
 
 good-went : (c : Call) (w : World) (f : Frame) → heldIn (unitOf w) ≡ f ∷ [] → (loses c w ≡ true → Lost w c → FatesOfHeld w (ran c w)) → GoodFate f c w
     → FatesOfHeld w (ran c w)
-good-went c w f h g (held.stays l n k) = keeps w (ran c w) (k .unit ∙ sym h) (k .fates)
+good-went c w f h g (held.stays l n k m) = keeps w (ran c w) (k .unit ∙ sym h) (k .fates)
 good-went c w f h g (held.stored s free full n e q x k) = one-ends w (ran c w) f fate.Stored h (k .gone) (ap heldFates x)
 good-went c w f h g (held.counted s n e q b x k) = one-ends w (ran c w) f fate.Counted h (k .gone) (ap heldFates x)
 good-went c w f h g (held.both s n e q b x k j) = one-ends w (ran c w) f fate.StoredCounted h (k .gone) (ap heldFates x)
@@ -168,7 +168,7 @@ good-went c w f h g (held.lost l k) = g l k
 
 bad-went : (c : Call) (w : World) (f : Frame) → heldIn (unitOf w) ≡ f ∷ [] → (loses c w ≡ true → Lost w c → FatesOfHeld w (ran c w)) → BadFate f c w
     → FatesOfHeld w (ran c w)
-bad-went c w f h g (held.stays l n k) = keeps w (ran c w) (k .unit ∙ sym h) (k .fates)
+bad-went c w f h g (held.stays l n k m) = keeps w (ran c w) (k .unit ∙ sym h) (k .fates)
 bad-went c w f h g (held.stored s free full n e q x k) = one-ends w (ran c w) f fate.Stored h (k .gone) (ap heldFates x)
 bad-went c w f h g (held.lacking s n e q x k) = one-ends w (ran c w) f fate.Stored h (k .gone) (ap heldFates x)
 bad-went c w f h g (held.lost l k) = g l k

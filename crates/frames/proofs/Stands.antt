@@ -247,7 +247,7 @@ exit-of : (c : Call) (w : World) (f : Frame) → length (w .holding) ≡ holding
     → NoOverlap (length (w .memory)) (pieces (unitOf w) w)
     → GoodFate f c w
     → GoodExit f c w
-exit-of c w f h l p (held.stays a b k) = exit.stays a b k
+exit-of c w f h l p (held.stays a b k m) = exit.stays a b k m
 exit-of c w f h l p (held.stored s free full n e q x k) =
     let o = subst (λ (u : Ru). NoOverlap (length (w .memory)) (pieces u w)) e p in
     exit.stored s free full n e q x
@@ -345,7 +345,7 @@ bad-exit-of : (c : Call) (w : World) (f : Frame) → length (w .holding) ≡ hol
     → NoOverlap (length (w .memory)) (badPieces (unitOf w) w)
     → BadFate f c w
     → BadExit f c w
-bad-exit-of c w f h l p (held.stays a b k) = exit.stays a b k
+bad-exit-of c w f h l p (held.stays a b k m) = exit.stays a b k m
 bad-exit-of c w f h l p (held.stored s free full n e q x k) =
     let o = subst (λ (u : Ru). NoOverlap (length (w .memory)) (badPieces u w)) e p in
     let y = s .el || full in

@@ -3,14 +3,16 @@
 use mathlib.Core.Path.{_≡_}
 use mathlib.Core.Bool.{Bool, true, false, _&&_, _||_}
 use mathlib.Core.List.{List, [], _∷_, _++_, map}
-use Prim.Native.Nat.{ℕ}
-use lib.Dec.{eqb}
-use lib.ListN.{length, take}
-use Rattle.memory.specs.Address.{place, offsetAt}
+use Prim.Native.Nat.{ℕ, _+_}
+use lib.Dec.{eqb, leb}
+use lib.ListN.{length, take, drop}
+use Rattle.memory.specs.Address.{place, offsetAt, isNone}
 use Rattle.memory.specs.Memory.{Write, bytesTo, wordTo, wordAt, countTo, apply}
 use Rattle.memory.specs.declared.Offset.{Offset}
 use Rattle.scb.specs.Words.{bit, scbStatusAt, scbCommandAt, statusWord, resets, ruc}
-use Rattle.device.specs.Limits.{header}
+use Rattle.device.specs.Answers.{answered}
+use Rattle.device.specs.Change.{withRu, servedRu, withUnits}
+use Rattle.device.specs.Limits.{header, heldFrom, mostBuffers}
 use Rattle.device.specs.State.{cuState, ruState, heldIn, fresh}
 use Rattle.device.specs.declared.Fate.{Fate}
 use Rattle.device.specs.declared.Fate.the-variants as fate
@@ -18,9 +20,12 @@ use Rattle.device.specs.declared.Frame.{Frame}
 use Rattle.device.specs.declared.Ru.{Ru}
 use Rattle.device.specs.declared.Ru.the-variants as ru
 use Rattle.device.specs.declared.Storing.{Storing}
-use Rattle.receive.specs.Begin.{isBare}
+use Rattle.device.specs.declared.Walk.{Walk}
+use Rattle.receive.specs.Begin.{begunBy, isBare, toFirst}
+use Rattle.receive.specs.Buffer.{descriptorAt, count, past, isDone, afterBuffer, filledWord}
 use Rattle.receive.specs.End.{frameStatus, bareMark}
-use Rattle.control.specs.Control.{abortedRu}
+use Rattle.receive.specs.declared.Descriptor.{Descriptor}
+use Rattle.control.specs.Control.{ruSuspend, abortedRu}
 use Rattle.control.specs.Obey.{obeyCuc}
 use Rattle.attention.specs.Attention.{settledWrites}
 use Rattle.chip.specs.Call.{Call, reset, attention, arrive, turn, ran}
@@ -77,11 +82,18 @@ endIsNext (ru.Filling s w) = false
 endIsNext (ru.Closing s free full) = true
 endIsNext (ru.Lacking s) = true
 
+-- the call is a turn that goes to the receive unit: the held frame's own service
+abbrev pub isServed : Call → World → Bool
+isServed reset w = false
+isServed attention w = false
+isServed (arrive f v) w = false
+isServed (turn report) w = isReceive (servedOf (w .device .units))
+
 abbrev pub ends : Call → World → Bool
 ends reset w = false
 ends attention w = false
 ends (arrive f v) w = false
-ends (turn report) w = isReceive (servedOf (w .device .units)) && endIsNext (unitOf w)
+ends (turn report) w = isServed (turn report) w && endIsNext (unitOf w)
 
 -- ---- it stays held
 
@@ -90,6 +102,64 @@ pub record StaysHeld (f : Frame) (w : World) (r : Ran) : Type 0 where
   pub unit : heldIn (r .outcome .device .units .ru) ≡ f ∷ []
   pub holding : r .holding ≡ w .holding
   pub fates : heldFates (r .outcome .fates) ≡ []
+
+-- ---- its own service, short of its end: 01, "Arrival and storing": begin, and each buffer turn
+
+-- begin: 4000h at its descriptor
+abbrev pub begunTo : World → Offset → Write
+begunTo w fd = wordTo (place (w .device .units .base) fd 0) 0x4000
+
+-- +2 and +6 are read: storing comes to the first buffer, or the end is next
+abbrev pub begunUnit : World → Offset → Frame → (pausing : Bool) → Ru
+begunUnit w fd f pausing =
+    let first = offsetAt (w .memory) (place (w .device .units .base) fd 6) in
+    toFirst (isBare f) (isNone first) (begunBy fd f pausing (wordAt (w .memory) (place (w .device .units .base) fd 2))) first
+
+-- a buffer: one descriptor is read whole
+abbrev pub bufferIn : World → Walk → Descriptor
+bufferIn w k = descriptorAt (w .device .units .base) (k .next) (w .memory)
+
+-- its buffer is filled, at its real address: so many bytes of the holding area, from where storing has come to
+abbrev pub dataTo : World → Storing → Walk → Write
+dataTo w s k = bytesTo (bufferIn w k .buffer .0) (take (count s k (bufferIn w k)) (drop (heldFrom + k .filled) (w .holding)))
+
+-- then F, count, and EOF if the data ends there
+abbrev pub filledTo : World → Storing → Walk → Write
+filledTo w s k =
+    wordTo (place (w .device .units .base) (k .next) 0) (filledWord (isDone s (past s k (bufferIn w k))) (count s k (bufferIn w k)))
+
+-- storing comes so much further, or the end is next
+abbrev pub filledUnit : World → Storing → Walk → Ru
+filledUnit w s k =
+    let d = bufferIn w k in
+    afterBuffer (isDone s (past s k d)) (d .el) (isNone (d .next)) (leb mostBuffers (k .used + 1)) s (past s k d)
+
+-- memory changes by these writes and by nothing else, none of them a counter's; both areas are as they were; nothing is sent, there is no edge and no
+-- fate; of the record the receive unit changes, and that it was the one served: the events are as before
+pub record OnlyWrites (next : Ru) (writes : List Write) (w : World) (r : Ran) : Type 0 where
+  pub memory : r .memory ≡ apply writes (w .memory)
+  pub holding : r .holding ≡ w .holding
+  pub outgoing : r .outgoing ≡ w .outgoing
+  pub answer : r .outcome .answer ≡ answered 0 false
+  pub fates : r .outcome .fates ≡ []
+  pub device : r .outcome .device ≡ withUnits (w .device) (servedRu (withRu (w .device .units) next) true)
+
+pub data Serves (f : Frame) (w : World) (r : Ran) : Type 0 where
+  begin : (fd : Offset) (pausing : Bool) → unitOf w ≡ ru.Held fd f pausing → OnlyWrites (begunUnit w fd f pausing) (begunTo w fd ∷ []) w r
+      → Serves f w r
+  buffer : (s : Storing) (k : Walk) → unitOf w ≡ ru.Filling s k → s .frame ≡ f
+      → OnlyWrites (filledUnit w s k) (dataTo w s k ∷ filledTo w s k ∷ []) w r
+      → Serves f w r
+
+-- any other call leaves how far storing has come; by an attention with RUC 3 a SUSPEND comes to wait
+pub data Waits (w : World) : Call → Type 0 where
+  untouched : (c : Call) → ran c w .outcome .device .units .ru ≡ unitOf w → Waits w c
+  suspends : ruc (commandOf w) ≡ 3 → ran attention w .outcome .device .units .ru ≡ ruSuspend (unitOf w) → Waits w attention
+
+-- what a call that leaves it held does with it
+pub data Meanwhile (f : Frame) (c : Call) (w : World) : Type 0 where
+  served : isServed c w ≡ true → Serves f w (ran c w) → Meanwhile f c w
+  unserved : isServed c w ≡ false → Waits w c → Meanwhile f c w
 
 -- ---- they are held no more: so much is there wherever held frames' fates are given: of the frames that were held the oldest are gone, as many as
 -- have a fate, and the others stay
@@ -178,7 +248,7 @@ pub data Lost (w : World) : Call → Type 0 where
 -- ---- what becomes of a good one: stored exactly at the end of what has buffers enough, both exactly if kept with too few buffers
 
 pub data GoodFate (f : Frame) (c : Call) (w : World) : Type 0 where
-  stays : loses c w ≡ false → ends c w ≡ false → StaysHeld f w (ran c w) → GoodFate f c w
+  stays : loses c w ≡ false → ends c w ≡ false → StaysHeld f w (ran c w) → Meanwhile f c w → GoodFate f c w
   stored : (s : Storing) (free : Offset) (full : Bool) → ends c w ≡ true → unitOf w ≡ ru.Closing s free full → s .frame ≡ f
       → ran c w .outcome .fates ≡ fate.Stored ∷ []
       → Stored false s (bareTo w s ++ (onward w s free full ++ statusAfter w (ran c w))) w (ran c w)
@@ -197,7 +267,7 @@ pub data GoodFate (f : Frame) (c : Call) (w : World) : Type 0 where
 -- ---- what becomes of a bad one, which is held only to be saved: no write of its end turn is a counter's
 
 pub data BadFate (f : Frame) (c : Call) (w : World) : Type 0 where
-  stays : loses c w ≡ false → ends c w ≡ false → StaysHeld f w (ran c w) → BadFate f c w
+  stays : loses c w ≡ false → ends c w ≡ false → StaysHeld f w (ran c w) → Meanwhile f c w → BadFate f c w
   stored : (s : Storing) (free : Offset) (full : Bool) → ends c w ≡ true → unitOf w ≡ ru.Closing s free full → s .frame ≡ f
       → ran c w .outcome .fates ≡ fate.Stored ∷ []
       → Stored false s (bareTo w s ++ (onward w s free full ++ statusAfter w (ran c w))) w (ran c w)

@@ -20,7 +20,7 @@ use Rattle.receive.specs.End.{frameStatus}
 use Rattle.chip.specs.Call.{Call, ran}
 use Rattle.chip.specs.World.{World, Ran}
 use Rattle.frames.specs.Arrival.{inScb, unitOf}
-use Rattle.frames.specs.Held.{inFrame, described, loses, ends, StaysHeld, Lost}
+use Rattle.frames.specs.Held.{inFrame, described, loses, ends, StaysHeld, Meanwhile, Lost}
 
 -- in a memory of n bytes no write lies over another
 abbrev pub Separate : ℕ → List Write → Type 0
@@ -95,7 +95,7 @@ pieces (ru.Lacking s) w = lackingPieces (s .frame .savebad) w s
 
 -- what becomes of a good frame, as facts about memory at exit
 pub data GoodExit (f : Frame) (c : Call) (w : World) : Type 0 where
-  stays : loses c w ≡ false → ends c w ≡ false → StaysHeld f w (ran c w) → GoodExit f c w
+  stays : loses c w ≡ false → ends c w ≡ false → StaysHeld f w (ran c w) → Meanwhile f c w → GoodExit f c w
   stored : (s : Storing) (free : Offset) (full : Bool) → ends c w ≡ true → unitOf w ≡ ru.Closing s free full → s .frame ≡ f
       → ran c w .outcome .fates ≡ fate.Stored ∷ []
       → StoredStands false s w (ran c w)
@@ -136,7 +136,7 @@ pub record SavedStands (lacking : Bool) (s : Storing) (w : World) (r : Ran) : Ty
 
 -- what becomes of a bad frame, as facts about memory at exit
 pub data BadExit (f : Frame) (c : Call) (w : World) : Type 0 where
-  stays : loses c w ≡ false → ends c w ≡ false → StaysHeld f w (ran c w) → BadExit f c w
+  stays : loses c w ≡ false → ends c w ≡ false → StaysHeld f w (ran c w) → Meanwhile f c w → BadExit f c w
   stored : (s : Storing) (free : Offset) (full : Bool) → ends c w ≡ true → unitOf w ≡ ru.Closing s free full → s .frame ≡ f
       → ran c w .outcome .fates ≡ fate.Stored ∷ []
       → SavedStands false s w (ran c w)
