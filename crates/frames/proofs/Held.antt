@@ -522,12 +522,16 @@ reset-lost : (w : World) → Lost w reset
 unfolding resetOf
 reset-lost w = by-reset refl refl
 
+-- a turn, whether the device is initialised or not
+pub turn-fate : (w : World) (f : Frame) (report : ℕ) → heldIn (unitOf w) ≡ f ∷ [] → HeldFate f (turn report) w
+turn-fate w f report h = at-turn (cuWorks (w .device .units .cu)) (w .device .units .rulast) w f report h refl refl
+
 pub held-fate : (c : Call) (w : World) (f : Frame) → w .device .units .initialised ≡ true → heldIn (unitOf w) ≡ f ∷ [] → HeldFate f c w
 held-fate reset w f i h = lost refl (reset-lost w)
 held-fate attention w f i h = at-attention (resets (commandOf w)) (eqb (ruc (commandOf w)) 4) w f h i refl refl
 held-fate (arrive bs v) w f i h =
     stays refl refl (at-arrival w f bs v h) (unserved refl (untouched (arrive bs v) (arrival-untouched w f bs v h)))
-held-fate (turn report) w f i h = at-turn (cuWorks (w .device .units .cu)) (w .device .units .rulast) w f report h refl refl
+held-fate (turn report) w f i h = turn-fate w f report h
 
 -- ---- a good one
 

@@ -6,10 +6,8 @@ use Prim.Native.Nat.{ℕ, _≤_, _<_}
 use native.Mathlib.Omega.{arith}
 use lib.Dec.{lit≤}
 use Rattle.device.specs.State.{isHolding, heldIn}
-use Rattle.device.proofs.Laws.{some-held}
 use Rattle.device.specs.declared.Fate.{Fate}
 use Rattle.device.specs.declared.Frame.{Frame}
-use Rattle.device.specs.declared.Ru.{Ru}
 use Rattle.chip.specs.World.{World, afterwards}
 use Rattle.chip.specs.Call.{reset, attention, arrive, turn}
 use Rattle.chip.specs.Turn.{turnOf}
@@ -21,7 +19,8 @@ use Rattle.held.specs.Held.{framesIn, isToHold, isSettled, fatesAt, Held
 use Rattle.progress.proofs.Holder.{ends-within}
 use Rattle.held.proofs.Service as service
 use Rattle.held.proofs.Service.{leftOf, left-positive, left-most, Serving}
-use Rattle.held.proofs.Turn.{receives, receive-last, Passes, passes, isReceiving, turn-received, turn-commanded, arrival-unit, arrival-last}
+use Rattle.held.proofs.Turn.{receives, receive-last, isReceiving, holding, turn-received, turn-commanded, passing, arrival-unit, arrival-last}
+use Rattle.held.proofs.Ending.{ending}
 
 -- ---- what is noted of held frames: each fate, with the frames that were held then
 
@@ -81,10 +80,6 @@ Kept e w = step e w .device .units .ru ≡ w .device .units .ru
 stays : (e : Event) (w : World) → isHolding (w .device .units .ru) ≡ true → fatesAt e w ≡ [] → Kept e w → Stays holder e w
 stays e w h z k = record { none = rw z; holds = rw k h; same = ap heldIn k; count = ap leftOf k }
 
--- a turn that goes to the command unit
-pub passing : (w : World) (report : ℕ) → isHolding (w .device .units .ru) ≡ true → isReceiving (w .device .units) ≡ false → Passes w (turnOf w report)
-passing w report h v = rw (turn-commanded w report h v .0) (passes w report)
-
 pass : (e : Event) (w : World) → WhileHeld e w → isHolding (w .device .units .ru) ≡ true → isTurn e ≡ true → isReceiving (w .device .units) ≡ false
     → Stays holder e w × (w .device .units .rulast ≡ true) × (step e w .device .units .rulast ≡ false)
 pass (call reset) w y h t v = absurd (false≢true t)
@@ -107,9 +102,6 @@ pub laws : ending.Laws holder WhileHeld
 laws = record { positive = λ w. left-positive (w .device .units .ru); serve = serve; pass = pass; between = between }
 
 -- ---- the statement
-
-pub holding : (u : Ru) (f : Frame) → heldIn u ≡ f ∷ [] → isHolding u ≡ true
-holding u f e = some-held u f [] e
 
 -- nothing is noted: nothing is made of the frame
 pub no-note : (φs : List Fate) (xs : List Frame) → notes φs xs ≡ [] → φs ≡ []
@@ -169,6 +161,7 @@ settle n f es w before (call (turn report)) after t s l h i φ g =
       fate = φ;
       given = g;
       settled = r .0;
+      ending = ending (run step before w) report f φ (held-last f before w h) t g;
       free = r .1;
     }
 settle n f es w before (host m b out) after t s l h i φ g = absurd (false≢true i)

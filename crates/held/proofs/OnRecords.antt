@@ -44,9 +44,10 @@ use Rattle.held.specs.Held as held
 use Rattle.held.specs.OnRecords.{framesKept, fatesBy, fatesAt, HeldAlong, Settled, Within}
 use Rattle.progress.proofs.Holder.{ends-within}
 use Rattle.held.proofs.Service.{leftOf, left-positive, left-most}
-use Rattle.held.proofs.Turn.{isReceiving}
+use Rattle.held.proofs.Turn.{isReceiving, holding}
+use Rattle.held.proofs.Ending.{ending}
 use Rattle.held.proofs.Held as states
-use Rattle.held.proofs.Held.{Note, notes, a-note, no-note, holder, holding}
+use Rattle.held.proofs.Held.{Note, notes, a-note, no-note, holder}
 
 -- ---- what an accepted call does
 
@@ -121,7 +122,7 @@ unit-to-hold (ru.Closing s o full) f e h =
 unit-to-hold (ru.Lacking s) f e h =
     rw (← head-eq-of-cons-eq h) (frame-to-hold (s .frame) (both (frameFits (s .frame)) (ltb header (s .frame .length)) e .0))
 
-to-hold : (d : Device) (f : Frame) → inRange d ≡ true → heldIn (d .units .ru) ≡ f ∷ [] → isToHold f ≡ true
+pub to-hold : (d : Device) (f : Frame) → inRange d ≡ true → heldIn (d .units .ru) ≡ f ∷ [] → isToHold f ≡ true
 unfolding inRange unitsFit
 to-hold d f e h =
     let u = d .units in
@@ -303,7 +304,8 @@ settle k n f ls a before (turn report) x after y s l h e i φ g =
     let now : framesIn (worldSaid x) ≡ f ∷ [] =
     ap (λ (u : Units). heldIn (u .ru)) (units-in x) ∙ ap framesKept (z .kept) ∙ kept-last f before a h in
     let given : turnOf (worldSaid x) report .outcome .fates ≡ φ ∷ [] = sym (ap (λ (q : Bool). fatesBy q (turn report) (worldSaid x)) e) ∙ g in
-    let end = states.end-turn (worldSaid x) report f φ now (to-hold (worldSaid x .device) f (m .range) now) given in
+    let saves : isToHold f ≡ true = to-hold (worldSaid x .device) f (m .range) now in
+    let end = states.end-turn (worldSaid x) report f φ now saves given in
     record {
       before = before;
       report = report;
@@ -318,6 +320,7 @@ settle k n f ls a before (turn report) x after y s l h e i φ g =
       fate = φ;
       given = given;
       settled = end .0;
+      ending = ending (worldSaid x) report f φ now saves given;
       free = ap (λ (u : Units). heldIn (u .ru)) (units-left k t (run left before a) e z) ∙ end .1;
     }
 

@@ -1,12 +1,13 @@
 -- One event with a frame held: what it makes of the frame. Assumes nothing.
 use mathlib.Core.Path.{_≡_, refl}
 use mathlib.Core.Bool.{Bool, true, false, true≢false, false≢true}
-use mathlib.Core.List.{List, []}
+use mathlib.Core.List.{List, [], _∷_}
 use Prim.Native.Nat.{ℕ}
 use lib.Dec.{ltb}
 use lib.ListN.{length}
 use Rattle.device.specs.Limits.{header}
-use Rattle.device.specs.State.{isHolding, cuWorks, ruWorks}
+use Rattle.device.specs.State.{isHolding, heldIn, cuWorks, ruWorks}
+use Rattle.device.proofs.Laws.{some-held}
 use Rattle.device.specs.Answers.{isHeld}
 use Rattle.device.specs.declared.Frame.{Frame}
 use Rattle.device.specs.declared.Ru.{Ru}
@@ -23,6 +24,9 @@ use Rattle.chip.specs.declared.Served.the-variants as served
 use Rattle.chip.specs.Turn.{servedBy, servedOf, isReceive, concluded, commandTurn, receiveTurn, turnBy, turnOf}
 use Rattle.held.specs.Held.{framesIn}
 use Rattle.held.proofs.Service.{leftOf, Serving, serves}
+
+pub holding : (u : Ru) (f : Frame) → heldIn u ≡ f ∷ [] → isHolding u ≡ true
+holding u f e = some-held u f [] e
 
 -- ---- the two turns
 
@@ -74,6 +78,9 @@ pub turn-commanded : (w : World) (report : ℕ) → isHolding (w .device .units 
 unfolding turnOf
 turn-commanded w report r h =
     commanded-by (cuWorks (w .device .units .cu)) (ruWorks (w .device .units .ru)) (w .device .units .rulast) w report r h
+
+pub passing : (w : World) (report : ℕ) → isHolding (w .device .units .ru) ≡ true → isReceiving (w .device .units) ≡ false → Passes w (turnOf w report)
+passing w report h v = rw (turn-commanded w report h v .0) (passes w report)
 
 -- ---- an arrival: a frame that is already held stays, and another one is not held
 

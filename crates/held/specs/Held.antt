@@ -1,6 +1,6 @@
 -- Demand 3, second half, over states: a held frame is stored or counted within so many turns. Assumes nothing.
 use mathlib.Core.Path.{_≡_}
-use mathlib.Core.Bool.{Bool, true, _||_}
+use mathlib.Core.Bool.{Bool, true, false, _||_}
 use mathlib.Core.List.{List, [], _∷_, _++_}
 use Prim.Native.Nat.{ℕ, _≤_, _<_}
 use Rattle.device.specs.Answers.{counterOf, isStored, isCounter}
@@ -12,6 +12,7 @@ use Rattle.chip.specs.Call.{reset, attention, arrive, turn}
 use Rattle.chip.specs.Turn.{turnOf}
 use Rattle.progress.specs.Trace.{run, AllMay, turns}
 use Rattle.traces.specs.Event.{Event, call, host, step, isTurn, WhileHeld}
+use Rattle.frames.specs.Held.{ends, GoodFate, BadFate}
 
 -- ---- the held frame
 
@@ -44,6 +45,13 @@ HeldAlong f (e ∷ es) w = (framesIn w ≡ f ∷ []) × (fatesAt e w ≡ []) × 
 
 -- ---- the statement
 
+-- a turn that ends the storing of the frame f: it is stored, counted, or both, in memory and record as said of every call while a frame is held. The
+-- turn ends it, so that nothing else of what is said there is possible
+pub record Ending (f : Frame) (report : ℕ) (w : World) : Type 0 where
+  pub at-end : ends (turn report) w ≡ true
+  pub good : isGood f ≡ true → GoodFate f (turn report) w
+  pub bad : isGood f ≡ false → BadFate f (turn report) w
+
 -- one of the first n turns of a trace settles the frame f, which is held until then and no longer
 pub record Settled (n : ℕ) (f : Frame) (es : List Event) (w : World) : Type 0 where
   pub before : List Event
@@ -55,6 +63,8 @@ pub record Settled (n : ℕ) (f : Frame) (es : List Event) (w : World) : Type 0 
   pub fate : Fate
   pub given : turnOf (run step before w) report .outcome .fates ≡ fate ∷ []
   pub settled : isSettled fate ≡ true
+  -- what is written then, and what the record says
+  pub ending : Ending f report (run step before w)
   pub free : framesIn (afterwards (turnOf (run step before w) report)) ≡ []
 
 -- a held frame is stored or counted within n turns, if the record is kept and no attention or reset comes: whatever arrives, and whatever

@@ -1,4 +1,3 @@
 -- Demand 3, second half: the held frame, over states and over records.
 pub mod Held
 pub mod OnRecords
-pub mod Effects

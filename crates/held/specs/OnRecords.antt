@@ -14,7 +14,7 @@ use Rattle.progress.specs.Trace.{run, turns}
 use Rattle.traces.specs.Event.{call, WhileHeld}
 use Rattle.traces.specs.Areas.{unitsIn, worldSaid}
 use Rattle.traces.specs.Driven.{Lending, lending, refusedAt, left, isTaken, Drive, turnsDriven, unrolled, AllFair, AllFairDrive}
-use Rattle.held.specs.Held.{isSettled}
+use Rattle.held.specs.Held.{isSettled, Ending}
 use Rattle.held.specs.Held as held
 
 -- ---- what becomes of the frames that a record holds
@@ -53,6 +53,7 @@ pub record Settled (n : ℕ) (f : Frame) (ls : List Lending) (a : Areas) : Type 
   pub fate : Fate
   pub given : turnOf (worldSaid areas) report .outcome .fates ≡ fate ∷ []
   pub settled : isSettled fate ≡ true
+  pub ending : Ending f report (worldSaid areas)
   pub free : framesKept (turnCall areas report .areas .kept) ≡ []
 
 -- the frame that a record holds is stored or counted within n turns that are not refused, if the record is kept and no attention or reset comes.
