@@ -50,7 +50,7 @@ use Rattle.frames.specs.Arrival.{RightLengths, unitOf, judgedAs, shortBy
 use Rattle.frames.specs.Arrival as arrival
 use Rattle.frames.specs.Held.{loses, isServed, ends, endIsNext, StaysHeld, begunUnit, bufferIn, dataTo, filledUnit, Serves, Waits, untouched, suspends, Meanwhile, served, unserved}
 use Rattle.frames.specs.Held as held
-use Rattle.frames.specs.Data.{Staying, fillsBy, fillsAt, fillsAlong, together, dataWithin, dataOf, Got, all, beginning, Delivered, ArrivedDelivered, EndLent, upTo}
+use Rattle.frames.specs.Data.{Staying, fillsBy, fillsAt, fillsAlong, together, AllMeanwhile, dataWithin, dataOf, Got, all, beginning, Delivered, ArrivedDelivered, EndLent, upTo}
 use Rattle.frames.proofs.Arrival.{arrival-fate}
 use Rattle.frames.proofs.Held.{HeldFate, stays, closing, lacking, lost, held-fate}
 use Rattle.frames.proofs.Sound.{Sound, in-range-sound, sound-initialised, call-sound, good-sound, bad-sound}
@@ -212,10 +212,11 @@ meanwhile-on c w f got h (unserved v x) = waits-on c w f got v h x
 record Stayed (f : Frame) (got : List ℕ) (c : Call) (w : World) : Type 0 where
   holding : ran c w .holding ≡ w .holding
   sofar : On f got c w
+  meanwhile : Meanwhile f c w
 
 stayed : (c : Call) (w : World) (f : Frame) (got : List ℕ) → loses c w ≡ false → ends c w ≡ false → Sofar f (w .holding) got (unitOf w) → HeldFate f c w
     → Stayed f got c w
-stayed c w f got l n h (stays a b k m) = record { holding = k .holding; sofar = meanwhile-on c w f got h m }
+stayed c w f got l n h (stays a b k m) = record { holding = k .holding; sofar = meanwhile-on c w f got h m; meanwhile = m }
 stayed c w f got l n h (closing s free full b e q k) = absurd (true≢false (sym b ∙ n))
 stayed c w f got l n h (lacking s b e q r) = absurd (true≢false (sym b ∙ n))
 stayed c w f got l n h (lost a k) = absurd (true≢false (sym a ∙ l))
@@ -232,13 +233,17 @@ record Along (f : Frame) (area got : List ℕ) (w : World) : Type 0 where
   holding : w .holding ≡ area
   sofar : Sofar f area got (unitOf w)
 
+one-call : (c : Call) (w : World) (f : Frame) (area got : List ℕ) → Staying (call c) w → Along f area got w → Stayed f got c w
+one-call c w f area got m a =
+    let h = subst (λ (x : List ℕ). Sofar f x got (unitOf w)) (sym (a .holding)) (a .sofar) in
+    let i = sound-initialised (w .device) f (a .sound) (sofar-held f (w .holding) got (unitOf w) h) in
+    stayed c w f got (m .0) (m .1) h (held-fate c w f i (sofar-held f (w .holding) got (unitOf w) h))
+
 one-event : (e : Event) (w : World) (f : Frame) (area got : List ℕ) → Staying e w → Along f area got w
     → Along f area (got ++ together (fillsAt e w)) (step e w)
 unfolding On
 one-event (call c) w f area got m a =
-    let h = subst (λ (x : List ℕ). Sofar f x got (unitOf w)) (sym (a .holding)) (a .sofar) in
-    let i = sound-initialised (w .device) f (a .sound) (sofar-held f (w .holding) got (unitOf w) h) in
-    let k = stayed c w f got (m .0) (m .1) h (held-fate c w f i (sofar-held f (w .holding) got (unitOf w) h)) in
+    let k = one-call c w f area got m a in
     record {
       sound = call-sound c w (a .sound);
       holding = k .holding ∙ a .holding;
@@ -252,6 +257,15 @@ along : (es : List Event) (w : World) (f : Frame) (area got : List ℕ) → AllM
 along [] w f area got m a = record { sound = a .sound; holding = a .holding; sofar = rw append-nil (a .sofar) }
 along (e ∷ es) w f area got m a =
     rw (together-append, ← append-assoc) (along es (step e w) f area (got ++ together (fillsAt e w)) (m .1) (one-event e w f area got (m .0) a))
+
+meanwhile : (es : List Event) (w : World) (f : Frame) (area got : List ℕ) → AllMay Staying step es w → Along f area got w → AllMeanwhile f es w
+meanwhile [] w f area got m a = tt
+meanwhile (call c ∷ es) w f area got m a = (
+  one-call c w f area got (m .0) a .meanwhile,
+  meanwhile es (step (call c) w) f area (got ++ together (fillsAt (call c) w)) (m .1) (one-event (call c) w f area got (m .0) a),
+)
+meanwhile (host n x out ∷ es) w f area got m a =
+    meanwhile es (step (host n x out) w) f area (got ++ []) (m .1) (one-event (host n x out) w f area got (m .0) a)
 
 -- ---- when the end turn is next
 
@@ -274,6 +288,7 @@ sound-delivered w fd f p es report s e m n =
     let a = along es w f (w .holding) [] m first in
     let h = sofar-held f (w .holding) _ (unitOf (run step es w)) (a .sofar) in
     record {
+      along = meanwhile es w f (w .holding) [] m first;
       holding = a .holding;
       got = ending (unitOf (run step es w)) f (w .holding) _ (parts (isServed (turn report) (run step es w)) _ n .1) (a .sofar);
       good = good-sound (turn report) (run step es w) f (a .sound) h;

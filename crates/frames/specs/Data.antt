@@ -1,5 +1,5 @@
--- Held to be stored, byte for byte: what the buffers get of a frame while it is held, put together, is its data. 01, "Arrival and storing": each buffer
--- turn fills its buffer; data left: out of buffers. Assumes nothing.
+-- Held to be stored, byte for byte: what the buffers get of a frame while it is held, put together, is its data. 01, "Arrival and storing": each
+-- buffer turn fills its buffer; data left: out of buffers. Assumes nothing.
 use mathlib.Core.Path.{_≡_}
 use mathlib.Core.Bool.{Bool, true, false}
 use mathlib.Core.List.{List, [], _∷_, _++_}
@@ -22,12 +22,12 @@ use Rattle.traces.specs.Bytes.{called, isRefused}
 use Rattle.traces.specs.Driven.{Lending, hostOf, eventsOf}
 use Rattle.traces.specs.Event.{Event, call, host, step}
 use Rattle.frames.specs.Arrival.{unitOf}
-use Rattle.frames.specs.Held.{loses, ends, isServed, dataTo, GoodFate, BadFate}
+use Rattle.frames.specs.Held.{loses, ends, isServed, dataTo, Meanwhile, GoodFate, BadFate}
 
 -- ---- which events leave the frame held, and its bytes alone
 
--- a call that neither loses it nor ends it, so attentions that neither reset nor abort may come; the host keeps the holding area, and makes what it will
--- of memory, its size too, and of the outgoing area
+-- a call that neither loses it nor ends it, so attentions that neither reset nor abort may come; the host keeps the holding area, and makes what it
+-- will of memory, its size too, and of the outgoing area
 abbrev pub Staying : Event → World → Type 0
 Staying (call c) w = (loses c w ≡ false) × (ends c w ≡ false)
 Staying (host m h out) w = h ≡ w .holding
@@ -60,6 +60,12 @@ abbrev pub together : List Write → List ℕ
 together [] = []
 together (x ∷ xs) = x .bytes ++ together xs
 
+-- these are what is written: at every call on the way the frame's own service writes what is said, and any other call leaves how far storing has come
+abbrev pub AllMeanwhile : Frame → List Event → World → Type 0
+AllMeanwhile f [] w = Unit {0}
+AllMeanwhile f (call c ∷ es) w = Meanwhile f c w × AllMeanwhile f es (step (call c) w)
+AllMeanwhile f (host m h out ∷ es) w = AllMeanwhile f es (step (host m h out) w)
+
 -- ---- the data of a frame
 
 -- of a frame that begins at `at` in an area: what of its first n bytes stands behind its header of h bytes
@@ -75,11 +81,13 @@ dataOf f area = dataWithin heldFrom header (f .length) area
 -- buffers enough: the buffers got all of the data. Out of buffers: so many bytes of it from its beginning, and fewer than it has
 pub data Got (f : Frame) (whole got : List ℕ) (u : Ru) : Type 0 where
   all : (s : Storing) (free : Offset) (full : Bool) → u ≡ ru.Closing s free full → s .frame ≡ f → got ≡ whole → Got f whole got u
-  beginning : (s : Storing) (n : ℕ) → u ≡ ru.Lacking s → s .frame ≡ f → n < f .length - header → got ≡ take n whole → Got f whole got u
+  beginning : (s : Storing) (n : ℕ) → u ≡ ru.Lacking s → s .frame ≡ f → n < f .length - header → got ≡ take n whole
+      → Got f whole got u
 
--- the frame f, whose data is `whole`, was held along the events of a trace: the turn that comes next finds its bytes in the holding area still, the
--- buffers have got what is said, and it makes of the frame what is said of a held one, which at an end is stored, counted or both
+-- the frame f, whose data is `whole`, was held along the events of a trace, and the turn that comes next ends it: that turn finds its bytes in the
+-- holding area still, the buffers have got what is said, and of the frame becomes what is said of a held one, at an end stored, counted or both
 pub record Delivered (f : Frame) (whole : List ℕ) (es : List Event) (w : World) (report : ℕ) : Type 0 where
+  pub along : AllMeanwhile f es w
   pub holding : run step es w .holding ≡ w .holding
   pub got : Got f whole (together (fillsAlong es w)) (unitOf (run step es w))
   pub good : isGood f ≡ true → GoodFate f (turn report) (run step es w)
