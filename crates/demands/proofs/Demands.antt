@@ -1,7 +1,7 @@
 -- The three demands and the inspector's list, sentence by sentence. That every call ends and does nothing undefined is what the check of the code
 -- says of all functions; what each exported call promises is in crates/lentoquist/src/lib.rt. Assumes nothing.
 use mathlib.Core.Path.{_≡_}
-use mathlib.Core.Bool.{true, false}
+use mathlib.Core.Bool.{Bool, true, false}
 use mathlib.Core.List.{List, [], _∷_, _++_}
 use Prim.Native.Nat.{ℕ, _+_, _*_, _≤_, _<_}
 use lib.ListN.{length}
@@ -10,6 +10,7 @@ use Rattle.memory.specs.declared.Offset.{Offset}
 use Rattle.memory.proofs.Bytes.{Bytes}
 use Rattle.scb.specs.Words.{cblAt}
 use Rattle.device.specs.State.{isHolding, heldIn, isGood}
+use Rattle.device.specs.declared.Counter.{Counter}
 use Rattle.device.specs.declared.Counter.the-variants as counter
 use Rattle.device.specs.declared.Device.{Device}
 use Rattle.device.specs.declared.Fate.the-variants as fate
@@ -21,13 +22,13 @@ use Rattle.image.specs.Ranges.{inRange}
 use Rattle.control.specs.Obey.{ofScb}
 use Rattle.chip.specs.World.{World, afterwards}
 use Rattle.chip.specs.Arrival.{arrivalOf}
-use Rattle.chip.specs.Call.{Call, attention, ran}
-use Rattle.calls.specs.Calls.{Areas, Called, turnCall, runCall}
-use Rattle.progress.specs.Trace.{run, turns}
+use Rattle.chip.specs.Call.{Call, attention, arrive, turn, ran}
+use Rattle.calls.specs.Calls.{Areas, Called, onBytes, turnCall, runCall}
+use Rattle.progress.specs.Trace.{run, AllMay, turns}
 use Rattle.progress.specs.Machine.{Undisturbed}
 use Rattle.traces.specs.Event.{Event, call, step, DuringList}
 use Rattle.traces.specs.Bytes.{called, number, isRefused}
-use Rattle.traces.specs.Areas.{FrameBytes, AreBytes, Holds, worldIn, Shows}
+use Rattle.traces.specs.Areas.{FrameBytes, AreBytes, Holds, worldIn, worldSaid, Shows}
 use Rattle.traces.specs.Driven.{Lending, left, isTaken, eventsOf, Drive, leftDriven, turnsDriven, unrolled, AllFair, AllFairDrive}
 use Rattle.closure.specs.Sound.{Sound}
 use Rattle.closure.specs.Refusals.{When, Seen, Untouched}
@@ -39,12 +40,14 @@ use Rattle.closure.proofs.Closed as closure
 use Rattle.closure.proofs.Carried as carried
 use Rattle.closure.proofs.Turns as run-of-turns
 use Rattle.frames.specs.Arrival as arrival
-use Rattle.frames.specs.Held.{GoodFate, BadFate}
+use Rattle.frames.specs.Held.{ends, GoodFate, BadFate}
 use Rattle.frames.specs.Fates.{Deed, Scene, namesOf, opening, still, advance, beginnings, endings, times, timesFated, timesAltered, AllFates}
 use Rattle.frames.specs.Stands.{NoOverlap, pieces, GoodExit}
+use Rattle.frames.specs.Data.{Staying, dataOf, Delivered, ArrivedDelivered, EndLent, upTo}
 use Rattle.frames.proofs.Arrival as arrivals
 use Rattle.frames.proofs.Held as holdings
 use Rattle.frames.proofs.Stands as exits
+use Rattle.frames.proofs.Data as stored
 use Rattle.frames.proofs.Fates as fates
 use Rattle.lists.specs.Uses.{Listed, firstOf}
 use Rattle.lists.specs.Unit.{machine}
@@ -126,7 +129,8 @@ or-is-counted = arrivals.overrun
 pub every-arrival : (w : World) (f : List ℕ) (v : ℕ) → arrival.RightLengths w f → arrival.ArrivalFate w f v (arrivalOf w f v)
 every-arrival = arrivals.arrival-fate
 
--- a held good frame stays held, is stored, or is counted, "both, if kept with too few buffers", or is lost by an abort or a reset
+-- a held good frame stays held, is stored, or is counted, "both, if kept with too few buffers", or is lost by an abort or a reset. While it stays held
+-- its own turns write 4000h at begin, and a buffer with its F, count and EOF, and nothing else: no counter, no event
 pub a-held-good-frame : (c : Call) (w : World) (f : Frame) → inRange (w .device) ≡ true → heldIn (arrival.unitOf w) ≡ f ∷ [] → isGood f ≡ true
     → GoodFate f c w
 a-held-good-frame = holdings.good-held
@@ -141,6 +145,41 @@ pub stored-and-counted-at-exit : (c : Call) (w : World) (f : Frame) → arrival.
     → NoOverlap (length (w .memory)) (pieces (arrival.unitOf w) w)
     → GoodExit f c w
 stored-and-counted-at-exit = exits.good-exit
+
+-- "is held to be stored": while it stays held, what its own turns write to the buffers is its data, byte for byte. With buffers enough all of it, out of
+-- buffers a proper beginning of it, by the turn that ends it; whatever else is called that neither loses it nor ends it, and whatever the host makes of
+-- memory, if it keeps the holding area
+pub its-data-is-stored : (w : World) (fd : Offset) (f : Frame) (p : Bool) (es : List Event) (report : ℕ) → inRange (w .device) ≡ true
+    → arrival.unitOf w ≡ ru.Held fd f p → AllMay Staying step es w → ends (turn report) (run step es w) ≡ true
+    → Delivered f (dataOf f (w .holding)) es w report
+its-data-is-stored = stored.delivered
+
+-- and from the arrival on, of the very bytes that arrived: the data is what they have behind the header, and the header bytes that the end writes are
+-- their first
+pub the-bytes-that-arrived-are-stored : (w : World) (bs : List ℕ) (v : ℕ) (c : Counter) (es : List Event) (report : ℕ) → arrival.RightLengths w bs
+    → inRange (w .device) ≡ true → arrivalOf w bs v .outcome .fates ≡ fate.Held c ∷ []
+    → AllMay Staying step es (step (call (arrive bs v)) w) → ends (turn report) (run step es (step (call (arrive bs v)) w)) ≡ true
+    → ArrivedDelivered bs es (step (call (arrive bs v)) w) report
+the-bytes-that-arrived-are-stored = stored.arrived
+
+-- the same over the calls on the areas that the host lends, refused calls among them; the turn that ends it leaves what the definitions say
+pub its-data-is-stored-on-bytes : (a b : Areas) (w : World) (fd : Offset) (f : Frame) (p : Bool) (ls : List Lending) (report : ℕ) → Shows a w
+    → arrival.unitOf w ≡ ru.Held fd f p → AllFair Staying ls a → EndLent b report (run left ls a) → ends (turn report) (worldSaid b) ≡ true
+    → Delivered f (dataOf f (a .holding)) (upTo ls b) w report
+    × Shows b (run step (upTo ls b) w)
+    × (called (turn report) b ≡ onBytes (ran (turn report) (run step (upTo ls b) w)))
+its-data-is-stored-on-bytes = stored.delivered-on-bytes
+
+pub the-bytes-that-arrived-are-stored-on-bytes : (a b : Areas) (d : Device) (bs : List ℕ) (v : ℕ) (c : Counter) (ls : List Lending) (report : ℕ)
+    → AreBytes a → Holds (a .kept) d → Bytes bs → isRefused (called (arrive bs v) a) ≡ false
+    → arrivalOf (worldIn d a) bs v .outcome .fates ≡ fate.Held c ∷ []
+    → AllFair Staying ls (called (arrive bs v) a .areas) → EndLent b report (run left ls (called (arrive bs v) a .areas))
+    → ends (turn report) (worldSaid b) ≡ true
+    → let w = step (call (arrive bs v)) (worldIn d a) in
+    ArrivedDelivered bs (upTo ls b) w report
+    × Shows b (run step (upTo ls b) w)
+    × (called (turn report) b ≡ onBytes (ran (turn report) (run step (upTo ls b) w)))
+the-bytes-that-arrived-are-stored-on-bytes = stored.arrived-on-bytes
 
 -- "only an abort, a reset or the host's altering of the record may lose a held one": over any trace, a frame that was held has exactly one fate, or
 -- the host altered the record, or it is held still

@@ -1,5 +1,6 @@
 -- Demand 2 of frames. At an arrival: `Arrival.arrival-fate`, and a theorem for each class of frames. At every call while a frame is held:
 -- `Held.good-held`, `Held.bad-held`; as facts about memory at exit `Stands.good-exit`, `Stands.bad-exit`, and when their premise is met, `Clear`.
+-- What the buffers get, put together: `Data.delivered`, `Data.arrived`, on bytes `Data.delivered-on-bytes`, `Data.arrived-on-bytes`; `DataWitness`.
 -- Over whole traces: `Fates.conserved`, `Fates.exactly-one`, `Fates.all-fates`; a run: `Witness`.
 -- That calls that are not refused meet the premises: `Accepted`.
 pub mod Arrival
@@ -8,6 +9,8 @@ pub mod Held
 pub mod Sound
 pub mod Stands
 pub mod Clear
+pub mod Data
+pub mod DataWitness
 pub mod Fates
 pub mod Accepted
 pub mod Witness

@@ -1,6 +1,8 @@
--- What becomes of each frame: at an arrival; at every call while it is held; at exit, in memory; over whole traces; where a call is not refused.
+-- What becomes of each frame: at an arrival; at every call while it is held; at exit, in memory; what the buffers get of it; over whole traces; where
+-- a call is not refused.
 pub mod Arrival
 pub mod Held
 pub mod Stands
+pub mod Data
 pub mod Fates
 pub mod Accepted
