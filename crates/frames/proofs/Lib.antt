@@ -1,6 +1,7 @@
 -- Demand 2 of frames. At an arrival: `Arrival.arrival-fate`, and a theorem for each class of frames. At every call while a frame is held:
 -- `Held.good-held`, `Held.bad-held`; as facts about memory at exit `Stands.good-exit`, `Stands.bad-exit`, and when their premise is met, `Clear`.
 -- Over whole traces: `Fates.conserved`, `Fates.exactly-one`, `Fates.all-fates`; a run: `Witness`.
+-- Over calls on the areas that are lent: `OnBytes`.
 -- That calls that are not refused meet the premises: `Accepted`.
 pub mod Arrival
 pub mod End
@@ -9,5 +10,6 @@ pub mod Sound
 pub mod Stands
 pub mod Clear
 pub mod Fates
+pub mod OnBytes
 pub mod Accepted
 pub mod Witness

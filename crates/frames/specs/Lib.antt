@@ -1,6 +1,8 @@
--- What becomes of each frame: at an arrival; at every call while it is held; at exit, in memory; over whole traces; where a call is not refused.
+-- What becomes of each frame: at an arrival; at every call while it is held; at exit, in memory; over whole traces; where a call is not refused; over
+-- the calls on the areas that a host lends.
 pub mod Arrival
 pub mod Held
 pub mod Stands
 pub mod Fates
 pub mod Accepted
+pub mod OnBytes
