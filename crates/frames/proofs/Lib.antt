@@ -1,7 +1,7 @@
 -- Demand 2 of frames. At an arrival: `Arrival.arrival-fate`, and a theorem for each class of frames. At every call while a frame is held:
 -- `Held.good-held`, `Held.bad-held`; as facts about memory at exit `Stands.good-exit`, `Stands.bad-exit`, and when their premise is met, `Clear`.
 -- Over whole traces: `Fates.conserved`, `Fates.exactly-one`, `Fates.all-fates`; a run: `Witness`.
--- Over calls on the areas that are lent: `OnBytes`.
+-- Over calls on the areas that are lent: `OnBytes`; a list of them: `BytesWitness`.
 -- That calls that are not refused meet the premises: `Accepted`.
 pub mod Arrival
 pub mod End
@@ -13,3 +13,4 @@ pub mod Fates
 pub mod OnBytes
 pub mod Accepted
 pub mod Witness
+pub mod BytesWitness

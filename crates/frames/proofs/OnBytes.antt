@@ -26,9 +26,9 @@ use Rattle.closure.specs.Carried.{Carried}
 use Rattle.closure.specs.Refusals.{TakesAll}
 use Rattle.closure.specs.Turns.{turnsOn}
 use Rattle.closure.proofs.Refusals.{holds-of, foreign-holds}
-use Rattle.closure.proofs.Carried.{carry, carry-reset, not-refused, lent-kept}
+use Rattle.closure.proofs.Carried.{carry, carry-reset, not-refused, lent-kept, holds-decoded, holds-back}
 use Rattle.closure.proofs.Turns.{run-accepted, run-is-turns, taken-accepted, turn-again}
-use Rattle.frames.specs.Fates.{Deed, event, opening, worldAfter, namesOf, times, timesFated, timesAltered, isUnaltered, AllProper, AllFates}
+use Rattle.frames.specs.Fates.{Deed, event, alter, opening, worldAfter, namesOf, times, timesFated, timesAltered, isUnaltered, AllProper, AllFates}
 use Rattle.frames.specs.OnBytes.{same, alteredTo, alteredBy, alteredUnless, altering, deedsBy, deedsOf, Given, AllGiven, AllGivenDrive, KeepsRecord}
 use Rattle.frames.specs.OnBytes.{AllKept, AllSaidOf, worldAt, heldOf, endedOf, stillOf}
 use Rattle.frames.proofs.Fates as fates
@@ -51,6 +51,32 @@ same-self (x ∷ xs) = ap₂ (λ (b c : Bool). b && c) (eq-eqb x x refl) (same-s
 
 pub equal-same : (xs ys : List ℕ) → xs ≡ ys → same xs ys ≡ true
 equal-same xs ys e = subst (λ (zs : List ℕ). same xs zs ≡ true) e (same-self xs)
+
+-- ---- the host's altering of the record
+
+-- the record lent is the one that stands: it is not altered
+pub not-altered : (l : Lending) (a : Areas) → l .lent .kept ≡ a .kept → altering l a ≡ []
+not-altered l a e = ap (λ (b : Bool). alteredUnless b (l .lent .kept)) (equal-same (l .lent .kept) (a .kept) e)
+
+-- it is another: it is altered to the state that the one lent holds
+abbrev Altered : Device → List Deed → Type 0
+Altered d ds = (r : inRange d ≡ true) × (ds ≡ alter d r ∷ [])
+
+altered-to : (d : Device) (b : Bool) (e : inRange d ≡ b) → inRange d ≡ true → Altered d (alteredTo d b e)
+altered-to d true e r = (e, refl)
+altered-to d false e r = absurd (false≢true (sym e ∙ r))
+
+altered-by : (b : Bool) (l : Lending) (a : Areas) (d : Device) → same (l .lent .kept) (a .kept) ≡ b → Holds (l .lent .kept) d
+    → (l .lent .kept ≡ a .kept → ⊥)
+    → Altered d (alteredUnless b (l .lent .kept))
+altered-by true l a d e h n = absurd (n (same-equal (l .lent .kept) (a .kept) e))
+altered-by false l a d e h n =
+    subst (λ (x : Found). Altered d (alteredBy x (l .lent .kept))) (sym (holds-decoded (l .lent .kept) d h))
+    (subst (λ (x : Device). Altered d (alteredTo x (inRange x) refl)) (sym (holds-back (l .lent .kept) d h)) (altered-to d (inRange d) refl (h .range)))
+
+pub altered : (l : Lending) (a : Areas) (d : Device) → Holds (l .lent .kept) d → (l .lent .kept ≡ a .kept → ⊥)
+    → (r : inRange d ≡ true) × (altering l a ≡ alter d r ∷ [])
+altered l a d h n = altered-by (same (l .lent .kept) (a .kept)) l a d refl h n
 
 -- ---- a call that is not refused, in the world after the deeds before it
 
@@ -170,7 +196,7 @@ unaltered-by : (x : Bool) (l : Lending) (ls : List Lending) (a : Areas) → refu
     → isUnaltered (deedsOf ls (leftBy x l a)) ≡ true
     → isUnaltered (deedsBy x l a ++ deedsOf ls (leftBy x l a)) ≡ true
 unaltered-by true l ls a e k h = h
-unaltered-by false l ls a e k h = rw (equal-same (l .lent .kept) (a .kept) (k e)) h
+unaltered-by false l ls a e k h = rw (not-altered l a (k e)) h
 
 pub unaltered : (ls : List Lending) (a : Areas) → AllKept ls a → isUnaltered (deedsOf ls a) ≡ true
 unaltered [] a k = refl
