@@ -40,8 +40,10 @@ use Rattle.closure.proofs.Closed as closure
 use Rattle.closure.proofs.Carried as carried
 use Rattle.closure.proofs.Turns as run-of-turns
 use Rattle.frames.specs.Arrival as arrival
-use Rattle.frames.specs.Held.{ends, GoodFate, BadFate}
-use Rattle.frames.specs.Fates.{Deed, Scene, namesOf, opening, still, advance, beginnings, endings, times, timesFated, timesAltered, AllFates}
+use Rattle.frames.specs.Held.{ends, heldFates, FatesOfHeld, GoodFate, BadFate}
+use Rattle.frames.specs.Fates.{Deed, alter, Scene, namesOf, opening, still, advance, beginnings, endings, times, timesFated, timesAltered, AllFates}
+use Rattle.frames.specs.Fates.{isUnaltered, AllProper}
+use Rattle.frames.specs.OnBytes.{altering, deedsOf, AllGiven, AllGivenDrive, AllKept, AllSaidOf, worldAt, heldOf, endedOf, stillOf}
 use Rattle.frames.specs.Stands.{NoOverlap, pieces, GoodExit}
 use Rattle.frames.specs.Data.{Staying, dataOf, Delivered, ArrivedDelivered, EndLent, upTo}
 use Rattle.frames.proofs.Arrival as arrivals
@@ -49,6 +51,7 @@ use Rattle.frames.proofs.Held as holdings
 use Rattle.frames.proofs.Stands as exits
 use Rattle.frames.proofs.Data as stored
 use Rattle.frames.proofs.Fates as fates
+use Rattle.frames.proofs.OnBytes as on-bytes
 use Rattle.lists.specs.Uses.{Listed, firstOf}
 use Rattle.lists.specs.Unit.{machine}
 use Rattle.lists.specs.Done.{Starts, Apart, Premises, Done, bytesOf}
@@ -201,6 +204,69 @@ every-held-frame-is-accounted-for = fates.conserved
 
 pub at-every-call : (ds : List Deed) (w : World) → inRange (w .device) ≡ true → AllFates ds w
 at-every-call = fates.all-fates
+
+-- each end is by a held frame's fate, which is stored, counted, both, aborted or reset, or by the host's altering of the record; and by a fate, if the
+-- host alters none
+pub every-end-is-proper : (ds : List Deed) (s : Scene) → AllProper (Unit {0}) (endings ds s)
+every-end-is-proper = fates.all-proper
+
+pub every-end-is-a-fate : (ds : List Deed) (s : Scene) → isUnaltered ds ≡ true → AllProper ⊥ (endings ds s)
+every-end-is-a-fate = fates.all-fated
+
+-- a call gives such fates only where so many frames were held, and are held no more
+pub a-fate-has-its-frame : (c : Call) (w : World) → inRange (w .device) ≡ true → (heldFates (ran c w .outcome .fates) ≡ [] → ⊥)
+    → FatesOfHeld w (ran c w)
+a-fate-has-its-frame = fates.fates-of-held
+
+-- the same over the calls on the areas that the host lends, refused calls among them, whatever it lends: bytes are all that is asked, of the calls
+-- that are not refused. "The host's altering of the record" is a record lent that is not the one that stands
+pub a-record-lent-otherwise-is-altered : (l : Lending) (a : Areas) (d : Device) → Holds (l .lent .kept) d → (l .lent .kept ≡ a .kept → ⊥)
+    → (r : inRange d ≡ true) × (altering l a ≡ alter d r ∷ [])
+a-record-lent-otherwise-is-altered = on-bytes.altered
+
+pub a-record-lent-as-left-is-not : (l : Lending) (a : Areas) → l .lent .kept ≡ a .kept → altering l a ≡ []
+a-record-lent-as-left-is-not = on-bytes.not-altered
+
+-- "After each call the memory, device record, outgoing frame, interrupt and answer are what document 01 says": in the very trace whose frames are
+-- counted, all of each call that is not refused is what the definitions say, and what stands at the end shows the world at the end
+pub the-calls-do-these-deeds : (ls : List Lending) (a : Areas) (d : Device) → Holds (a .kept) d → AllGiven ls
+    → AllSaidOf ls a (worldIn d a) × Shows (run left ls a) (worldAt ls a d)
+the-calls-do-these-deeds = on-bytes.all-said
+
+-- "only an abort, a reset or the host's altering of the record may lose a held one": a frame that was held has exactly one fate, or the host altered the
+-- record, or it is held still
+pub exactly-one-fate-on-bytes : (ls : List Lending) (a : Areas) (d : Device) (k : ℕ) → Holds (a .kept) d → 0 < times k (heldOf ls a d)
+    → timesFated k (endedOf ls a d) + timesAltered k (endedOf ls a d) + times k (stillOf ls a d) ≡ 1
+exactly-one-fate-on-bytes = on-bytes.exactly-one
+
+pub no-other-fate-on-bytes : (ls : List Lending) (a : Areas) (d : Device) (k : ℕ) → Holds (a .kept) d → times k (heldOf ls a d) ≡ 0
+    → timesFated k (endedOf ls a d) + timesAltered k (endedOf ls a d) + times k (stillOf ls a d) ≡ 0
+no-other-fate-on-bytes = on-bytes.no-other
+
+pub every-held-frame-is-accounted-for-on-bytes : (ls : List Lending) (a : Areas) (d : Device) → Holds (a .kept) d
+    → namesOf (endedOf ls a d) ++ stillOf ls a d ≡ heldOf ls a d
+every-held-frame-is-accounted-for-on-bytes = on-bytes.conserved
+
+pub at-every-call-on-bytes : (ls : List Lending) (a : Areas) (d : Device) → Holds (a .kept) d → AllFates (deedsOf ls a) (worldIn d a)
+at-every-call-on-bytes = on-bytes.all-fates
+
+pub every-end-on-bytes-is-proper : (ls : List Lending) (a : Areas) (d : Device) → AllProper (Unit {0}) (endedOf ls a d)
+every-end-on-bytes-is-proper = on-bytes.all-proper
+
+-- and if the host lends every record as it was left, a held frame has exactly one fate or is held still, and every end is by a fate
+pub exactly-one-fate-if-records-are-kept : (ls : List Lending) (a : Areas) (d : Device) (k : ℕ) → Holds (a .kept) d → AllKept ls a
+    → 0 < times k (heldOf ls a d)
+    → timesFated k (endedOf ls a d) + times k (stillOf ls a d) ≡ 1
+exactly-one-fate-if-records-are-kept = on-bytes.exactly-one-fate
+
+pub every-end-is-a-fate-if-records-are-kept : (ls : List Lending) (a : Areas) (d : Device) → AllKept ls a → AllProper ⊥ (endedOf ls a d)
+every-end-is-a-fate-if-records-are-kept = on-bytes.all-fated
+
+-- the same where runs of turns are among the calls: what is said here of every list of calls is said of `unrolled ds`, which has a run's turns in its
+-- place, and what stands after the runs and calls shows its world
+pub the-runs-do-these-deeds : (ds : List Drive) (a : Areas) (d : Device) → Holds (a .kept) d → AllGivenDrive ds
+    → AllSaidOf (unrolled ds) a (worldIn d a) × Shows (run leftDriven ds a) (worldAt (unrolled ds) a d)
+the-runs-do-these-deeds = on-bytes.runs-said
 
 -- a run of turns: all areas, the record among them, are those of as many turns in a row as its answer says, and the rest of its answer is the last
 -- turn's. So many is no more than the budget; no turn before the last sent a frame, reported an edge or had no work; and the last did, or the

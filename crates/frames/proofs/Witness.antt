@@ -39,7 +39,7 @@ use Rattle.frames.specs.Fates.{Deed, event, alter, opening, Noted, noted
 use Rattle.frames.specs.Fates.{advance, beginnings, endings}
 
 -- SCB at 64, a ring of one frame descriptor at 0; no minimum length
-abbrev deviceWith : Ru → Bool → Device
+abbrev pub deviceWith : Ru → Bool → Device
 deviceWith unit savebad =
     record {
       units =
@@ -57,7 +57,7 @@ deviceWith unit savebad =
       listed = fresh .listed;
     }
 
-abbrev ready : Bool → Device
+abbrev pub ready : Bool → Device
 ready savebad = deviceWith (ru.Ready (record { 0 = 0 })) savebad
 
 pub in-range : (savebad : Bool) → inRange (ready savebad) ≡ true
@@ -65,7 +65,7 @@ unfolding inRange unitsFit cuFits ruFits initialisedOrFresh
 in-range savebad = refl
 
 -- a broadcast of 14 bytes, and one with a byte of data, for which there is no buffer: +6 of the descriptor has FFFFh
-abbrev bare : List ℕ
+abbrev pub bare : List ℕ
 bare = replicate 6 255 ++ replicate 8 0
 
 abbrev one : List ℕ

@@ -1,8 +1,9 @@
 -- What becomes of each frame: at an arrival; at every call while it is held; at exit, in memory; what the buffers get of it; over whole traces; where
--- a call is not refused.
+-- a call is not refused; over the calls on the areas that a host lends.
 pub mod Arrival
 pub mod Held
 pub mod Stands
 pub mod Data
 pub mod Fates
 pub mod Accepted
+pub mod OnBytes
