@@ -48,7 +48,7 @@ use Rattle.frames.proofs.Stands as exits
 use Rattle.frames.proofs.Fates as fates
 use Rattle.lists.specs.Uses.{Listed, firstOf}
 use Rattle.lists.specs.Unit.{machine}
-use Rattle.lists.specs.Done.{Starts, Apart, Premises, Done, bytesOf}
+use Rattle.lists.specs.Done.{Starts, Apart, enough, Premises, Done, bytesOf}
 use Rattle.lists.proofs.Whole as whole
 use Rattle.lists.proofs.Bytes as list-bytes
 use Rattle.worked.proofs.Exact as list-exact
@@ -184,7 +184,7 @@ a-run-of-no-turn = run-of-turns.run-none
 pub a-list-is-done : (bs : List ℕ) (es : List Event) (w : World) → Starts w
     → firstOf bs ≡ wordAt (w .memory) (ofScb (w .device .units) cblAt)
     → Listed (step (call attention) w .device .units .base) (step (call attention) w .memory) bs
-    → Premises DuringList bs es (step (call attention) w)
+    → Premises DuringList enough bs es (step (call attention) w)
     → Done bs es (step (call attention) w)
 a-list-is-done = whole.attention-list-done
 
@@ -195,7 +195,7 @@ pub a-list-is-done-on-bytes : (bs : List ℕ) (ls : List Lending) (a : Areas) (d
     → AllFair DuringList ls (called attention a .areas)
     → Apart bs (step (call attention) (worldIn d a))
     → Undisturbed machine (bytesOf (step (call attention) (worldIn d a)) bs) (eventsOf ls) (step (call attention) (worldIn d a))
-    → 132 * length bs ≤ turns isTaken ls
+    → enough (length bs) ≤ turns isTaken ls
     → Done bs (eventsOf ls) (step (call attention) (worldIn d a))
     × Shows (run left ls (called attention a .areas)) (run step (eventsOf ls) (step (call attention) (worldIn d a)))
 a-list-is-done-on-bytes = list-bytes.areas-list-done
@@ -207,7 +207,7 @@ pub a-list-is-done-by-runs : (bs : List ℕ) (ds : List Drive) (a : Areas) (d : 
     → AllFairDrive DuringList ds (called attention a .areas)
     → Apart bs (step (call attention) (worldIn d a))
     → Undisturbed machine (bytesOf (step (call attention) (worldIn d a)) bs) (eventsOf (unrolled ds)) (step (call attention) (worldIn d a))
-    → 132 * length bs ≤ turnsDriven ds
+    → enough (length bs) ≤ turnsDriven ds
     → Done bs (eventsOf (unrolled ds)) (step (call attention) (worldIn d a))
     × Shows (run leftDriven ds (called attention a .areas)) (run step (eventsOf (unrolled ds)) (step (call attention) (worldIn d a)))
 a-list-is-done-by-runs = list-bytes.runs-list-done

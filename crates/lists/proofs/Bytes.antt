@@ -3,7 +3,7 @@
 use mathlib.Core.Path.{_≡_, refl, sym, ap, subst}
 use mathlib.Core.Bool.{false}
 use mathlib.Core.List.{List, []}
-use Prim.Native.Nat.{ℕ, _*_, _≤_}
+use Prim.Native.Nat.{ℕ, _≤_}
 use native.Mathlib.Omega.{arith}
 use lib.ListN.{length}
 use Rattle.memory.specs.Memory.{wordAt}
@@ -28,7 +28,7 @@ use Rattle.closure.proofs.Carried.{carry-shown}
 use Rattle.closure.proofs.Driven.{turns-same, fair-along, LetsTurns, spread}
 use Rattle.lists.specs.Uses.{Listed, firstOf}
 use Rattle.lists.specs.Unit.{machine}
-use Rattle.lists.specs.Done.{Starts, Apart, Done, bytesOf}
+use Rattle.lists.specs.Done.{Starts, Apart, enough, Done, bytesOf}
 use Rattle.lists.specs.OnBytes.{PremisesOnBytes}
 use Rattle.lists.proofs.Laws.{list-laws}
 use Rattle.lists.proofs.Start.{begins, started}
@@ -55,14 +55,14 @@ pub bytes-list-done : (May : Event → World → Type 0) → Laws machine May �
     → AreBytes a → Holds (a .kept) d
     → isRefused (called attention a) ≡ false → Starts (worldIn d a) → firstOf bs ≡ wordAt (a .memory) (ofScb (d .units) cblAt)
     → Listed (step (call attention) (worldIn d a) .device .units .base) (step (call attention) (worldIn d a) .memory) bs
-    → PremisesOnBytes May bs ls (called attention a .areas) (step (call attention) (worldIn d a))
+    → PremisesOnBytes May enough bs ls (called attention a .areas) (step (call attention) (worldIn d a))
     → Done bs (eventsOf ls) (step (call attention) (worldIn d a))
     × Shows (run left ls (called attention a .areas)) (run step (eventsOf ls) (step (call attention) (worldIn d a)))
 bytes-list-done May K bs ls a d l h r s first listed p =
     let w = worldIn d a in
     let v = step (call attention) w in
     let least : 8192 ≤ length (v .memory) = subst (λ (n : ℕ). 8192 ≤ n) (sym (begins w s .size)) (size-least a r) in
-    let count : 132 * length bs ≤ turns isTurn (eventsOf ls) = subst (λ (n : ℕ). 132 * length bs ≤ n) (sym (turns-same ls)) (p .turns) in
+    let count : enough (length bs) ≤ turns isTurn (eventsOf ls) = subst (λ (n : ℕ). enough (length bs) ≤ n) (sym (turns-same ls)) (p .turns) in
     let along = fair-along May ls (called attention a .areas) v (p .fair) (start-shows a d l h r) in (
       listDone May K bs (eventsOf ls) v (started bs w s first listed)
           (record { size = least; apart = p .apart; events = along .1; intact = p .intact; turns = count }),
@@ -80,7 +80,7 @@ pub areas-list-done : (bs : List ℕ) (ls : List Lending) (a : Areas) (d : Devic
     → AllFair DuringList ls (called attention a .areas)
     → Apart bs (step (call attention) (worldIn d a))
     → Undisturbed machine (bytesOf (step (call attention) (worldIn d a)) bs) (eventsOf ls) (step (call attention) (worldIn d a))
-    → 132 * length bs ≤ turns isTaken ls
+    → enough (length bs) ≤ turns isTaken ls
     → Done bs (eventsOf ls) (step (call attention) (worldIn d a))
     × Shows (run left ls (called attention a .areas)) (run step (eventsOf ls) (step (call attention) (worldIn d a)))
 areas-list-done bs ls a d l h r s first listed fair apart intact count =
@@ -102,7 +102,7 @@ pub runs-list-done : (bs : List ℕ) (ds : List Drive) (a : Areas) (d : Device) 
     → AllFairDrive DuringList ds (called attention a .areas)
     → Apart bs (step (call attention) (worldIn d a))
     → Undisturbed machine (bytesOf (step (call attention) (worldIn d a)) bs) (eventsOf (unrolled ds)) (step (call attention) (worldIn d a))
-    → 132 * length bs ≤ turnsDriven ds
+    → enough (length bs) ≤ turnsDriven ds
     → Done bs (eventsOf (unrolled ds)) (step (call attention) (worldIn d a))
     × Shows (run leftDriven ds (called attention a .areas)) (run step (eventsOf (unrolled ds)) (step (call attention) (worldIn d a)))
 runs-list-done bs ds a d l h r s first listed drives apart intact count =

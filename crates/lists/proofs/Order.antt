@@ -20,7 +20,7 @@ use Rattle.progress.proofs.Same.{Sub, in-left, same-refl}
 use Rattle.progress.proofs.Machine.{finish, ordered}
 use Rattle.lists.specs.Uses.{block, uses, setupAfter, listSetup, listBytes}
 use Rattle.lists.specs.Unit.{tag, readsBy, machine}
-use Rattle.lists.specs.Done.{Started, bytesOf, setupLeft, Apart, Premises, Done}
+use Rattle.lists.specs.Done.{Started, bytesOf, setupLeft, Apart, enough, Premises, Done}
 use Rattle.lists.proofs.Blocks.{sub-refl}
 use Rattle.lists.proofs.Stands.{todo, rank, Now, Lies, Stands, Leads, partWith}
 use Rattle.lists.proofs.Begins.{at-begin, begin-reads}
@@ -158,7 +158,7 @@ covers-list bs w big st rs live act =
     covers-at base (w .memory) big L (o .0) (part′ machine rs p (w .memory)) (mem′ machine rs p (w .memory))
     (o .1 .0 .0) (o .1 .0 .1) act
 
-list-finished : (May : Event → World → Type 0) → Laws machine May → (bs : List ℕ) (es : List Event) (w : World) → Started bs w → (pr : Premises May bs es w)
+list-finished : (May : Event → World → Type 0) → Laws machine May → (bs : List ℕ) (es : List Event) (w : World) → Started bs w → (pr : Premises May enough bs es w)
     → Finished machine (listing (w .device .units .base) (w .memory) (pr .size) (bytesOf w bs) (setupLeft w bs)) (bytesOf w bs) bs es w
 unfolding listing Inv
 list-finished May laws bs es w st pr =
@@ -171,7 +171,7 @@ list-finished May laws bs es w st pr =
 -- events of a trace be such as may occur, and nothing write into the list, as it stands at the start, but each command's own results. Once
 -- 132 times as many turns have come as there are blocks, all are done, once each, in list order, exactly as the command unit alone does them
 -- on the memory at the start, and nothing else is begun. May is any choice of events under which the units keep to the laws of taking turns
-pub listDone : (May : Event → World → Type 0) → Laws machine May → (bs : List ℕ) (es : List Event) (w : World) → Started bs w → Premises May bs es w → Done bs es w
+pub listDone : (May : Event → World → Type 0) → Laws machine May → (bs : List ℕ) (es : List Event) (w : World) → Started bs w → Premises May enough bs es w → Done bs es w
 unfolding listing
 listDone May laws bs es w st pr =
     let f = list-finished May laws bs es w st pr in
@@ -184,7 +184,7 @@ listDone May laws bs es w st pr =
     }
 
 -- and the setup that then stands is the one by which the bytes of the list are said, after its last command
-pub setup-done : (May : Event → World → Type 0) → Laws machine May → (bs : List ℕ) (es : List Event) (w : World) → Started bs w → Premises May bs es w
+pub setup-done : (May : Event → World → Type 0) → Laws machine May → (bs : List ℕ) (es : List Event) (w : World) → Started bs w → Premises May enough bs es w
     → setupOf (run step es w .device) ≡ setupLeft w bs
 unfolding listing Inv
 setup-done May laws bs es w st pr =

@@ -9,7 +9,7 @@ use Rattle.chip.specs.World.{World}
 use Rattle.chip.specs.Call.{attention}
 use Rattle.traces.specs.Event.{Event, call, step, DuringList}
 use Rattle.lists.specs.Uses.{Listed, firstOf}
-use Rattle.lists.specs.Done.{Starts, Premises, Done}
+use Rattle.lists.specs.Done.{Starts, enough, Premises, Done}
 use Rattle.lists.proofs.Laws.{list-laws}
 use Rattle.lists.proofs.Start.{started}
 use Rattle.lists.proofs.Order.{listDone}
@@ -21,7 +21,7 @@ use Rattle.lists.proofs.Order.{listDone}
 pub attention-list-done : (bs : List ℕ) (es : List Event) (w : World) → Starts w
     → firstOf bs ≡ wordAt (w .memory) (ofScb (w .device .units) cblAt)
     → Listed (step (call attention) w .device .units .base) (step (call attention) w .memory) bs
-    → Premises DuringList bs es (step (call attention) w)
+    → Premises DuringList enough bs es (step (call attention) w)
     → Done bs es (step (call attention) w)
 attention-list-done bs es w s first listed premises =
     listDone DuringList list-laws bs es (step (call attention) w) (started bs w s first listed) premises

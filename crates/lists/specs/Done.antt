@@ -61,10 +61,15 @@ pub record Done (bs : List ℕ) (es : List Event) (w : World) : Type 0 where
   -- and the unit has left Active
   pub stopped : isActive (cuState (run step es w .device .units .cu)) ≡ false
 
--- 132 times n turns; the events of the trace may occur, by May; nothing writes into the list but each command's own results, and N stays
-pub record Premises (May : Event → World → Type 0) (bs : List ℕ) (es : List Event) (w : World) : Type 0 where
+-- so many turns are enough for n commands: demand 3's number
+abbrev pub enough : ℕ → ℕ
+enough n = 132 * n
+
+-- the events of the trace may occur, by May; nothing writes into the list but each command's own results, and N stays; turns have come, at least as
+-- many as least says for n commands
+pub record Premises (May : Event → World → Type 0) (least : ℕ → ℕ) (bs : List ℕ) (es : List Event) (w : World) : Type 0 where
   pub size : 8192 ≤ length (w .memory)
   pub apart : Apart bs w
   pub events : AllMay May step es w
   pub intact : Undisturbed machine (bytesOf w bs) es w
-  pub turns : 132 * length bs ≤ turns isTurn es
+  pub turns : least (length bs) ≤ turns isTurn es

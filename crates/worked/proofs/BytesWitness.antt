@@ -23,7 +23,7 @@ use Rattle.closure.specs.Sound.{Sound}
 use Rattle.closure.proofs.Closed.{closed}
 use Rattle.traces.specs.Areas.{Shows}
 use Rattle.traces.specs.Driven.{Lending, refusedAt, left, eventsOf}
-use Rattle.lists.specs.Done.{Done}
+use Rattle.lists.specs.Done.{enough, Done}
 use Rattle.lists.specs.OnBytes.{PremisesOnBytes}
 use Rattle.lists.proofs.Laws.{list-laws}
 use Rattle.worked.proofs.Tests.{keptb, and-l, and-r}
@@ -132,11 +132,11 @@ shows-begun =
     start-shows first (before .device) (right-first .bytes) (right-first .holds)
     (accepts attention first (before .device) right-first (lit≤ tt))
 
-pub bytes-premises : PremisesOnBytes DuringList three worked (called attention first .areas) begun
+pub bytes-premises : PremisesOnBytes DuringList enough three worked (called attention first .areas) begun
 bytes-premises =
-    refused-anywhere DuringList three [] (lendings trace (called attention first .areas)) stray (called attention first .areas) begun
+    refused-anywhere DuringList enough three [] (lendings trace (called attention first .areas)) stray (called attention first .areas) begun
     stray-refused
-    (lifted three trace (called attention first .areas) begun shows-begun
+    (lifted enough three trace (called attention first .areas) begun shows-begun
     (all-accepted trace (called attention first .areas) (begun .device) started-right rights) premises)
 
 pub bytes-done : Done three (eventsOf worked) begun

@@ -17,7 +17,7 @@ use Rattle.progress.specs.Trace.{run, AllMay, turns}
 use Rattle.progress.specs.Machine.{Undisturbed, log}
 use Rattle.progress.proofs.Trace.{may-append}
 use Rattle.lists.specs.Unit.{machine, began, ended}
-use Rattle.lists.specs.Done.{Starts, Started, Premises, Done, bytesOf}
+use Rattle.lists.specs.Done.{Starts, Started, enough, Premises, Done, bytesOf}
 use Rattle.lists.proofs.Laws.{list-laws}
 use Rattle.lists.proofs.Start.{started}
 use Rattle.lists.proofs.Order.{listDone}
@@ -119,7 +119,7 @@ mays =
     (may-append DuringList step early (writes middle ∷ late) begun (calls-ok early begun tt) ((refl, refl), calls-ok late (step (writes middle) middle) tt))
     (calls-ok (replicate 383 (call (turn 0))) (run step busy begun) tt)
 
-pub premises : Premises DuringList three trace begun
+pub premises : Premises DuringList enough three trace begun
 unfolding keptb
 premises =
     record {
