@@ -5,3 +5,4 @@ pub mod Witness
 pub mod Exact
 pub mod BytesWitness
 pub mod RunsWitness
+pub mod Suspended
