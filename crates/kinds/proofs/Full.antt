@@ -11,7 +11,7 @@ use Rattle.chip.specs.World.{World}
 use Rattle.chip.specs.Call.{attention}
 use Rattle.traces.specs.Event.{Event, call, step, DuringList}
 use Rattle.lists.specs.Uses.{Listed, firstOf}
-use Rattle.lists.specs.Done.{Starts, Premises, Done}
+use Rattle.lists.specs.Done.{Starts, enough, Premises, Done}
 use Rattle.lists.proofs.Whole.{attention-list-done}
 use Rattle.kinds.specs.Chips.{Chip}
 use Rattle.kinds.specs.Demands.{Demand2}
@@ -29,7 +29,7 @@ pub record ListDone (chip : Chip) (s : chip .Inner) (bs : List ℕ) (es : List E
 pub every-list-done : (chip : Chip) → Demand2 chip → (s : chip .Inner) (bs : List ℕ) (es : List Event) (w : World) → Right w → AllAcceptable es → Starts w
     → firstOf bs ≡ wordAt (w .memory) (ofScb (w .device .units) cblAt)
     → Listed (step (call attention) w .device .units .base) (step (call attention) w .memory) bs
-    → Premises DuringList bs es (step (call attention) w)
+    → Premises DuringList enough bs es (step (call attention) w)
     → ListDone chip s bs es w
 every-list-done chip q s bs es w r f starts first listed premises =
     record {

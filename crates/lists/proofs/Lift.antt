@@ -3,7 +3,7 @@
 use mathlib.Core.Path.{_≡_, refl, sym, ap, _∙_, subst}
 use mathlib.Core.Bool.{Bool, true, false, true≢false}
 use mathlib.Core.List.{List, [], _∷_, _++_}
-use Prim.Native.Nat.{ℕ, _+_, _*_, _≤_}
+use Prim.Native.Nat.{ℕ, _+_, _≤_}
 use native.Mathlib.Nat.{zero-add}
 use lib.ListN.{length}
 use Rattle.memory.specs.Memory.{apply}
@@ -44,9 +44,9 @@ refused-fair : (May : Event → World → Type 0) (xs ys : List Lending) (l : Le
 refused-fair May [] ys l a r m = (λ e. absurd (true≢false (sym r ∙ e)), rw r m)
 refused-fair May (x ∷ xs) ys l a r m = (m .0, refused-fair May xs ys l (left x a) r (m .1))
 
-pub refused-anywhere : (May : Event → World → Type 0) (bs : List ℕ) (xs ys : List Lending) (l : Lending) (a : Areas) (v : World)
-    → refusedAt l ≡ true → PremisesOnBytes May bs (xs ++ ys) a v → PremisesOnBytes May bs (xs ++ (l ∷ ys)) a v
-refused-anywhere May bs xs ys l a v r p =
+pub refused-anywhere : (May : Event → World → Type 0) (least : ℕ → ℕ) (bs : List ℕ) (xs ys : List Lending) (l : Lending) (a : Areas) (v : World)
+    → refusedAt l ≡ true → PremisesOnBytes May least bs (xs ++ ys) a v → PremisesOnBytes May least bs (xs ++ (l ∷ ys)) a v
+refused-anywhere May least bs xs ys l a v r p =
     record {
       fair = refused-fair May xs ys l a r (p .fair);
       apart = p .apart;
@@ -143,9 +143,9 @@ intact-lift L (host m₁ h out ∷ es) a w v s m x y k =
     (same-trans (k .0) (subst (λ (z : World). Same L (z .memory) (v .memory)) (s .now) m)) x (y .1) (k .1)
 
 -- a shows v, which the starting attention left: what holds of the trace es on v holds of the calls on the areas
-pub lifted : (bs : List ℕ) (es : List Event) (a : Areas) (v : World) → Shows a v → Accepted es a → Premises DuringList bs es v
-    → PremisesOnBytes DuringList bs (lendings es a) a v
-lifted bs es a v s x p =
+pub lifted : (least : ℕ → ℕ) (bs : List ℕ) (es : List Event) (a : Areas) (v : World) → Shows a v → Accepted es a → Premises DuringList least bs es v
+    → PremisesOnBytes DuringList least bs (lendings es a) a v
+lifted least bs es a v s x p =
     let t : Stands a v v = record { now = shows-world a v s; holds = s .kept; outgoing = s .outgoing } in
     let m : Same (bytesOf v bs) (a .memory) (v .memory) =
     subst (λ (z : List ℕ). Same (bytesOf v bs) z (v .memory)) (sym (s .memory)) (same-refl (bytesOf v bs) (v .memory)) in
@@ -153,5 +153,5 @@ lifted bs es a v s x p =
       fair = fair-lift es a a v v refl refl t x (p .events);
       apart = p .apart;
       intact = intact-lift (bytesOf v bs) es a v v t m x (p .events) (p .intact);
-      turns = subst (λ (n : ℕ). 132 * length bs ≤ n) (sym (turns-lift es a x)) (p .turns);
+      turns = subst (λ (n : ℕ). least (length bs) ≤ n) (sym (turns-lift es a x)) (p .turns);
     }

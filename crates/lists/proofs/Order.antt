@@ -14,13 +14,14 @@ use Rattle.actions.specs.Setup.{Setup, setupOf}
 use Rattle.command.specs.Part.{Part, partOf}
 use Rattle.chip.specs.World.{World}
 use Rattle.traces.specs.Event.{Event, step}
-use Rattle.progress.specs.Machine.{Laws, Listing, Covers, eachOnce, reports, part′, mem′, Finished}
+use Rattle.progress.specs.Machine.{Laws, Listing, Covers, reports, part′, mem′, Finished}
 use Rattle.progress.specs.Trace.{run}
 use Rattle.progress.proofs.Same.{Sub, in-left, same-refl}
 use Rattle.progress.proofs.Machine.{finish, ordered}
 use Rattle.lists.specs.Uses.{block, uses, setupAfter, listSetup, listBytes}
-use Rattle.lists.specs.Unit.{tag, readsBy, machine}
-use Rattle.lists.specs.Done.{Started, bytesOf, setupLeft, Apart, Premises, Done}
+use Rattle.lists.specs.Unit.{Tag, tag, readsBy, machine}
+use Rattle.lists.specs.Done.{Started, eachOnce, bytesOf, setupLeft, Apart, enough, Premises, Done}
+use Rattle.lists.proofs.Seen.{all-seen, frames-along}
 use Rattle.lists.proofs.Blocks.{sub-refl}
 use Rattle.lists.proofs.Stands.{todo, rank, Now, Lies, Stands, Leads, partWith}
 use Rattle.lists.proofs.Begins.{at-begin, begin-reads}
@@ -74,7 +75,7 @@ module _ (base : RealAddress) (m₀ : List ℕ) (big : 8192 ≤ length m₀) whe
   busy (cu.Ending b k) s c q now = refl
   busy (cu.Failing b) s c q now = refl
 
-  over : (bs : List ℕ) (p : Part) (q : List ℕ) → Stands base m₀ bs p q → isActive (cuState (p .unit)) ≡ false → todo (p .unit) bs ≡ []
+  over : (bs : List ℕ) (p : Part) (q : List ℕ) → Stands base m₀ bs p q → isActive (cuState (p .unit)) ≡ false → todo base m₀ (p .unit) bs ≡ []
   over [] p q i a = refl
   over (c ∷ cs) p q i a = absurd (false≢true (sym a ∙ busy (p .unit) (p .setup) c q (i .1)))
 
@@ -112,9 +113,10 @@ module _ (base : RealAddress) (m₀ : List ℕ) (big : 8192 ≤ length m₀) whe
     unfolding Inv
     listing =
         record {
+          T = Tag;
           tag = tag;
           Inv = Inv;
-          todo = λ bs p. todo (p .unit) bs;
+          todo = λ bs p. todo base m₀ (p .unit) bs;
           rank = λ bs p. rank (p .unit) (length bs);
           next = λ bs p q r i a.
               let n = next bs p q r (i .0) a in
@@ -138,7 +140,8 @@ stands-start (c ∷ cs) w st nc =
       record { listed = st .listed; apart = nc; later = same-refl (listBytes base (setupAfter base s m c) m cs) m },
     )
 
-start-todo : (bs : List ℕ) (w : World) → Started bs w → todo (w .device .units .cu) bs ≡ eachOnce bs
+start-todo : (bs : List ℕ) (w : World) → Started bs w
+    → todo (w .device .units .base) (w .memory) (w .device .units .cu) bs ≡ eachOnce (w .device .units .base) (w .memory) bs
 start-todo [] w st = refl
 start-todo (c ∷ cs) w st = rw (st .unit)
 
@@ -158,7 +161,7 @@ covers-list bs w big st rs live act =
     covers-at base (w .memory) big L (o .0) (part′ machine rs p (w .memory)) (mem′ machine rs p (w .memory))
     (o .1 .0 .0) (o .1 .0 .1) act
 
-list-finished : (May : Event → World → Type 0) → Laws machine May → (bs : List ℕ) (es : List Event) (w : World) → Started bs w → (pr : Premises May bs es w)
+list-finished : (May : Event → World → Type 0) → Laws machine May → (bs : List ℕ) (es : List Event) (w : World) → Started bs w → (pr : Premises May enough bs es w)
     → Finished machine (listing (w .device .units .base) (w .memory) (pr .size) (bytesOf w bs) (setupLeft w bs)) (bytesOf w bs) bs es w
 unfolding listing Inv
 list-finished May laws bs es w st pr =
@@ -171,20 +174,22 @@ list-finished May laws bs es w st pr =
 -- events of a trace be such as may occur, and nothing write into the list, as it stands at the start, but each command's own results. Once
 -- 132 times as many turns have come as there are blocks, all are done, once each, in list order, exactly as the command unit alone does them
 -- on the memory at the start, and nothing else is begun. May is any choice of events under which the units keep to the laws of taking turns
-pub listDone : (May : Event → World → Type 0) → Laws machine May → (bs : List ℕ) (es : List Event) (w : World) → Started bs w → Premises May bs es w → Done bs es w
+pub listDone : (May : Event → World → Type 0) → Laws machine May → (bs : List ℕ) (es : List Event) (w : World) → Started bs w → Premises May enough bs es w → Done bs es w
 unfolding listing
 listDone May laws bs es w st pr =
     let f = list-finished May laws bs es w st pr in
     record {
       order = f .order ∙ start-todo bs w st;
       notes = f .alone .notes;
+      told = frames-along es w;
+      seen = all-seen es w;
       part = f .alone .part;
       bytes = f .alone .bytes;
       stopped = f .stopped;
     }
 
 -- and the setup that then stands is the one by which the bytes of the list are said, after its last command
-pub setup-done : (May : Event → World → Type 0) → Laws machine May → (bs : List ℕ) (es : List Event) (w : World) → Started bs w → Premises May bs es w
+pub setup-done : (May : Event → World → Type 0) → Laws machine May → (bs : List ℕ) (es : List Event) (w : World) → Started bs w → Premises May enough bs es w
     → setupOf (run step es w .device) ≡ setupLeft w bs
 unfolding listing Inv
 setup-done May laws bs es w st pr =

@@ -7,36 +7,29 @@ use mathlib.Core.List.{List, [], _∷_, _++_}
 use Prim.Native.Nat.{ℕ, _*_, _≤_}
 use lib.Dec.{lit≤}
 use lib.ListN.{length, replicate}
+use Rattle.scb.specs.Words.{noEvents}
 use Rattle.device.specs.State.{cuState, isActive}
 use Rattle.actions.specs.Setup.{setupOf}
 use Rattle.chip.specs.Cases.{Word, _is_, put, startOn}
 use Rattle.chip.specs.Call.{attention, arrive, turn}
 use Rattle.chip.specs.World.{World}
-use Rattle.traces.specs.Event.{Event, call, host, step, isTurn, DuringList}
-use Rattle.progress.specs.Trace.{run, AllMay, turns}
+use Rattle.traces.specs.Event.{Event, call, host, step, DuringList}
+use Rattle.progress.specs.Trace.{run}
 use Rattle.progress.specs.Machine.{Undisturbed, log}
 use Rattle.lists.specs.Uses.{Listed, firstOf}
 use Rattle.lists.specs.Unit.{machine, began, ended}
-use Rattle.lists.specs.Done.{Starts, Apart, Done, bytesOf}
+use Rattle.lists.specs.Done.{Starts, enough, Premises, Done, bytesOf}
 use Rattle.lists.proofs.Start.{cblOf}
 use Rattle.lists.proofs.Whole.{attention-list-done}
-use Rattle.worked.proofs.Tests.{keptb, kept-ok, kept-sub, sub-ok, clash-ok, calls-ok}
+use Rattle.worked.proofs.Tests.{cnaAlone, keptb, kept-ok, kept-sub, sub-ok, clash-ok, calls-ok}
 
 -- ---- the statement, with another number of turns for n commands
-
--- the premises on the blocks bs, the trace es and the world v after the starting attention
-pub record PremisesBy (least : ℕ → ℕ) (bs : List ℕ) (es : List Event) (v : World) : Type 0 where
-  pub size : 8192 ≤ length (v .memory)
-  pub apart : Apart bs v
-  pub events : AllMay DuringList step es v
-  pub intact : Undisturbed machine (bytesOf v bs) es v
-  pub turns : least (length bs) ≤ turns isTurn es
 
 abbrev pub FirstHalf : (ℕ → ℕ) → Type 0
 FirstHalf least =
     (bs : List ℕ) (es : List Event) (w : World) → Starts w → firstOf bs ≡ cblOf w .0
     → Listed (step (call attention) w .device .units .base) (step (call attention) w .memory) bs
-    → PremisesBy least bs es (step (call attention) w) → Done bs es (step (call attention) w)
+    → Premises DuringList least bs es (step (call attention) w) → Done bs es (step (call attention) w)
 
 -- ---- the board: ISCP at 0, SCB at 8, base 0
 
@@ -94,7 +87,7 @@ one-kept =
     kept-sub (bytesOf alone (0x18 ∷ [])) addresses (one 131) alone (sub-ok (bytesOf alone (0x18 ∷ [])) addresses tt)
     (kept-ok addresses (one 131) alone tt)
 
-one-premises : (least : ℕ → ℕ) → least 1 ≤ 131 → PremisesBy least (0x18 ∷ []) (one 131) alone
+one-premises : (least : ℕ → ℕ) → least 1 ≤ 131 → Premises DuringList least (0x18 ∷ []) (one 131) alone
 unfolding keptb
 one-premises least l =
     record {
@@ -109,7 +102,7 @@ not-after-131 : isActive (cuState (run step (one 131) alone .device .units .cu))
 unfolding keptb
 not-after-131 = refl
 
-after-132 : log machine (one 132) alone ≡ began 0x18 ∷ ended 0x18 0x8100 [] ∷ []
+after-132 : log machine (one 132) alone ≡ began 0x18 ∷ ended 0x18 0x8100 [] cnaAlone ∷ []
 unfolding keptb
 after-132 = refl
 
@@ -150,11 +143,11 @@ not-after-263 : isActive (cuState (run step (two 132) pair .device .units .cu)) 
 unfolding keptb
 not-after-263 = refl
 
-after-264 : log machine (two 133) pair ≡ began 0x18 ∷ ended 0x18 0x8100 [] ∷ began 0x54 ∷ ended 0x54 0x8100 [] ∷ []
+after-264 : log machine (two 133) pair ≡ began 0x18 ∷ ended 0x18 0x8100 [] noEvents ∷ began 0x54 ∷ ended 0x54 0x8100 [] cnaAlone ∷ []
 unfolding keptb
 after-264 = refl
 
-two-premises : (least : ℕ → ℕ) → least 2 ≤ 263 → PremisesBy least both (two 132) pair
+two-premises : (least : ℕ → ℕ) → least 2 ≤ 263 → Premises DuringList least both (two 132) pair
 unfolding keptb
 two-premises least l =
     record {
@@ -174,7 +167,5 @@ two-take-264 least l half =
 
 -- ---- 132 turns a command are enough, and not one can be spared
 
-pub first-half : FirstHalf (λ n. 132 * n)
-first-half bs es w s first listed p =
-    attention-list-done bs es w s first listed
-    (record { size = p .size; apart = p .apart; events = p .events; intact = p .intact; turns = p .turns })
+pub first-half : FirstHalf enough
+first-half = attention-list-done
