@@ -59,7 +59,7 @@ use Rattle.held.proofs.Exact as held-exact
 use Rattle.held.proofs.Calls as held-calls
 use Rattle.kinds.specs.Chips.{Chip, Meets, Says, Permits}
 use Rattle.kinds.specs.Demands.{Demand1, Demand2}
-use Rattle.kinds.specs.Lists.{Demand3}
+use Rattle.kinds.specs.Third.{Demand3}
 use Rattle.kinds.specs.Kinds.{Wrong, LacksNamed}
 use Rattle.kinds.proofs.Equal as equal
 use Rattle.kinds.proofs.Ours as demanded

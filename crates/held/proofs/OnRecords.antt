@@ -121,7 +121,7 @@ unit-to-hold (ru.Closing s o full) f e h =
 unit-to-hold (ru.Lacking s) f e h =
     rw (← head-eq-of-cons-eq h) (frame-to-hold (s .frame) (both (frameFits (s .frame)) (ltb header (s .frame .length)) e .0))
 
-to-hold : (d : Device) (f : Frame) → inRange d ≡ true → heldIn (d .units .ru) ≡ f ∷ [] → isToHold f ≡ true
+pub to-hold : (d : Device) (f : Frame) → inRange d ≡ true → heldIn (d .units .ru) ≡ f ∷ [] → isToHold f ≡ true
 unfolding inRange unitsFit
 to-hold d f e h =
     let u = d .units in

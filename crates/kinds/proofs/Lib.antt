@@ -14,4 +14,3 @@ pub mod Inspected
 pub mod Stubs
 pub mod Marker
 pub mod Closing
-pub mod Full

@@ -1,7 +1,7 @@
 -- The wrong kinds of chip: 01, "The inspector's list". Each is a property of an arbitrary chip, as wide as its sentence allows. Assumes nothing.
 use mathlib.Core.Path.{_≡_}
 use mathlib.Core.Bool.{true, false}
-use mathlib.Core.List.{List, _∷_, map}
+use mathlib.Core.List.{List, _∷_, _++_, map}
 use mathlib.Core.Logic.{_⊎_}
 use Prim.Native.Nat.{ℕ, _/_, _^_, _<_}
 use Rattle.memory.specs.Address.{place}
@@ -27,11 +27,14 @@ use Rattle.chip.specs.World.{World, Ran, worldOf}
 use Rattle.chip.specs.Call.{Call, attention, turn, ran}
 use Rattle.calls.specs.Calls.{Areas, Called, answerNumber}
 use Rattle.traces.specs.Bytes.{number, sentLength}
-use Rattle.progress.specs.Trace.{run, AllMay}
-use Rattle.traces.specs.Event.{Event, call, step, answersOf, Calm}
-use Rattle.kinds.specs.Chips.{Chip, Handed, chipAnswers}
+use Rattle.progress.specs.Trace.{run}
+use Rattle.traces.specs.Areas.{shown}
+use Rattle.traces.specs.Event.{call, step}
+use Rattle.lists.specs.Done.{enough}
+use Rattle.kinds.specs.Chips.{Chip, Handed, Act, does, eventsIn, chipAnswers, answersAlong}
 use Rattle.kinds.specs.Demands.{Demand1, Acceptable, lentOf, Demand2}
-use Rattle.kinds.specs.Lists.{All, Starting, turnsOf, AllReports, started, AllAcceptable, Demand3}
+use Rattle.kinds.specs.Lists.{All, Starting, turnsOf, AllReports, started}
+use Rattle.kinds.specs.Third.{ListRun, Demand3}
 
 -- at every call that is not to be refused, something is so of what is lent and what is left; a chip of which it is so at every call is of the
 -- kind too
@@ -134,8 +137,8 @@ pub record Invents (chip : Chip) : Type 0 where
   pub lent : Handed call (lentOf device memory holding outgoing)
   pub invented : Invented device (ran call (worldOf device memory holding outgoing)) (chip .calls inner call (lentOf device memory holding outgoing))
 
--- the same after the start of a list, amid turns, arriving frames and host writes: after them a counter, or along them an edge, is not what the
--- definitions leave
+-- the same in the run of a list, as demand 3 has it, amid turns, arriving frames, host writes and refused calls: after some of them a counter, or
+-- along them an edge, is not what the definitions leave
 pub data InventedAlong (d : Device) (after : Areas) (answers : List ℕ) (w : World) (said : List ℕ) : Type 0 where
   anotherCount : (k : Counter) → isCounter k ≡ true
       → (wordAt (after .memory) (ofScb (d .units) (counterPlace k)) ≡ wordAt (w .memory) (ofScb (d .units) (counterPlace k)) → ⊥)
@@ -144,22 +147,14 @@ pub data InventedAlong (d : Device) (after : Areas) (answers : List ℕ) (w : Wo
 
 pub record InventsAlong (chip : Chip) : Type 0 where
   pub inner : chip .Inner
-  pub device : Device
-  pub memory : List ℕ
-  pub holding : List ℕ
-  pub outgoing : List ℕ
-  pub first : Offset
-  pub rest : List Offset
-  pub events : List Event
-  pub acceptable : Acceptable attention device memory holding outgoing
-  pub lent : Handed attention (lentOf device memory holding outgoing)
-  pub start : Starting device memory first rest
-  pub all-acceptable : AllAcceptable events
-  pub calm : AllMay Calm step events (step (call attention) (worldOf device memory holding outgoing))
-  pub invented : InventedAlong device (started chip inner events (lentOf device memory holding outgoing))
-      (chipAnswers chip inner (call attention ∷ events) (lentOf device memory holding outgoing))
-      (run step (call attention ∷ events) (worldOf device memory holding outgoing))
-      (answersOf (call attention ∷ events) (worldOf device memory holding outgoing))
+  pub blocks : List ℕ
+  pub acts : List Act
+  pub more : List Act
+  pub world : World
+  pub comes : ListRun enough blocks (acts ++ more) world
+  pub invented : InventedAlong (world .device) (started chip inner acts (shown world))
+      (chipAnswers chip inner (does (call attention) ∷ acts) (shown world))
+      (run step (call attention ∷ eventsIn acts) world) (answersAlong (does (call attention) ∷ acts) world)
 
 -- ---- the list: a chip of any of these kinds; of one that marks commands complete, a third is enough
 

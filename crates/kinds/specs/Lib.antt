@@ -3,4 +3,5 @@ pub mod Chips
 pub mod Demands
 pub mod Closed
 pub mod Lists
+pub mod Third
 pub mod Kinds
