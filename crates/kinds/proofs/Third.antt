@@ -1,5 +1,5 @@
 -- Demand 3, of every chip that meets the promises, since every state that a call leaves is in range. Assumes nothing.
-use mathlib.Core.Path.{_≡_, refl, ap, ap₂, _∙_}
+use mathlib.Core.Path.{_≡_, refl, ap, _∙_}
 use mathlib.Core.List.{List, [], _∷_, _++_, map}
 use Prim.Native.Nat.{ℕ}
 use lib.Dec.{lit≤}
@@ -10,21 +10,21 @@ use Rattle.image.proofs.Exact.{image-bytes}
 use Rattle.control.specs.Obey.{ofScb}
 use Rattle.chip.specs.World.{World, worldOf}
 use Rattle.chip.specs.Call.{Call, attention, ran}
-use Rattle.calls.specs.Calls.{Areas, Called, answerNumber}
+use Rattle.calls.specs.Calls.{Areas, Called, answerNumber, onBytes}
 use Rattle.progress.specs.Trace.{run}
 use Rattle.traces.specs.Areas.{Hosted, shown}
-use Rattle.traces.specs.Event.{Event, call, host, step}
+use Rattle.traces.specs.Event.{Event, call, host, step, answersOf}
 use Rattle.closure.specs.Refusals.{FrameRight}
 use Rattle.lists.proofs.Whole.{attention-list-done}
 use Rattle.held.proofs.Held.{held-frame}
 use Rattle.held.proofs.OnRecords.{to-hold}
-use Rattle.kinds.specs.Chips.{Chip, ours, Given, Handed, Meets, Act, does, asks, eventsIn, chipRun, chipAnswers, answersAlong}
-use Rattle.kinds.specs.Demands.{Acceptable}
+use Rattle.kinds.specs.Chips.{Chip, ours, Given, Handed, Meets, Act, does, asks, eventsIn, chipRun, chipAnswers}
+use Rattle.kinds.specs.Demands.{Acceptable, Demand2}
 use Rattle.kinds.specs.Closed.{Right, Closed}
 use Rattle.kinds.specs.Third.{AllAcceptable, AllRefused, AsSaid, Demand3}
 use Rattle.kinds.specs.Kinds.{InventedAlong, anotherCount, anotherEdges, fromEdge, InventsAlong}
 use Rattle.kinds.proofs.Equal.{ours-meets, as-called}
-use Rattle.kinds.proofs.Accepted.{accepted-call}
+use Rattle.kinds.proofs.Ours.{has-demand2, defined-kept}
 use Rattle.kinds.proofs.Witness.{attending}
 
 -- ---- a call in a world that is right is not to be refused, and leaves one that is
@@ -58,18 +58,62 @@ module _ (closed : Closed) where
   right-along (call c ∷ es) w f r = right-along es (step (call c) w) (f .2) (closed .each c w (f .0) (f .1) r)
   right-along (host m h out ∷ es) w f r = right-along es (step (host m h out) w) (f .1) (hosted w m h out (f .0) r)
 
--- ---- a chip that meets the promises does, along everything that comes, what the definitions do
+-- ---- a chip that has demand 2 does, along everything that comes, what the definitions do, whatever it does at calls that are to be refused
+
+abbrev pub AsIn2 : (chip : Chip) → chip .Inner → List Act → World → Type 0
+AsIn2 chip s [] w = Unit {0}
+AsIn2 chip s (does (call c) ∷ acts) w =
+    (chip .calls s c (shown w) ≡ onBytes (ran c w)) × AsIn2 chip (chip .next s c (shown w)) acts (step (call c) w)
+AsIn2 chip s (does (host m h out) ∷ acts) w = AsIn2 chip s acts (step (host m h out) w)
+AsIn2 chip s (asks c a ∷ acts) w = AsIn2 chip (chip .next s c a) acts w
+
+module _ (closed : Closed) (chip : Chip) (q : Demand2 chip) where
+  at-call : (s : chip .Inner) (c : Call) (w : World) → Given c → FrameRight c → Right w → chip .calls s c (shown w) ≡ onBytes (ran c w)
+  at-call s c w g f r =
+      defined-kept _ _ (q .each s c (w .device) (w .memory) (w .holding) (w .outgoing) (right-acceptable c w f r) (right-handed c w g r))
+
+  pub along : (acts : List Act) (s : chip .Inner) (w : World) → AllAcceptable (eventsIn acts) → Right w → AsIn2 chip s acts w
+  along [] s w f r = tt
+  along (does (call c) ∷ acts) s w f r = (
+    at-call s c w (f .0) (f .1) r,
+    along acts (chip .next s c (shown w)) (step (call c) w) (f .2) (closed .each c w (f .0) (f .1) r),
+  )
+  along (does (host m h out) ∷ acts) s w f r = along acts s (step (host m h out) w) (f .1) (hosted w m h out (f .0) r)
+  along (asks c a ∷ acts) s w f r = along acts (chip .next s c a) w f r
+
+-- what that comes to: its run leaves what the definitions leave, and its answers are theirs
+module _ (chip : Chip) where
+  pub run-left : (acts : List Act) (s : chip .Inner) (w : World) → AsIn2 chip s acts w
+      → chipRun chip s acts (shown w) ≡ shown (run step (eventsIn acts) w)
+  run-left [] s w k = refl
+  run-left (does (call c) ∷ acts) s w k =
+      let s′ = chip .next s c (shown w) in
+      ap (λ (r : Called). chipRun chip s′ acts (r .areas)) (k .0) ∙ run-left acts s′ (step (call c) w) (k .1)
+  run-left (does (host m h out) ∷ acts) s w k = run-left acts s (step (host m h out) w) k
+  run-left (asks c a ∷ acts) s w k = run-left acts (chip .next s c a) w k
+
+  pub run-answers : (acts : List Act) (s : chip .Inner) (w : World) → AsIn2 chip s acts w
+      → chipAnswers chip s acts (shown w) ≡ answersOf (eventsIn acts) w
+  run-answers [] s w k = refl
+  run-answers (does (call c) ∷ acts) s w k =
+      let s′ = chip .next s c (shown w) in
+      ap (λ (r : Called). r .answer ∷ chipAnswers chip s′ acts (r .areas)) (k .0)
+      ∙ ap (λ (ys : List ℕ). answerNumber (ran c w .outcome .answer) ∷ ys) (run-answers acts s′ (step (call c) w) (k .1))
+  run-answers (does (host m h out) ∷ acts) s w k = run-answers acts s (step (host m h out) w) k
+  run-answers (asks c a ∷ acts) s w k = run-answers acts (chip .next s c a) w k
+
+-- ---- at calls that are to be refused a chip that meets the promises does so too
+
+module _ (chip : Chip) (p : Meets chip) where
+  all-said : (acts : List Act) (s : chip .Inner) (w : World) → AllRefused acts → AsIn2 chip s acts w → AsSaid chip s acts w
+  all-said [] s w g k = tt
+  all-said (does (call c) ∷ acts) s w g k = (k .0, all-said acts (chip .next s c (shown w)) (step (call c) w) g (k .1))
+  all-said (does (host m h out) ∷ acts) s w g k = all-said acts s (step (host m h out) w) g k
+  all-said (asks c a ∷ acts) s w g k = (as-called chip p s c a (g .0), all-said acts (chip .next s c a) w (g .2) k)
 
 module _ (closed : Closed) (chip : Chip) (p : Meets chip) where
-  pub along : (acts : List Act) (s : chip .Inner) (w : World) → AllAcceptable (eventsIn acts) → AllRefused acts → Right w → AsSaid chip s acts w
-  along [] s w f g r = tt
-  along (does (call c) ∷ acts) s w f g r = (
-    as-called chip p s c (shown w) (right-handed c w (f .0) r)
-        ∙ accepted-call (w .device) (w .memory) (w .holding) (w .outgoing) c (right-acceptable c w (f .1) r),
-    along acts (chip .next s c (shown w)) (step (call c) w) (f .2) g (closed .each c w (f .0) (f .1) r),
-  )
-  along (does (host m h out) ∷ acts) s w f g r = along acts s (step (host m h out) w) (f .1) g (hosted w m h out (f .0) r)
-  along (asks c a ∷ acts) s w f g r = (as-called chip p s c a (g .0), along acts (chip .next s c a) w f (g .2) r)
+  as-said : (acts : List Act) (s : chip .Inner) (w : World) → AllAcceptable (eventsIn acts) → AllRefused acts → Right w → AsSaid chip s acts w
+  as-said acts s w f g r = all-said chip p acts s w g (along closed chip (has-demand2 chip p) acts s w f r)
 
   pub meets-demand3 : Demand3 chip
   meets-demand3 =
@@ -77,40 +121,34 @@ module _ (closed : Closed) (chip : Chip) (p : Meets chip) where
         list =
             λ s bs acts w k. (
               attention-list-done bs (eventsIn acts) w (k .starts) (k .first) (k .listed) (k .premises),
-              along (does (call attention) ∷ acts) s w (attending, lit≤ tt, k .acceptable) (k .refused) (k .right),
+              as-said (does (call attention) ∷ acts) s w (attending, lit≤ tt, k .acceptable) (k .refused) (k .right),
             );
         frame =
             λ s f acts w k. (
               held-frame w f (eventsIn acts) (k .holds) (to-hold (w .device) f (k .right .range) (k .holds)) (k .events) (k .turns),
-              along acts s w (k .acceptable) (k .refused) (k .right),
+              as-said acts s w (k .acceptable) (k .refused) (k .right),
             );
       }
 
 pub ours-demand3 : Closed → Demand3 ours
 ours-demand3 closed = meets-demand3 closed ours ours-meets
 
--- ---- what it comes to: the run of such a chip leaves what the definitions leave, and its answers are theirs
-
 module _ (chip : Chip) where
+  -- ---- what demand 3 comes to: so every chip that has it leaves, all along, what the definitions leave, and its answers are theirs
+
+  pub in-2 : (acts : List Act) (s : chip .Inner) (w : World) → AsSaid chip s acts w → AsIn2 chip s acts w
+  in-2 [] s w k = tt
+  in-2 (does (call c) ∷ acts) s w k = (k .0, in-2 acts (chip .next s c (shown w)) (step (call c) w) (k .1))
+  in-2 (does (host m h out) ∷ acts) s w k = in-2 acts s (step (host m h out) w) k
+  in-2 (asks c a ∷ acts) s w k = in-2 acts (chip .next s c a) w (k .1)
+
   pub said-left : (acts : List Act) (s : chip .Inner) (w : World) → AsSaid chip s acts w
       → chipRun chip s acts (shown w) ≡ shown (run step (eventsIn acts) w)
-  said-left [] s w k = refl
-  said-left (does (call c) ∷ acts) s w k =
-      let s′ = chip .next s c (shown w) in
-      ap (λ (r : Called). chipRun chip s′ acts (r .areas)) (k .0) ∙ said-left acts s′ (step (call c) w) (k .1)
-  said-left (does (host m h out) ∷ acts) s w k = said-left acts s (step (host m h out) w) k
-  said-left (asks c a ∷ acts) s w k = said-left acts (chip .next s c a) w (k .1)
+  said-left acts s w k = run-left chip acts s w (in-2 acts s w k)
 
   pub said-answers : (acts : List Act) (s : chip .Inner) (w : World) → AsSaid chip s acts w
-      → chipAnswers chip s acts (shown w) ≡ answersAlong acts w
-  said-answers [] s w k = refl
-  said-answers (does (call c) ∷ acts) s w k =
-      let s′ = chip .next s c (shown w) in
-      ap (λ (r : Called). r .answer ∷ chipAnswers chip s′ acts (r .areas)) (k .0)
-      ∙ ap (λ (ys : List ℕ). answerNumber (ran c w .outcome .answer) ∷ ys) (said-answers acts s′ (step (call c) w) (k .1))
-  said-answers (does (host m h out) ∷ acts) s w k = said-answers acts s (step (host m h out) w) k
-  said-answers (asks c a ∷ acts) s w k =
-      ap₂ (λ (y : ℕ) (ys : List ℕ). y ∷ ys) (ap (λ (r : Called). r .answer) (k .0)) (said-answers acts (chip .next s c a) w (k .1))
+      → chipAnswers chip s acts (shown w) ≡ answersOf (eventsIn acts) w
+  said-answers acts s w k = run-answers chip acts s w (in-2 acts s w k)
 
   -- of a part of what comes, from the beginning on
   said-before : (acts more : List Act) (s : chip .Inner) (w : World) → AsSaid chip s (acts ++ more) w → AsSaid chip s acts w

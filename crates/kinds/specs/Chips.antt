@@ -2,12 +2,11 @@
 use mathlib.Core.Path.{_≡_}
 use mathlib.Core.List.{List, [], _∷_}
 use Prim.Native.Nat.{ℕ, _^_, _<_}
-use Rattle.chip.specs.World.{World}
-use Rattle.chip.specs.Call.{Call, reset, attention, arrive, turn, ran}
-use Rattle.calls.specs.Calls.{Areas, areasOf, Called, Calls, Renews, answerNumber, attentionCall, arrivalCall, turnCall, resetCall}
+use Rattle.chip.specs.Call.{Call, reset, attention, arrive, turn}
+use Rattle.calls.specs.Calls.{Areas, areasOf, Called, Calls, Renews, attentionCall, arrivalCall, turnCall, resetCall}
 use Rattle.traces.specs.Bytes.{called}
 use Rattle.traces.specs.Areas.{FrameBytes, AreBytes}
-use Rattle.traces.specs.Event.{Event, call, host, step}
+use Rattle.traces.specs.Event.{Event, call, host}
 
 -- anything with the four calls on bytes. Inner: all that its calls may depend on besides what is lent, be it kept from call to call or chance
 pub record Chip : Type 1 where
@@ -77,17 +76,10 @@ chipRun chip s (does (call c) ∷ acts) a = chipRun chip (chip .next s c a) acts
 chipRun chip s (does (host m h out) ∷ acts) a = chipRun chip s acts (areasOf m h out (a .kept))
 chipRun chip s (asks c b ∷ acts) a = chipRun chip (chip .next s c b) acts a
 
--- the answers along it
+-- the answers along it, of the calls that are not to be refused
 abbrev pub chipAnswers : (chip : Chip) → chip .Inner → List Act → Areas → List ℕ
 chipAnswers chip s [] a = []
 chipAnswers chip s (does (call c) ∷ acts) a =
     chip .calls s c a .answer ∷ chipAnswers chip (chip .next s c a) acts (chip .calls s c a .areas)
 chipAnswers chip s (does (host m h out) ∷ acts) a = chipAnswers chip s acts (areasOf m h out (a .kept))
-chipAnswers chip s (asks c b ∷ acts) a = chip .calls s c b .answer ∷ chipAnswers chip (chip .next s c b) acts a
-
--- and those that the definitions give
-abbrev pub answersAlong : List Act → World → List ℕ
-answersAlong [] w = []
-answersAlong (does (call c) ∷ acts) w = answerNumber (ran c w .outcome .answer) ∷ answersAlong acts (step (call c) w)
-answersAlong (does (host m h out) ∷ acts) w = answersAlong acts (step (host m h out) w)
-answersAlong (asks c b ∷ acts) w = called c b .answer ∷ answersAlong acts w
+chipAnswers chip s (asks c b ∷ acts) a = chipAnswers chip (chip .next s c b) acts a

@@ -29,9 +29,9 @@ use Rattle.calls.specs.Calls.{Areas, Called, answerNumber}
 use Rattle.traces.specs.Bytes.{number, sentLength}
 use Rattle.progress.specs.Trace.{run}
 use Rattle.traces.specs.Areas.{shown}
-use Rattle.traces.specs.Event.{call, step}
+use Rattle.traces.specs.Event.{call, step, answersOf}
 use Rattle.lists.specs.Done.{enough}
-use Rattle.kinds.specs.Chips.{Chip, Handed, Act, does, eventsIn, chipAnswers, answersAlong}
+use Rattle.kinds.specs.Chips.{Chip, Handed, Act, does, eventsIn, chipAnswers}
 use Rattle.kinds.specs.Demands.{Demand1, Acceptable, lentOf, Demand2}
 use Rattle.kinds.specs.Lists.{All, Starting, turnsOf, AllReports, started}
 use Rattle.kinds.specs.Third.{ListRun, Demand3}
@@ -154,7 +154,7 @@ pub record InventsAlong (chip : Chip) : Type 0 where
   pub comes : ListRun enough blocks (acts ++ more) world
   pub invented : InventedAlong (world .device) (started chip inner acts (shown world))
       (chipAnswers chip inner (does (call attention) ∷ acts) (shown world))
-      (run step (call attention ∷ eventsIn acts) world) (answersAlong (does (call attention) ∷ acts) world)
+      (run step (call attention ∷ eventsIn acts) world) (answersOf (call attention ∷ eventsIn acts) world)
 
 -- ---- the list: a chip of any of these kinds; of one that marks commands complete, a third is enough
 
