@@ -2,7 +2,7 @@
 -- accepted again; bytes stay bytes and lengths stay. Assumes nothing.
 use mathlib.Core.Path.{_≡_, refl, sym, ap, subst, _∙_}
 use mathlib.Core.Bool.{Bool, true, false}
-use mathlib.Core.List.{List}
+use mathlib.Core.List.{List, [], _∷_, nil≢cons}
 use Prim.Native.Nat.{ℕ, _≤_}
 use native.Mathlib.Omega.{arith}
 use borrow.Author.Tests.{eqb-true, eq-eqb, not-false}
@@ -10,12 +10,16 @@ use lib.Dec.{eqb}
 use lib.ListN.{length}
 use Rattle.memory.proofs.Bytes.{Bytes}
 use Rattle.memory.proofs.Power.{size-allowed}
+use Rattle.scb.specs.declared.RuState.the-variants as rus
 use Rattle.device.specs.Limits.{recordSize}
 use Rattle.device.specs.Numbers.{refusalNumber}
-use Rattle.device.specs.State.{fresh}
+use Rattle.device.specs.State.{ruState, heldIn, fresh}
 use Rattle.device.specs.declared.Device.{Device}
+use Rattle.device.specs.declared.Frame.{Frame}
 use Rattle.device.specs.declared.Refusal.{Refusal}
 use Rattle.device.specs.declared.Refusal.the-variants as refusal
+use Rattle.device.specs.declared.Ru.{Ru}
+use Rattle.device.specs.declared.Ru.the-variants as ru
 use Rattle.device.specs.declared.Units.{Units}
 use Rattle.image.specs.Image.{imageOf, decodeOf, deviceAt}
 use Rattle.image.specs.Found as is
@@ -58,6 +62,21 @@ holds-length r d h = rw (h .image) (length-image d (h .wide .own) (h .wide .list
 
 pub holds-bytes : (r : List ℕ) (d : Device) → Holds r d → Bytes r
 holds-bytes r d h = rw (h .image) (image-bytes d (h .wide))
+
+-- and has no held frame outside Ready
+ready-by : (u : Ru) (f : Frame) (fs : List Frame) → heldIn u ≡ f ∷ fs → ruState u ≡ rus.Ready
+ready-by ru.Idle f fs h = absurd (nil≢cons h)
+ready-by ru.NoResources f fs h = absurd (nil≢cons h)
+ready-by (ru.Suspended o) f fs h = absurd (nil≢cons h)
+ready-by (ru.Ready o) f fs h = refl
+ready-by (ru.Held o g p) f fs h = refl
+ready-by (ru.Filling s w) f fs h = refl
+ready-by (ru.Closing s o e) f fs h = refl
+ready-by (ru.Lacking s) f fs h = refl
+
+pub holds-ready : (r : List ℕ) (d : Device) (f : Frame) (fs : List Frame) → Holds r d → heldIn (d .units .ru) ≡ f ∷ fs
+    → ruState (d .units .ru) ≡ rus.Ready
+holds-ready r d f fs k h = ready-by (d .units .ru) f fs h
 
 -- the image of a state in range
 image-holds : (w : World) → Sound w → Holds (imageOf (w .device)) (w .device)

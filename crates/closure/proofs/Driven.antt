@@ -46,7 +46,7 @@ module _ (May : Event → World → Type 0) where
   -- ---- the areas show the state, and the events may occur, all along
 
   -- what is lent shows the state with what the host left
-  lent-shows : (l : Lending) (a : Areas) (w : World) → Lends May l a → Shows a w → Shows (l .lent) (step (hostOf (l .lent)) w)
+  pub lent-shows : (l : Lending) (a : Areas) (w : World) → Lends May l a → Shows a w → Shows (l .lent) (step (hostOf (l .lent)) w)
   lent-shows l a w k s =
       record { memory = refl; holding = refl; outgoing = refl; kept = subst (λ (r : List ℕ). Holds r (w .device)) (sym (k .kept)) (s .kept) }
 

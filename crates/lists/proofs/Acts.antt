@@ -22,7 +22,6 @@ use Rattle.actions.specs.Setup.{Setup}
 use Rattle.command.specs.Begin.{cmd, begunBy}
 use Rattle.command.specs.End.{end}
 use Rattle.command.specs.Service.{service}
-use Rattle.progress.specs.Machine.{Tag, begun, done}
 use Rattle.progress.specs.Same.{Same}
 use Rattle.progress.proofs.Same.{Sub, sub-nil, in-left, same-refl, same-trans, same-part, same-field}
 use Rattle.lists.specs.Uses.{block, from, wordOf, marked, uses, argumentBytes, setupAfter}
@@ -108,7 +107,7 @@ module _ (base : RealAddress) (m₀ : List ℕ) (big : 8192 ≤ length m₀) whe
         stands = g .stands out;
         part = g .part;
         setup = g .setup;
-        noted = ap (λ (t : List Tag). done c ∷ t) (g .todo);
+        noted = g .noted;
         fewer = g .rank;
       }
 
@@ -124,7 +123,7 @@ module _ (base : RealAddress) (m₀ : List ℕ) (big : 8192 ≤ length m₀) whe
         stands = g .stands out;
         part = g .part;
         setup = g .setup;
-        noted = ap (λ (t : List Tag). done c ∷ t) (g .todo);
+        noted = g .noted;
         fewer = g .rank;
       }
 
@@ -140,7 +139,7 @@ module _ (base : RealAddress) (m₀ : List ℕ) (big : 8192 ≤ length m₀) whe
         stands = g .stands out;
         part = g .part;
         setup = g .setup;
-        noted = ap (λ (t : List Tag). done c ∷ t) (g .todo);
+        noted = g .noted;
         fewer = g .rank;
       }
 

@@ -20,28 +20,17 @@ use Rattle.actions.specs.Setup.{Setup}
 use Rattle.command.specs.Begin.{cmd, begunBy, toFirst, toBegun, begin}
 use Rattle.command.specs.Part.{Part}
 use Rattle.command.specs.Service.{service}
-use Rattle.progress.specs.Machine.{Tag, begun, done, eachOnce}
 use Rattle.progress.specs.Same.{range, Same}
 use Rattle.progress.proofs.Same.{Sub, sub-nil, in-left, in-right, same-apply, same-field}
 use Rattle.lists.specs.Uses.{block, from, wordOf, addressLengthOf, headerBytes, headerLengthOf, marked, uses, chainBytes, firstBytes, listSetup, listBytes}
-use Rattle.lists.specs.Unit.{beginReads, readsBy}
+use Rattle.lists.specs.Unit.{Tag, begun, beginReads, readsBy}
 use Rattle.lists.proofs.Laws.{begun-setup, begun-base}
 use Rattle.lists.proofs.Blocks.{sub-refl, sub-append, command-in, own-in, word-targets, status-result, later}
-use Rattle.lists.proofs.Stands.{todo, rank, Begins, Now, Lies, Leads, partWith}
+use Rattle.lists.proofs.Stands.{begunTodo, todo, rank, Begins, Now, Lies, Leads, partWith}
 
 -- ---- the unit that a begin leaves
 
 -- by its kind, and by whether its first descriptor is none
-first-todo : (none : Bool) (b : Begun) (o : Offset) (c : ℕ) (cs : List ℕ) → todo (toFirst none b o) (c ∷ cs) ≡ done c ∷ eachOnce cs
-first-todo true b o c cs = refl
-first-todo false b o c cs = refl
-
-begun-todo : (t : Bool) (p : Part) (b : Begun) (word : ℕ) (m : List ℕ) (c : ℕ) (cs : List ℕ)
-    → todo (toBegun t p b word m .unit) (c ∷ cs) ≡ done c ∷ eachOnce cs
-begun-todo true p b word m c cs =
-    let first = offsetAt m (place (p .base) (b .block) argumentAt) in first-todo (isNone first) b first c cs
-begun-todo false p b word m c cs = refl
-
 first-rank : (none : Bool) (b : Begun) (o : Offset) (k : ℕ) → rank (toFirst none b o) (suc k) < 66 * suc k
 first-rank true b o k = omega arith
 first-rank false b o k = omega arith
@@ -52,6 +41,16 @@ begun-rank true p b word m k =
 begun-rank false p b word m k = omega arith
 
 module _ (base : RealAddress) (m₀ : List ℕ) where
+  first-todo : (none : Bool) (b : Begun) (o : Offset) (c : ℕ) (cs : List ℕ) → todo base m₀ (toFirst none b o) (c ∷ cs) ≡ begunTodo base m₀ c cs
+  first-todo true b o c cs = refl
+  first-todo false b o c cs = refl
+
+  begun-todo : (t : Bool) (p : Part) (b : Begun) (word : ℕ) (m : List ℕ) (c : ℕ) (cs : List ℕ)
+      → todo base m₀ (toBegun t p b word m .unit) (c ∷ cs) ≡ begunTodo base m₀ c cs
+  begun-todo true p b word m c cs =
+      let first = offsetAt m (place (p .base) (b .block) argumentAt) in first-todo (isNone first) b first c cs
+  begun-todo false p b word m c cs = refl
+
   first-now : (none : Bool) (s : Setup) (b : Begun) (o : Offset) (c : ℕ) (q : List ℕ) → Begins base m₀ true s b c q
       → Sub (firstBytes none (chainBytes mostBuffers base (marked base m₀ c) o (headerLengthOf s))) (uses base s m₀ c)
       → Now base m₀ (toFirst none b o) s c q

@@ -18,23 +18,15 @@ use Rattle.device.specs.declared.Walk.{Walk}
 use Rattle.actions.specs.Setup.{Setup}
 use Rattle.command.specs.Buffer.{descriptorAt, past, isLast, afterBuffer, fits, buffer}
 use Rattle.command.specs.Service.{service}
-use Rattle.progress.specs.Machine.{done, eachOnce}
 use Rattle.progress.specs.Same.{range, Same}
 use Rattle.progress.proofs.Same.{Sub, sub-nil, in-left, in-right, same-part}
 use Rattle.lists.specs.Uses.{marked, uses, descriptorBytes, behind, chainBytes, listBytes}
 use Rattle.lists.specs.Unit.{dataReads, readsBy}
 use Rattle.lists.proofs.Laws.{descriptor-local}
 use Rattle.lists.proofs.Blocks.{sub-refl, sub-append}
-use Rattle.lists.proofs.Stands.{todo, rank, Begins, Walks, Now, Lies, Leads, partWith}
+use Rattle.lists.proofs.Stands.{begunTodo, todo, rank, Begins, Walks, Now, Lies, Leads, partWith}
 
 -- ---- the unit that a buffer leaves, by its tests
-
-next-todo : (f e n l : Bool) (b : Begun) (w : Walk) (c : ℕ) (cs : List ℕ) → todo (afterBuffer f e n l b w) (c ∷ cs) ≡ done c ∷ eachOnce cs
-next-todo false e n l b w c cs = refl
-next-todo true true n l b w c cs = refl
-next-todo true false true l b w c cs = refl
-next-todo true false false true b w c cs = refl
-next-todo true false false false b w c cs = refl
 
 -- with u descriptors before it, which leave one at least
 next-rank : (f e n l : Bool) (b : Begun) (w : Walk) (u j k : ℕ) → w .used ≡ u + 1 → u + suc j ≡ mostBuffers
@@ -46,6 +38,14 @@ next-rank true false false true b w u j k h s = omega arith
 next-rank true false false false b w u j k h s = omega arith
 
 module _ (base : RealAddress) (m₀ : List ℕ) where
+  next-todo : (f e n l : Bool) (b : Begun) (w : Walk) (c : ℕ) (cs : List ℕ)
+      → todo base m₀ (afterBuffer f e n l b w) (c ∷ cs) ≡ begunTodo base m₀ c cs
+  next-todo false e n l b w c cs = refl
+  next-todo true true n l b w c cs = refl
+  next-todo true false true l b w c cs = refl
+  next-todo true false false true b w c cs = refl
+  next-todo true false false false b w c cs = refl
+
   -- not the 64th: descriptors are left
   more : (x : Setup) (j u c : ℕ) (next : Offset) (filled : ℕ) → u + suc j ≡ mostBuffers → leb mostBuffers (u + 1) ≡ false
       → Sub (chainBytes j base (marked base m₀ c) next filled) (uses base x m₀ c) → Walks base m₀ x (u + 1) filled next c

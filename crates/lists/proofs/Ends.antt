@@ -20,13 +20,13 @@ use Rattle.actions.specs.Actions.{Acted, act}
 use Rattle.actions.specs.Block.{blockStatusAt, blockLinkAt, argumentAt}
 use Rattle.actions.specs.Setup.{Setup}
 use Rattle.command.specs.Begin.{cmd, begunBy}
-use Rattle.command.specs.End.{afterEnd, nextAfter}
-use Rattle.progress.specs.Machine.{eachOnce}
+use Rattle.command.specs.End.{afterEnd, raisedBy, nextAfter}
 use Rattle.progress.specs.Same.{targets, Same}
 use Rattle.progress.proofs.Same.{Sub, sub-nil, in-left, in-right, same-trans, same-part, same-field, apart-writes}
 use Rattle.lists.specs.Uses.{block, from, wordOf, marked, uses, resultBytes, tdrBytes, setupAfter, listSetup, listBytes, stops}
+use Rattle.lists.specs.Unit.{done}
 use Rattle.lists.proofs.Blocks.{sub-refl, word-targets, targets-append, link-in, status-result, tdr-result, link-apart, marked-same, marked-size, later, rest-in}
-use Rattle.lists.proofs.Stands.{todo, rank, Lies, Stands, partWith}
+use Rattle.lists.proofs.Stands.{begunTodo, todo, rank, Lies, Stands, partWith}
 
 -- ---- what an action writes besides the status: TDR its word, and no other anything
 
@@ -124,7 +124,7 @@ module _ (base : RealAddress) (m₀ : List ℕ) (big : 8192 ≤ length m₀) whe
     pub stands : (out : List ℕ) → Stands base m₀ cs (partWith base unit x out) q
     pub part : Sub (listBytes base x m₀ cs) (listBytes base s m₀ (c ∷ cs))
     pub setup : listSetup base x m₀ cs ≡ listSetup base s m₀ (c ∷ cs)
-    pub todo : todo unit cs ≡ eachOnce cs
+    pub noted : done c (raisedBy (begunBy (block c) (wordOf base m₀ c)) unit) ∷ todo base m₀ unit cs ≡ begunTodo base m₀ c cs
     pub rank : rank unit (length cs) < 1 + 66 * length cs
 
   -- the next command, and those behind it, under the setup that c leaves
@@ -140,13 +140,14 @@ module _ (base : RealAddress) (m₀ : List ℕ) (big : 8192 ≤ length m₀) whe
 
   pub at-end : (s : Setup) (c : ℕ) (cs : List ℕ) (a : Acted) (q : List ℕ) → a .setup ≡ setupAfter base s m₀ c → Sub (targets (a .writes)) (tdrOf c)
       → Same (uses base s m₀ c) q (marked base m₀ c) → Lies base m₀ s c cs q → Goes s (a .setup) (unitAfter c a q) c cs (apply (writesAt c a) q)
+  unfolding begunBy
   at-end s c [] a q u t k l =
       let h : isActive (cuState (unitAfter c a q)) ≡ false = last-stops c a q (l .listed) in
       record {
         stands = λ out. h;
         part = rest-in base s (a .setup) m₀ c [] u;
         setup = u;
-        todo = refl;
+        noted = rw h;
         rank = rw (rank-out (unitAfter c a q) h) (omega arith);
       }
   at-end s c (d ∷ ds) a q u t k l =
@@ -166,6 +167,6 @@ module _ (base : RealAddress) (m₀ : List ℕ) (big : 8192 ≤ length m₀) whe
             (subst (λ (z : Cu). Stands base m₀ (d ∷ ds) (partWith base z (setupAfter base s m₀ c) out) p) (sym e) (next-stands s c d ds p out i));
         part = rest-in base s (a .setup) m₀ c (d ∷ ds) u;
         setup = ap (λ (x : Setup). listSetup base x m₀ (d ∷ ds)) u;
-        todo = rw e;
+        noted = rw e;
         rank = rw e (omega arith);
       }

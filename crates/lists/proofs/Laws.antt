@@ -220,10 +220,13 @@ note-local cu.Idle p m q r h = refl
 note-local (cu.Suspended o) p m q r h = refl
 note-local (cu.Waiting o) p m q r h = refl
 note-local (cu.Acting b a) p m q r h =
-    rw (act-local a (p .base) (p .setup) (b .block) m q (same-left (argumentBytes a (p .base) (p .setup) q (b .block .0)) (endReads p (b .block .0)) h))
+    let A = argumentBytes a (p .base) (p .setup) q (b .block .0) in
+    let B = endReads p (b .block .0) in
+    rw (act-local a (p .base) (p .setup) (b .block) m q (same-left A B h))
+    (rw (end-local p b (act a (p .base) (p .setup) (b .block) q) m q (same-right A B h)))
 note-local (cu.Sending b w) p m q r h = refl
-note-local (cu.Ending b n) p m q r h = refl
-note-local (cu.Failing b) p m q r h = refl
+note-local (cu.Ending b n) p m q r h = rw (end-local p b (sent (p .setup) n r) m q h)
+note-local (cu.Failing b) p m q r h = rw (end-local p b (notSent (p .setup)) m q h)
 
 -- ---- a turn
 

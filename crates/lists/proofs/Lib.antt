@@ -1,5 +1,6 @@
 -- A command list is done: the laws of taking turns, the starting attention, and list order service by service; the same on bytes.
 pub mod Laws
+pub mod Seen
 pub mod Start
 pub mod Blocks
 pub mod Setups

@@ -14,13 +14,14 @@ use Rattle.actions.specs.Setup.{Setup, setupOf}
 use Rattle.command.specs.Part.{Part, partOf}
 use Rattle.chip.specs.World.{World}
 use Rattle.traces.specs.Event.{Event, step}
-use Rattle.progress.specs.Machine.{Laws, Listing, Covers, eachOnce, reports, part′, mem′, Finished}
+use Rattle.progress.specs.Machine.{Laws, Listing, Covers, reports, part′, mem′, Finished}
 use Rattle.progress.specs.Trace.{run}
 use Rattle.progress.proofs.Same.{Sub, in-left, same-refl}
 use Rattle.progress.proofs.Machine.{finish, ordered}
 use Rattle.lists.specs.Uses.{block, uses, setupAfter, listSetup, listBytes}
-use Rattle.lists.specs.Unit.{tag, readsBy, machine}
-use Rattle.lists.specs.Done.{Started, bytesOf, setupLeft, Apart, enough, Premises, Done}
+use Rattle.lists.specs.Unit.{Tag, tag, readsBy, machine}
+use Rattle.lists.specs.Done.{Started, eachOnce, bytesOf, setupLeft, Apart, enough, Premises, Done}
+use Rattle.lists.proofs.Seen.{all-seen, frames-along}
 use Rattle.lists.proofs.Blocks.{sub-refl}
 use Rattle.lists.proofs.Stands.{todo, rank, Now, Lies, Stands, Leads, partWith}
 use Rattle.lists.proofs.Begins.{at-begin, begin-reads}
@@ -74,7 +75,7 @@ module _ (base : RealAddress) (m₀ : List ℕ) (big : 8192 ≤ length m₀) whe
   busy (cu.Ending b k) s c q now = refl
   busy (cu.Failing b) s c q now = refl
 
-  over : (bs : List ℕ) (p : Part) (q : List ℕ) → Stands base m₀ bs p q → isActive (cuState (p .unit)) ≡ false → todo (p .unit) bs ≡ []
+  over : (bs : List ℕ) (p : Part) (q : List ℕ) → Stands base m₀ bs p q → isActive (cuState (p .unit)) ≡ false → todo base m₀ (p .unit) bs ≡ []
   over [] p q i a = refl
   over (c ∷ cs) p q i a = absurd (false≢true (sym a ∙ busy (p .unit) (p .setup) c q (i .1)))
 
@@ -112,9 +113,10 @@ module _ (base : RealAddress) (m₀ : List ℕ) (big : 8192 ≤ length m₀) whe
     unfolding Inv
     listing =
         record {
+          T = Tag;
           tag = tag;
           Inv = Inv;
-          todo = λ bs p. todo (p .unit) bs;
+          todo = λ bs p. todo base m₀ (p .unit) bs;
           rank = λ bs p. rank (p .unit) (length bs);
           next = λ bs p q r i a.
               let n = next bs p q r (i .0) a in
@@ -138,7 +140,8 @@ stands-start (c ∷ cs) w st nc =
       record { listed = st .listed; apart = nc; later = same-refl (listBytes base (setupAfter base s m c) m cs) m },
     )
 
-start-todo : (bs : List ℕ) (w : World) → Started bs w → todo (w .device .units .cu) bs ≡ eachOnce bs
+start-todo : (bs : List ℕ) (w : World) → Started bs w
+    → todo (w .device .units .base) (w .memory) (w .device .units .cu) bs ≡ eachOnce (w .device .units .base) (w .memory) bs
 start-todo [] w st = refl
 start-todo (c ∷ cs) w st = rw (st .unit)
 
@@ -178,6 +181,8 @@ listDone May laws bs es w st pr =
     record {
       order = f .order ∙ start-todo bs w st;
       notes = f .alone .notes;
+      told = frames-along es w;
+      seen = all-seen es w;
       part = f .alone .part;
       bytes = f .alone .bytes;
       stopped = f .stopped;

@@ -19,22 +19,11 @@ use Rattle.actions.specs.Setup.{Setup}
 use Rattle.command.specs.Begin.{cmd, begunBy}
 use Rattle.command.specs.Part.{Part}
 use Rattle.command.specs.Service.{service}
-use Rattle.progress.specs.Machine.{Tag, begun, done, eachOnce}
 use Rattle.progress.specs.Same.{Same}
 use Rattle.progress.proofs.Same.{Sub}
 use Rattle.lists.specs.Uses.{block, wordOf, marked, uses, chainBytes, setupAfter, listSetup, listBytes, NoClash, Listed}
-use Rattle.lists.specs.Unit.{noteBy, tag}
-
--- what is still to be noted, with these blocks to do
-abbrev pub todo : Cu → List ℕ → List Tag
-todo unit [] = []
-todo cu.Idle (c ∷ cs) = []
-todo (cu.Suspended o) (c ∷ cs) = []
-todo (cu.Waiting o) (c ∷ cs) = eachOnce (c ∷ cs)
-todo (cu.Acting b a) (c ∷ cs) = done c ∷ eachOnce cs
-todo (cu.Sending b w) (c ∷ cs) = done c ∷ eachOnce cs
-todo (cu.Ending b filled) (c ∷ cs) = done c ∷ eachOnce cs
-todo (cu.Failing b) (c ∷ cs) = done c ∷ eachOnce cs
+use Rattle.lists.specs.Unit.{noteBy, Tag, done, tag}
+use Rattle.lists.specs.Done.{isLast, due, eachOnce}
 
 -- at most so many services are left, with n commands to do: a begin, a buffer for each of 64 descriptors, an end
 abbrev pub rank : Cu → ℕ → ℕ
@@ -47,6 +36,21 @@ rank (cu.Ending b filled) n = 1 + 66 * pred n
 rank (cu.Failing b) n = 1 + 66 * pred n
 
 module _ (base : RealAddress) (m₀ : List ℕ) where
+  -- what is still to be noted, once the command at c is begun
+  abbrev pub begunTodo : ℕ → List ℕ → List Tag
+  begunTodo c cs = done c (due (isLast cs) (wordOf base m₀ c)) ∷ eachOnce base m₀ cs
+
+  -- what is still to be noted, with these blocks to do
+  abbrev pub todo : Cu → List ℕ → List Tag
+  todo unit [] = []
+  todo cu.Idle (c ∷ cs) = []
+  todo (cu.Suspended o) (c ∷ cs) = []
+  todo (cu.Waiting o) (c ∷ cs) = eachOnce base m₀ (c ∷ cs)
+  todo (cu.Acting b a) (c ∷ cs) = begunTodo c cs
+  todo (cu.Sending b w) (c ∷ cs) = begunTodo c cs
+  todo (cu.Ending b filled) (c ∷ cs) = begunTodo c cs
+  todo (cu.Failing b) (c ∷ cs) = begunTodo c cs
+
   -- the command at c is begun, a Transmit or not, with the setup s in force: its word holds, and the bytes that it uses are as its own begin
   -- left them
   pub record Begins (transmits : Bool) (s : Setup) (b : Begun) (c : ℕ) (q : List ℕ) : Type 0 where

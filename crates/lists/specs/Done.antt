@@ -1,11 +1,13 @@
 -- Demand 3, first half: what is asked of the start and of the trace, and what follows. Assumes nothing.
 use mathlib.Core.Path.{_≡_}
-use mathlib.Core.Bool.{true, false}
-use mathlib.Core.List.{List, map}
+use mathlib.Core.Bool.{Bool, true, false}
+use mathlib.Core.List.{List, [], _∷_, map}
 use Prim.Native.Nat.{ℕ, _*_, _≤_}
 use lib.ListN.{length}
 use Rattle.memory.specs.Memory.{wordAt}
-use Rattle.scb.specs.Words.{scbCommandAt, cuc, resets}
+use Rattle.memory.specs.declared.RealAddress.{RealAddress}
+use Rattle.scb.specs.Words.{bit, scbCommandAt, cuc, resets}
+use Rattle.scb.specs.declared.Events.{Events}
 use Rattle.device.specs.State.{cuState, isActive}
 use Rattle.device.specs.declared.Cu.the-variants as cu
 use Rattle.actions.specs.Setup.{Setup, setupOf}
@@ -13,11 +15,13 @@ use Rattle.command.specs.Part.{partOf}
 use Rattle.control.specs.Obey.{ofScb}
 use Rattle.chip.specs.World.{World}
 use Rattle.traces.specs.Event.{Event, step, isTurn}
+use Rattle.traces.specs.Told.{framesAlong}
 use Rattle.progress.specs.Trace.{run, AllMay, turns}
-use Rattle.progress.specs.Machine.{eachOnce, log, log′, reports, part′, mem′, Undisturbed}
+use Rattle.progress.specs.Machine.{log, log′, reports, part′, mem′, Undisturbed}
 use Rattle.progress.specs.Same.{Same}
-use Rattle.lists.specs.Uses.{block, listSetup, listBytes, NoClash, Listed, firstOf}
-use Rattle.lists.specs.Unit.{machine, tag}
+use Rattle.lists.specs.Uses.{block, wordOf, listSetup, listBytes, NoClash, Listed, firstOf}
+use Rattle.lists.specs.Unit.{machine, Tag, begun, done, tag}
+use Rattle.lists.specs.Seen.{AllSeen, framesOf}
 
 -- ---- the start
 
@@ -32,6 +36,20 @@ pub record Starts (w : World) : Type 0 where
 pub record Started (bs : List ℕ) (w : World) : Type 0 where
   pub unit : w .device .units .cu ≡ cu.Waiting (block (firstOf bs))
   pub listed : Listed (w .device .units .base) (w .memory) bs
+
+-- ---- the events that are due: I raises CX; the last block, which ends or suspends the list, leaves Active and so raises CNA, and no other does
+
+abbrev pub isLast : (behind : List ℕ) → Bool
+isLast [] = true
+isLast (d ∷ ds) = false
+
+abbrev pub due : (last : Bool) → (word : ℕ) → Events
+due last word = record { cx = bit word 13; fr = false; cna = last; rnr = false }
+
+-- each command of the list in m: begun, then done with its events, one after the other
+abbrev pub eachOnce : RealAddress → List ℕ → List ℕ → List Tag
+eachOnce base m [] = []
+eachOnce base m (c ∷ cs) = begun c ∷ done c (due (isLast cs) (wordOf base m c)) ∷ eachOnce base m cs
 
 -- ---- what follows: the blocks are done, and the command unit's part and every byte of the list are as the unit alone leaves them,
 -- by the definitions, on the memory as it stood at the start, with the line reports of its turns
@@ -48,10 +66,13 @@ abbrev pub Apart : List ℕ → World → Type 0
 Apart bs w = NoClash (length (w .memory)) (w .device .units .base) (setupOf (w .device)) (w .memory) bs
 
 pub record Done (bs : List ℕ) (es : List Event) (w : World) : Type 0 where
-  -- begun and done, once each, in list order, and nothing else is begun
-  pub order : map tag (log machine es w) ≡ eachOnce bs
-  -- each as the definitions say: status, frame sent
+  -- begun, and done with the events that are due, once each, in list order, and nothing else is begun
+  pub order : map tag (log machine es w) ≡ eachOnce (w .device .units .base) (w .memory) bs
+  -- each as the definitions say: status, frame sent, events raised
   pub notes : log machine es w ≡ log′ machine (reports machine es w) (partOf (w .device) (w .outgoing)) (w .memory)
+  -- and the host sees it: the frames in the answers are these; edge and SCB status at each of its turns are the events' and the units'
+  pub told : framesAlong es w ≡ framesOf (log machine es w)
+  pub seen : AllSeen es w
   -- settings, addresses, outgoing area, and where the unit stands
   pub part : partOf (run step es w .device) (run step es w .outgoing)
       ≡ part′ machine (reports machine es w) (partOf (w .device) (w .outgoing)) (w .memory)

@@ -2,5 +2,6 @@
 -- the same over the areas that the host lends.
 pub mod Uses
 pub mod Unit
+pub mod Seen
 pub mod Done
 pub mod OnBytes

@@ -3,9 +3,9 @@ use mathlib.Core.Bool.{Bool, true, false, not}
 use mathlib.Core.List.{List, [], _∷_, _++_}
 use Prim.Native.Nat.{ℕ}
 use lib.Dec.{eqb}
-use lib.ListN.{take}
 use Rattle.memory.specs.Address.{place}
 use Rattle.memory.specs.Memory.{wordAt}
+use Rattle.scb.specs.declared.Events.{Events}
 use Rattle.device.specs.Numbers.{transmit}
 use Rattle.device.specs.State.{cuWorks}
 use Rattle.device.specs.declared.Begun.{Begun}
@@ -16,37 +16,45 @@ use Rattle.actions.specs.Actions.{Acted, act, sent, notSent}
 use Rattle.actions.specs.Block.{blockCommandAt, blockLinkAt, argumentAt}
 use Rattle.command.specs.Begin.{cmd}
 use Rattle.command.specs.Buffer.{descriptorAt, fits}
+use Rattle.command.specs.End.{end}
 use Rattle.command.specs.Part.{Part, partOf}
 use Rattle.command.specs.Service.{service}
 use Rattle.chip.specs.World.{World}
 use Rattle.chip.specs.Turn.{servedOf, isCommand}
 use Rattle.traces.specs.Event.{Event, step, isTurn, report}
-use Rattle.progress.specs.Machine.{Machine, Tag, begun, done}
+use Rattle.traces.specs.Told.{frameOf}
+use Rattle.progress.specs.Machine.{Machine}
 use Rattle.progress.specs.Same.{range}
 use Rattle.lists.specs.Uses.{headerBytes, argumentBytes, descriptorBytes, from}
 
--- ---- what is noted: a command is begun; it is done, with its status and the frame that was sent, if one was
+-- ---- what is noted: a command is begun; it is done, with its status, the frame that was sent, if one was, and the events that its end raised
 
 pub data Note : Type 0 where
   began : ℕ → Note
-  ended : ℕ → ℕ → List ℕ → Note
+  ended : ℕ → ℕ → List (List ℕ) → Events → Note
 
--- status and length are those of the action, from which the end's writes and the call's answer are made too
-abbrev pub finished : Part → Begun → Acted → Note
-finished p b a = ended (b .block .0) (a .status) (take (a .length) (p .outgoing))
+-- the status is the action's, from which the end's writes are made too; frame and events are the end's, from which the call's answer is made
+abbrev pub finished : Part → Begun → Acted → List ℕ → Note
+finished p b a m =
+    let s = end p b a m in ended (b .block .0) (a .status) (frameOf (s .length) (s .part .outgoing)) (s .raised)
 
 abbrev pub noteBy : Cu → Part → List ℕ → ℕ → List Note
 noteBy cu.Idle p m report = []
 noteBy (cu.Suspended o) p m report = []
 noteBy (cu.Waiting o) p m report = began (o .0) ∷ []
-noteBy (cu.Acting b a) p m report = finished p b (act a (p .base) (p .setup) (b .block) m) ∷ []
+noteBy (cu.Acting b a) p m report = finished p b (act a (p .base) (p .setup) (b .block) m) m ∷ []
 noteBy (cu.Sending b w) p m report = []
-noteBy (cu.Ending b filled) p m report = finished p b (sent (p .setup) filled report) ∷ []
-noteBy (cu.Failing b) p m report = finished p b (notSent (p .setup)) ∷ []
+noteBy (cu.Ending b filled) p m report = finished p b (sent (p .setup) filled report) m ∷ []
+noteBy (cu.Failing b) p m report = finished p b (notSent (p .setup)) m ∷ []
+
+-- what a note says of its command, beside status and frame: begun; done, with the events raised
+pub data Tag : Type 0 where
+  begun : ℕ → Tag
+  done : ℕ → Events → Tag
 
 abbrev pub tag : Note → Tag
 tag (began c) = begun c
-tag (ended c status frame) = done c
+tag (ended c status frames raised) = done c raised
 
 -- ---- the addresses that a service reads
 

@@ -93,7 +93,7 @@ module _ (M : Machine) where
 
 module _ (M : Machine) (O : Listing M) where
   open Machine M using (S, E, P, R, B, step, isTurn, report, view, mem, active, served, last, work, results, note, reads)
-  open Listing O using (tag, Inv, todo, rank, next, some, over)
+  open Listing O using (T, tag, Inv, todo, rank, next, some, over)
 
   pub ordered : (rs : List R) (bs : List ℕ) (v : P) (q : List ℕ) → Inv bs v q → Live M rs v q → (cs : List ℕ) × Ordered M O bs rs v q cs
   ordered [] bs v q i l = (bs, (i, refl, omega arith))

@@ -128,23 +128,16 @@ module _ (M : Machine) where
 
 -- ---- in list order, once each, and how soon
 
-pub data Tag : Type 0 where
-  begun : ℕ → Tag
-  done : ℕ → Tag
-
--- each command of the list: begun, then done, one after the other
-abbrev pub eachOnce : List ℕ → List Tag
-eachOnce [] = []
-eachOnce (c ∷ cs) = begun c ∷ done c ∷ eachOnce cs
-
 module _ (M : Machine) where
   open Machine M using (S, E, P, R, B, step, isTurn, report, view, mem, active, served, last, work, results, note, reads)
 
   -- what the definitions must say of one service of the command unit alone, with the blocks bs still to do
   pub record Listing : Type 1 where
-    pub tag : B → Tag
+    -- what a note says of a command, and what is still to be said
+    pub T : Type 0
+    pub tag : B → T
     pub Inv : List ℕ → P → List ℕ → Type 0
-    pub todo : List ℕ → P → List Tag
+    pub todo : List ℕ → P → List T
     pub rank : List ℕ → P → ℕ
     pub next : (bs : List ℕ) (v : P) (q : List ℕ) (r : R) → Inv bs v q → active v ≡ true
         → (cs : List ℕ) × Inv cs (work v q r) (apply (results v q r) q)
@@ -153,7 +146,7 @@ module _ (M : Machine) where
     pub over : (bs : List ℕ) (v : P) (q : List ℕ) → Inv bs v q → active v ≡ false → todo bs v ≡ []
 
   module _ (O : Listing) where
-    open Listing O using (tag, Inv, todo, rank, next, some, over)
+    open Listing O using (T, tag, Inv, todo, rank, next, some, over)
 
     abbrev pub Ordered : List ℕ → List R → P → List ℕ → List ℕ → Type 0
     Ordered bs rs v q cs =

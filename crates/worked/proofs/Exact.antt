@@ -7,6 +7,7 @@ use mathlib.Core.List.{List, [], _∷_, _++_}
 use Prim.Native.Nat.{ℕ, _*_, _≤_}
 use lib.Dec.{lit≤}
 use lib.ListN.{length, replicate}
+use Rattle.scb.specs.Words.{noEvents}
 use Rattle.device.specs.State.{cuState, isActive}
 use Rattle.actions.specs.Setup.{setupOf}
 use Rattle.chip.specs.Cases.{Word, _is_, put, start}
@@ -20,7 +21,7 @@ use Rattle.lists.specs.Unit.{machine, began, ended}
 use Rattle.lists.specs.Done.{Starts, enough, Premises, Done, bytesOf}
 use Rattle.lists.proofs.Start.{cblOf}
 use Rattle.lists.proofs.Whole.{attention-list-done}
-use Rattle.worked.proofs.Tests.{keptb, kept-ok, kept-sub, sub-ok, clash-ok, calls-ok}
+use Rattle.worked.proofs.Tests.{cnaAlone, keptb, kept-ok, kept-sub, sub-ok, clash-ok, calls-ok}
 
 -- ---- the statement, with another number of turns for n commands
 
@@ -118,7 +119,7 @@ not-after-131 : isActive (cuState (run step (one 131) alone .device .units .cu))
 unfolding keptb
 not-after-131 = refl
 
-after-132 : log machine (one 132) alone ≡ began 0x18 ∷ ended 0x18 0x8100 [] ∷ []
+after-132 : log machine (one 132) alone ≡ began 0x18 ∷ ended 0x18 0x8100 [] cnaAlone ∷ []
 unfolding keptb
 after-132 = refl
 
@@ -161,7 +162,7 @@ not-after-263 : isActive (cuState (run step (two 132) pair .device .units .cu)) 
 unfolding keptb
 not-after-263 = refl
 
-after-264 : log machine (two 133) pair ≡ began 0x18 ∷ ended 0x18 0x8100 [] ∷ began 0x54 ∷ ended 0x54 0x8100 [] ∷ []
+after-264 : log machine (two 133) pair ≡ began 0x18 ∷ ended 0x18 0x8100 [] noEvents ∷ began 0x54 ∷ ended 0x54 0x8100 [] cnaAlone ∷ []
 unfolding keptb
 after-264 = refl
 

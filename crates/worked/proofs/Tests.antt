@@ -11,6 +11,7 @@ use Rattle.memory.specs.Address.{place, beyond}
 use Rattle.memory.specs.declared.RealAddress.{RealAddress}
 use Rattle.scb.specs.Control.{codeOf}
 use Rattle.scb.specs.Words.{bitsAt, joined, acknowledged, anyOf, eventBits, statusWord}
+use Rattle.scb.specs.declared.Events.{Events}
 use Rattle.device.specs.Answers.{counts}
 use Rattle.device.specs.Numbers.{actionOf, verdictOf}
 use Rattle.device.specs.State.{cuWorks, ruWorks}
@@ -41,6 +42,15 @@ use Rattle.progress.specs.Machine.{Undisturbed, own}
 use Rattle.progress.proofs.Same.{Sub, same-part, same-refl}
 use Rattle.lists.specs.Uses.{addressLengthOf, headerBytes, headerLengthOf, marked, uses, setupAfter, listBytes, resultBytes, NoClash}
 use Rattle.lists.specs.Unit.{machine, commandNext}
+
+-- ---- events
+
+-- CX alone, CNA alone
+abbrev pub cxAlone : Events
+cxAlone = record { cx = true; fr = false; cna = false; rnr = false }
+
+abbrev pub cnaAlone : Events
+cnaAlone = record { cx = false; fr = false; cna = true; rnr = false }
 
 -- ---- two tests
 

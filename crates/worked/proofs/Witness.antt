@@ -7,6 +7,7 @@ use Prim.Native.Nat.{ℕ}
 use lib.Dec.{lit≤}
 use lib.ListN.{length, replicate}
 use Rattle.memory.specs.Memory.{wordAt}
+use Rattle.scb.specs.Words.{noEvents}
 use Rattle.device.specs.State.{cuState, isActive, isHolding}
 use Rattle.actions.specs.Setup.{setupOf}
 use Rattle.chip.specs.Cases.{Word, _is_, put, startOn}
@@ -21,19 +22,19 @@ use Rattle.lists.specs.Done.{Starts, Started, enough, Premises, Done, bytesOf}
 use Rattle.lists.proofs.Laws.{list-laws}
 use Rattle.lists.proofs.Start.{started}
 use Rattle.lists.proofs.Order.{listDone}
-use Rattle.worked.proofs.Tests.{keptb, kept-ok, clash-ok, calls-ok, kept-append, idle-kept}
+use Rattle.worked.proofs.Tests.{cxAlone, cnaAlone, keptb, kept-ok, clash-ok, calls-ok, kept-append, idle-kept}
 
 -- ---- the board: ISCP at 0, SCB at 8, base 0
 
 abbrev board : List Word
 board = 8188 is 0 ∷ 0 is 1 ∷ 2 is 0x08 ∷ []
 
--- a Transmit at 18h with a descriptor at 28h and two bytes of data at 30h; a TDR at 32h; a NOP with EL at 3Ah
+-- a Transmit at 18h with a descriptor at 28h and two bytes of data at 30h; a TDR with I at 32h; a NOP with EL at 3Ah
 abbrev blocks : List Word
 blocks =
     0x1A is 0x0004 ∷ 0x1C is 0x32 ∷ 0x1E is 0x28 ∷ 0x20 is 0x0002 ∷ 0x24 is 0x0100 ∷ 0x26 is 0x0008
     ∷ 0x28 is 0x8002 ∷ 0x2A is 0xFFFF ∷ 0x2C is 0x30 ∷ 0x30 is 0x2211
-    ∷ 0x34 is 0x0005 ∷ 0x36 is 0x3A
+    ∷ 0x34 is 0x2005 ∷ 0x36 is 0x3A
     ∷ 0x3C is 0x8000
     ∷ []
 
@@ -132,21 +133,21 @@ premises =
       turns = lit≤ tt;
     }
 
--- what was noted: the frame that was sent, the report in its status
+-- what was noted: the frame that was sent, the report in its status; CX by the TDR, CNA by the NOP
 noted : log machine busy begun
-    ≡ began 0x18 ∷ ended 0x18 0xA003 (2 ∷ 0 ∷ 0 ∷ 0 ∷ 0 ∷ 1 ∷ 255 ∷ 255 ∷ 255 ∷ 255 ∷ 255 ∷ 255 ∷ 8 ∷ 0 ∷ 0x11 ∷ 0x22 ∷ [])
-    ∷ began 0x32 ∷ ended 0x32 0xA000 []
-    ∷ began 0x3A ∷ ended 0x3A 0xA000 []
+    ≡ began 0x18 ∷ ended 0x18 0xA003 ((2 ∷ 0 ∷ 0 ∷ 0 ∷ 0 ∷ 1 ∷ 255 ∷ 255 ∷ 255 ∷ 255 ∷ 255 ∷ 255 ∷ 8 ∷ 0 ∷ 0x11 ∷ 0x22 ∷ []) ∷ []) noEvents
+    ∷ began 0x32 ∷ ended 0x32 0xA000 [] cxAlone
+    ∷ began 0x3A ∷ ended 0x3A 0xA000 [] cnaAlone
     ∷ []
 unfolding keptb
 noted = refl
 
--- both frames were stored, TDR's word was written, and what the host wrote stands
+-- both frames were stored, TDR's word was written, what the host wrote stands, and the SCB's status has all four events
 abbrev words : List ℕ → List ℕ → List ℕ
 words [] m = []
 words (a ∷ rest) m = wordAt m a ∷ words rest m
 
-stored : words (0x40 ∷ 0x58 ∷ 0x38 ∷ 0xB0 ∷ []) (run step busy begun .memory) ≡ 0xA000 ∷ 0xA000 ∷ 0x8000 ∷ 0x5555 ∷ []
+stored : words (0x40 ∷ 0x58 ∷ 0x38 ∷ 0xB0 ∷ 0x08 ∷ []) (run step busy begun .memory) ≡ 0xA000 ∷ 0xA000 ∷ 0x8000 ∷ 0x5555 ∷ 0xF020 ∷ []
 unfolding keptb
 stored = refl
 
