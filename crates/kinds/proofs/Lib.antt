@@ -10,6 +10,7 @@ pub mod Step
 pub mod Runs
 pub mod Start
 pub mod Third
+pub mod Traced
 pub mod Inspected
 pub mod Stubs
 pub mod Marker
