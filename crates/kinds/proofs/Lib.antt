@@ -12,7 +12,8 @@ pub mod Start
 pub mod Third
 pub mod Traced
 pub mod Inspected
-pub mod Stubs
-pub mod Marker
 pub mod Closing
 pub mod Full
+pub mod Spoiled
+pub mod Marked
+pub mod Inventing

@@ -4,3 +4,4 @@ pub mod Demands
 pub mod Closed
 pub mod Lists
 pub mod Kinds
+pub mod Spoiled
