@@ -3,7 +3,7 @@
 use mathlib.Core.Path.{_≡_}
 use mathlib.Core.Bool.{true, false}
 use mathlib.Core.List.{List, [], _∷_, _++_}
-use Prim.Native.Nat.{ℕ, _+_, _*_, _≤_, _<_}
+use Prim.Native.Nat.{ℕ, _+_, _≤_, _<_}
 use lib.ListN.{length}
 use Rattle.memory.specs.Memory.{wordAt}
 use Rattle.memory.specs.declared.Offset.{Offset}
@@ -269,7 +269,7 @@ wrong-chips-are-excluded = closing.none-meets
 
 -- each lacks the demand that is named with it, and every chip that meets the promises has all three
 pub each-lacks-its-demand : (chip : Chip) (w : Wrong chip) → LacksNamed chip w
-each-lacks-its-demand = inspected.lacks-named
+each-lacks-its-demand = inspected.lacks-named closing.closing
 
 pub promises-are-enough : (chip : Chip) → Meets chip → Demand1 chip × Demand2 chip × Demand3 chip
 promises-are-enough chip p = (demanded.has-demand1 chip p, demanded.has-demand2 chip p, closing.meets-demand3 chip p)

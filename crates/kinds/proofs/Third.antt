@@ -157,17 +157,19 @@ module _ (chip : Chip) where
   said-before (does (host m h out) ∷ acts) more s w k = said-before acts more s (step (host m h out) w) k
   said-before (asks c a ∷ acts) more s w k = (k .0, said-before acts more (chip .next s c a) w (k .1))
 
-  -- ---- a counter or an edge that the definitions do not have, in the run of a list: demand 3, which means done as in 2
+-- ---- a counter or an edge that the definitions do not have, in the run of a list: demand 3, which means done as in 2
 
-  none-along : (d : Device) (after : Areas) (answers : List ℕ) (w : World) (said : List ℕ) → after ≡ shown w → answers ≡ said
-      → InventedAlong d after answers w said → ⊥
-  none-along d after answers w said p q (anotherCount k c differs) =
-      differs (ap (λ (a : Areas). wordAt (a .memory) (ofScb (d .units) (counterPlace k))) p)
-  none-along d after answers w said p q (anotherEdges differs) = differs (ap (map fromEdge) q)
+-- all bytes and answers are the definitions': nothing is invented
+pub none-along : (d : Device) (after : Areas) (answers : List ℕ) (w : World) (said : List ℕ) → after ≡ shown w → answers ≡ said
+    → InventedAlong d after answers w said → ⊥
+none-along d after answers w said p q (anotherCount k c differs) =
+    differs (ap (λ (a : Areas). wordAt (a .memory) (ofScb (d .units) (counterPlace k))) p)
+none-along d after answers w said p q (anotherEdges differs) = differs (ap (map fromEdge) q)
 
-  pub invents-along-lacks-3 : InventsAlong chip → Demand3 chip → ⊥
-  invents-along-lacks-3 k d =
-      let all = d .list (k .inner) (k .blocks) (k .acts ++ k .more) (k .world) (k .comes) .1 in
-      let acts = does (call attention) ∷ k .acts in
-      let same = said-before acts (k .more) (k .inner) (k .world) all in
-      none-along (k .world .device) _ _ _ _ (said-left acts (k .inner) (k .world) same) (said-answers acts (k .inner) (k .world) same) (k .invented)
+pub invents-along-lacks-3 : (chip : Chip) → InventsAlong chip → Demand3 chip → ⊥
+invents-along-lacks-3 chip k d =
+    let all = d .list (k .inner) (k .blocks) (k .acts ++ k .more) (k .world) (k .comes) .1 in
+    let acts = does (call attention) ∷ k .acts in
+    let same = said-before chip acts (k .more) (k .inner) (k .world) all in
+    none-along (k .world .device) _ _ _ _ (said-left chip acts (k .inner) (k .world) same) (said-answers chip acts (k .inner) (k .world) same)
+    (k .invented)

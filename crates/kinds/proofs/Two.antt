@@ -3,7 +3,7 @@ use mathlib.Core.Path.{_≡_, refl, sym, ap, _∙_, subst}
 use mathlib.Core.Bool.{Bool, true, false, not, _&&_}
 use mathlib.Core.List.{List, [], _∷_}
 use mathlib.Core.Logic.{_≢_}
-use Prim.Native.Nat.{ℕ, zero, suc, _+_, _%_, _≤_, _<_}
+use Prim.Native.Nat.{ℕ, zero, suc, _+_, _^_, _%_, _≤_, _<_}
 use native.Mathlib.Omega.{arith}
 use lib.Dec.{T, eqb, eqb→eq, eqb-refl, T-not, lit≤}
 use lib.ListN.{length, replicate, length-replicate}
@@ -14,7 +14,7 @@ use Rattle.memory.proofs.Bytes.{Bytes, bytes-nil, apply-bytes, digits-bytes}
 use Rattle.memory.proofs.Fields.{Apart, up, down}
 use Rattle.memory.proofs.Laws.{length-apply}
 use Rattle.scb.specs.Control.{codeOf}
-use Rattle.scb.specs.Words.{bitsAt, bit, joined, acknowledged, anyOf, eventBits, statusWord}
+use Rattle.scb.specs.Words.{bitsAt, joined, acknowledged, anyOf, eventBits, statusWord}
 use Rattle.device.specs.Limits.{holdingSize, outgoingSize}
 use Rattle.device.specs.Numbers.{actionOf}
 use Rattle.device.specs.State.{cuWorks, ruWorks}
@@ -167,11 +167,11 @@ pair = 0x40 ∷ 0x50 ∷ []
 abbrev turns-of : List ℕ → List Event
 turns-of rs = eventsIn (turnsOf rs)
 
--- after four turns both are done
-abbrev over : World
-over = run step (turns-of (0 ∷ 0 ∷ 0 ∷ 0 ∷ [])) begun
+-- after four turns both are done, whatever the first line report
+abbrev over : ℕ → World
+over r = run step (turns-of (r ∷ 0 ∷ 0 ∷ 0 ∷ [])) begun
 
-right-two : Right waits
+pub right-two : Right waits
 right-two =
     let s = acceptable-two attention idle two (omega arith) two-size idle-wide idle-range in
     record {
@@ -281,41 +281,40 @@ two-apart =
       ((λ x y i j. each-nil (λ z. z % n ≢ y % n) x i), tt),
     )
 
-four-kept : Undisturbed machine (lists.bytesOf begun pair) (turns-of (0 ∷ 0 ∷ 0 ∷ 0 ∷ [])) begun
+four-kept : (r : ℕ) → Undisturbed machine (lists.bytesOf begun pair) (turns-of (r ∷ 0 ∷ 0 ∷ 0 ∷ [])) begun
 unfolding keptb
-four-kept = kept-ok (lists.bytesOf begun pair) (turns-of (0 ∷ 0 ∷ 0 ∷ 0 ∷ [])) begun tt
+four-kept r = kept-ok (lists.bytesOf begun pair) (turns-of (r ∷ 0 ∷ 0 ∷ 0 ∷ [])) begun tt
 
-over-idle : cuWorks (over .device .units .cu) ≡ false
+over-idle : (r : ℕ) → cuWorks (over r .device .units .cu) ≡ false
 unfolding keptb
-over-idle = refl
+over-idle r = refl
 
-over-free : ruWorks (over .device .units .ru) ≡ false
+over-free : (r : ℕ) → ruWorks (over r .device .units .ru) ≡ false
 unfolding keptb
-over-free = refl
+over-free r = refl
 
-over-done : wordAt (over .memory) (place (record { 0 = 0 }) other 0) ≡ 0xA000
+over-done : (r : ℕ) → wordAt (over r .memory) (place (record { 0 = 0 }) other 0) ≡ 0xA000
 unfolding keptb
-over-done = refl
+over-done r = refl
 
-two-run : ListRun enough pair (turnsOf (replicate 264 0)) waits
+pub two-run : (r : ℕ) → r < 2 ^ 16 → ListRun enough pair (turnsOf (r ∷ replicate 263 0)) waits
 unfolding byteAt bytesAt value fieldAt putByte putBytes digits place
-two-run =
+two-run r p =
+    let kept = four-kept r in
+    let idle-then = idle-kept (over r) (over-idle r) (over-free r) (lists.bytesOf begun pair) (replicate 260 0) in
     record {
       right = right-two;
       starts = begins-at;
       first = refl;
       listed = stands;
-      acceptable = acceptable-turns (replicate 264 0) (zero-reports 264);
-      refused = refused-turns (replicate 264 0);
+      acceptable = acceptable-turns (r ∷ replicate 263 0) (p, zero-reports 263);
+      refused = refused-turns (r ∷ replicate 263 0);
       premises =
           record {
             size = omega (arith, begun-size);
             apart = two-apart;
-            events = may-turns (replicate 264 0) begun;
-            intact = (
-              four-kept .0,
-              (four-kept .1 .0, (four-kept .1 .1 .0, (four-kept .1 .1 .1 .0, idle-kept over over-idle over-free (lists.bytesOf begun pair) (replicate 260 0)))),
-            );
+            events = may-turns (r ∷ replicate 263 0) begun;
+            intact = (kept .0, (kept .1 .0, (kept .1 .1 .0, (kept .1 .1 .1 .0, idle-then))));
             turns = lit≤ tt;
           };
     }
@@ -324,15 +323,18 @@ module _ (chip : Chip) where
   -- ---- serves the first command only: demand 3. The second block's status is 0 before and would stay so, but becomes A000h
   pub first-only-lacks-3 : FirstOnly chip → Demand3 chip → ⊥
   first-only-lacks-3 k d =
+      let reports : List ℕ = 0 ∷ replicate 263 0 in
       let s = acceptable-two attention idle two (omega arith) two-size idle-wide idle-range in
       let l = handed-two attention idle two attending two-bytes idle-wide in
-      let same = k .each (chip .first) idle two heldArea sentArea one (other ∷ []) (replicate 264 0) s l starting (zero-reports 264) .0 in
-      let said = d .list (chip .first) pair (turnsOf (replicate 264 0)) waits two-run .1 in
-      let left = said-left chip (does (call attention) ∷ turnsOf (replicate 264 0)) (chip .first) waits said in
-      let stays : run step (turns-of (replicate 264 0)) begun ≡ over = idle-run over over-idle over-free (replicate 260 0) in
-      let ends = ap (λ (a : Areas). wordAt (a .memory) (place (record { 0 = 0 }) other 0)) left
-      ∙ ap (λ (w : World). wordAt (w .memory) (place (record { 0 = 0 }) other 0)) stays in
-      omega (arith, same, other-clear, ends, over-done)
+      let same = k .each (chip .first) idle two heldArea sentArea one (other ∷ []) reports s l starting (zero-reports 264) .0 in
+      let said = d .list (chip .first) pair (turnsOf reports) waits (two-run 0 (omega arith)) .1 in
+      let left = said-left chip (does (call attention) ∷ turnsOf reports) (chip .first) waits said in
+      let stays : run step (turns-of reports) begun ≡ over 0 = idle-run (over 0) (over-idle 0) (over-free 0) (replicate 260 0) in
+      let ends =
+      ap (λ (a : Areas). wordAt (a .memory) (place (record { 0 = 0 }) other 0)) left
+      ∙ ap (λ (w : World). wordAt (w .memory) (place (record { 0 = 0 }) other 0)) stays
+      in
+      omega (arith, same, other-clear, ends, over-done 0)
 
 -- ---- and demand 2: the third turn after the start begins the second command
 

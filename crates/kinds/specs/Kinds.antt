@@ -4,6 +4,7 @@ use mathlib.Core.Bool.{true, false}
 use mathlib.Core.List.{List, _∷_, _++_, map}
 use mathlib.Core.Logic.{_⊎_}
 use Prim.Native.Nat.{ℕ, _/_, _^_, _<_}
+use lib.ListN.{take}
 use Rattle.memory.specs.Address.{place}
 use Rattle.memory.specs.Memory.{wordAt}
 use Rattle.memory.specs.declared.Offset.{Offset}
@@ -26,15 +27,16 @@ use Rattle.image.specs.Image.{imageOf}
 use Rattle.chip.specs.World.{World, Ran, worldOf}
 use Rattle.chip.specs.Call.{Call, attention, turn, ran}
 use Rattle.calls.specs.Calls.{Areas, Called, answerNumber}
+use Rattle.traces.specs.Areas.{shown}
 use Rattle.traces.specs.Bytes.{number, sentLength}
 use Rattle.progress.specs.Trace.{run}
-use Rattle.traces.specs.Areas.{shown}
 use Rattle.traces.specs.Event.{call, step, answersOf}
 use Rattle.lists.specs.Done.{enough}
-use Rattle.kinds.specs.Chips.{Chip, Handed, Act, does, eventsIn, chipAnswers}
+use Rattle.kinds.specs.Chips.{Chip, Handed, Act, does, eventsIn, chipRun, chipAnswers}
+use Rattle.kinds.specs.Closed.{Right}
 use Rattle.kinds.specs.Demands.{Demand1, Acceptable, lentOf, Demand2}
 use Rattle.kinds.specs.Lists.{All, Starting, turnsOf, AllReports, started}
-use Rattle.kinds.specs.Third.{ListRun, Demand3}
+use Rattle.kinds.specs.Third.{AllAcceptable, ListRun, Demand3}
 
 -- at every call that is not to be refused, something is so of what is lent and what is left; a chip of which it is so at every call is of the
 -- kind too
@@ -103,6 +105,30 @@ pub record MarksOnly (chip : Chip) : Type 0 where
   pub tdr : MeasuresNothing chip
   pub sending : SendsNothing chip
 
+-- some completions are enough: at one, what the action is to leave is not there, be it the settings, TDR's word, the sent length or the frame's bytes
+-- in the outgoing area. What was left as it was, where the definitions change it, is of this sort
+pub data Undone (d : Device) (o : Offset) (said : Ran) (r : Called) : Type 0 where
+  settingsUndone : (setupIn (r .areas .kept) ≡ setupIn (imageOf (said .outcome .device)) → ⊥) → Undone d o said r
+  wordUndone : (wordAt (r .areas .memory) (place (d .units .base) o argumentAt) ≡ wordAt (said .memory) (place (d .units .base) o argumentAt) → ⊥)
+      → Undone d o said r
+  lengthUndone : (sentLength (r .answer) ≡ sentLength (answerNumber (said .outcome .answer)) → ⊥) → Undone d o said r
+  frameUndone : (take (sentLength (answerNumber (said .outcome .answer))) (r .areas .outgoing)
+      ≡ take (sentLength (answerNumber (said .outcome .answer))) (said .outgoing) → ⊥) → Undone d o said r
+
+pub record MarksSome (chip : Chip) : Type 0 where
+  pub inner : chip .Inner
+  pub report : ℕ
+  pub device : Device
+  pub memory : List ℕ
+  pub holding : List ℕ
+  pub outgoing : List ℕ
+  pub block : Offset
+  pub acceptable : Acceptable (turn report) device memory holding outgoing
+  pub lent : Handed (turn report) (lentOf device memory holding outgoing)
+  pub completes : Completes device memory (chip .calls inner (turn report) (lentOf device memory holding outgoing)) block
+  pub undone : Undone device block (ran (turn report) (worldOf device memory holding outgoing))
+      (chip .calls inner (turn report) (lentOf device memory holding outgoing))
+
 -- ---- one that serves the first command only: whatever the turns after the start, the status of every block after the first stays as it was
 pub record FirstOnly (chip : Chip) : Type 0 where
   pub each : (s : chip .Inner) (d : Device) (m h out : List ℕ) (b : Offset) (bs : List Offset) (reports : List ℕ)
@@ -156,7 +182,20 @@ pub record InventsAlong (chip : Chip) : Type 0 where
       (chipAnswers chip inner (does (call attention) ∷ acts) (shown world))
       (run step (call attention ∷ eventsIn acts) world) (answersOf (call attention ∷ eventsIn acts) world)
 
--- ---- the list: a chip of any of these kinds; of one that marks commands complete, a third is enough
+-- the same along any trace of calls and host writes, from any state in range, whatever it does at calls that are to be refused: after it a counter of
+-- the SCB, where that was or where it is, or along it an edge, is not what the definitions leave
+pub record InventsInTrace (chip : Chip) : Type 0 where
+  pub inner : chip .Inner
+  pub world : World
+  pub acts : List Act
+  pub right : Right world
+  pub all-acceptable : AllAcceptable (eventsIn acts)
+  pub scb : Device
+  pub before-or-after : (scb ≡ world .device) ⊎ (scb ≡ run step (eventsIn acts) world .device)
+  pub invented : InventedAlong scb (chipRun chip inner acts (shown world)) (chipAnswers chip inner acts (shown world))
+      (run step (eventsIn acts) world) (answersOf (eventsIn acts) world)
+
+-- ---- the list: a chip of any of these kinds; of one that marks commands complete, a third is enough, and so is one completion
 
 pub data Wrong (chip : Chip) : Type 0 where
   refuses : RefusesAll chip → Wrong chip
@@ -166,9 +205,11 @@ pub data Wrong (chip : Chip) : Type 0 where
   settingNothing : SetsNothing chip → Wrong chip
   measuringNothing : MeasuresNothing chip → Wrong chip
   sendingNothing : SendsNothing chip → Wrong chip
+  markingSome : MarksSome chip → Wrong chip
   firstOnly : FirstOnly chip → Wrong chip
   inventing : Invents chip → Wrong chip
   inventingAlong : InventsAlong chip → Wrong chip
+  inventingInTrace : InventsInTrace chip → Wrong chip
 
 -- the demand that document 01 names with each
 abbrev pub LacksNamed : (chip : Chip) → Wrong chip → Type 0
@@ -179,6 +220,8 @@ LacksNamed chip (marking k) = Demand2 chip → ⊥
 LacksNamed chip (settingNothing k) = Demand2 chip → ⊥
 LacksNamed chip (measuringNothing k) = Demand2 chip → ⊥
 LacksNamed chip (sendingNothing k) = Demand2 chip → ⊥
+LacksNamed chip (markingSome k) = Demand2 chip → ⊥
 LacksNamed chip (firstOnly k) = (Demand2 chip → ⊥) × (Demand3 chip → ⊥)
 LacksNamed chip (inventing k) = Demand2 chip → ⊥
-LacksNamed chip (inventingAlong k) = Demand3 chip → ⊥
+LacksNamed chip (inventingAlong k) = (Demand2 chip → ⊥) × (Demand3 chip → ⊥)
+LacksNamed chip (inventingInTrace k) = Demand2 chip → ⊥

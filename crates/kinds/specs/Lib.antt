@@ -5,3 +5,4 @@ pub mod Closed
 pub mod Lists
 pub mod Third
 pub mod Kinds
+pub mod Spoiled
