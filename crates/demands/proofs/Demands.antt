@@ -64,12 +64,13 @@ use Rattle.held.proofs.Exact as held-exact
 use Rattle.held.proofs.Calls as held-calls
 use Rattle.kinds.specs.Chips.{Chip, Meets, Says, Permits}
 use Rattle.kinds.specs.Demands.{Demand1, Demand2}
-use Rattle.kinds.specs.Lists.{Demand3}
+use Rattle.kinds.specs.Third.{Demand3By, Demand3}
 use Rattle.kinds.specs.Kinds.{Wrong, LacksNamed}
 use Rattle.kinds.proofs.Equal as equal
 use Rattle.kinds.proofs.Ours as demanded
 use Rattle.kinds.proofs.Inspected as inspected
 use Rattle.kinds.proofs.Closing as closing
+use Rattle.demands.proofs.Sharp as sharp
 
 -- ---- demand 1
 
@@ -355,6 +356,23 @@ a-held-frame-is-settled-by-runs = held-calls.runs-held-frame
 pub no-fewer-for-a-frame : (n : ℕ) → n < 132 → held.Within n → ⊥
 no-fewer-for-a-frame = held-exact.exact
 
+-- ---- demand 3, both halves, of a chip
+
+-- of every chip that meets the promises: the commands are done, the frame is stored or counted, and at every call of the trace, refused ones among
+-- them, the chip answers and leaves what the definitions do
+pub as-demand-3-says : (chip : Chip) → Meets chip → Demand3 chip
+as-demand-3-says = closing.meets-demand3
+
+-- and no chip, whatever it does, has it with fewer turns for one command, for two or for a held frame
+pub no-chip-needs-fewer-for-one : (chip : Chip) (least : ℕ → ℕ) (most : ℕ) → least 1 ≤ 131 → Demand3By least most chip → ⊥
+no-chip-needs-fewer-for-one = sharp.one-takes-132
+
+pub no-chip-needs-fewer-for-two : (chip : Chip) (least : ℕ → ℕ) (most : ℕ) → least 2 ≤ 263 → Demand3By least most chip → ⊥
+no-chip-needs-fewer-for-two = sharp.two-take-264
+
+pub no-chip-needs-fewer-for-a-frame : (chip : Chip) (least : ℕ → ℕ) (most : ℕ) → most < 132 → Demand3By least most chip → ⊥
+no-chip-needs-fewer-for-a-frame = sharp.frame-takes-132
+
 -- ---- the inspector's list
 
 -- "Any two outcomes it permits are shown equal"
@@ -370,7 +388,7 @@ wrong-chips-are-excluded = closing.none-meets
 
 -- each lacks the demand that is named with it, and every chip that meets the promises has all three
 pub each-lacks-its-demand : (chip : Chip) (w : Wrong chip) → LacksNamed chip w
-each-lacks-its-demand = inspected.lacks-named
+each-lacks-its-demand = inspected.lacks-named closing.closing
 
 pub promises-are-enough : (chip : Chip) → Meets chip → Demand1 chip × Demand2 chip × Demand3 chip
 promises-are-enough chip p = (demanded.has-demand1 chip p, demanded.has-demand2 chip p, closing.meets-demand3 chip p)

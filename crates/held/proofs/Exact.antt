@@ -54,7 +54,7 @@ its-frame = refl
 abbrev pub turnsOf : ℕ → List Event
 turnsOf n = replicate n (call (turn 0))
 
-calm-turns : (n : ℕ) (w : World) → AllMay WhileHeld step (turnsOf n) w
+pub calm-turns : (n : ℕ) (w : World) → AllMay WhileHeld step (turnsOf n) w
 calm-turns zero w = tt
 calm-turns (suc n) w = (refl, calm-turns n (step (call (turn 0)) w))
 
@@ -117,7 +117,7 @@ quiet-at [] report after w q =
 quiet-at (e ∷ es) report after w q =
     quiet-at es report after (step e w) (and-right (not (anySettles (fatesAt e w))) (quiet (es ++ (call (turn report) ∷ after)) (step e w)) q)
 
-unsettled : (n : ℕ) → Settled n frame (turnsOf 131) begun → ⊥
+pub unsettled : (n : ℕ) → Settled n frame (turnsOf 131) begun → ⊥
 unsettled n s =
     quiet-at (s .before) (s .report) (s .after) begun (subst (λ (es : List Event). T (quiet es begun)) (s .split) quiet-131)
     (one-settles (turnOf (run step (s .before) begun) (s .report) .outcome .fates) (s .fate) (s .given) (s .settled))

@@ -90,10 +90,10 @@ all-below v zero i l = omega arith
 all-below v (suc n) zero l = l
 all-below v (suc n) (suc i) l = all-below v n i l
 
-filled-bytes : (v n : ℕ) → v < 256 → Bytes (replicate n v)
+pub filled-bytes : (v n : ℕ) → v < 256 → Bytes (replicate n v)
 filled-bytes v n l = record { each = λ i. all-below v n i l }
 
-words-bytes : (ws : List Word) (m : List ℕ) → Bytes m → Bytes (put ws m)
+pub words-bytes : (ws : List Word) (m : List ℕ) → Bytes m → Bytes (put ws m)
 words-bytes [] m b = b
 words-bytes (w ∷ ws) m b =
     words-bytes ws (apply (wordTo (w .place) (w .value) ∷ []) m) (put-bytes m (w .place) (digits 2 (w .value)) b (digits-bytes 2 (w .value)))

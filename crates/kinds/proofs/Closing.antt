@@ -4,7 +4,7 @@ use Rattle.closure.proofs.Closed.{closed}
 use Rattle.closure.proofs.Lengths.{lengths-kept}
 use Rattle.kinds.specs.Chips.{Chip, ours, Meets}
 use Rattle.kinds.specs.Closed.{Closed}
-use Rattle.kinds.specs.Lists.{Demand3}
+use Rattle.kinds.specs.Third.{Demand3}
 use Rattle.kinds.specs.Kinds.{Wrong}
 use Rattle.kinds.proofs.Third as third
 use Rattle.kinds.proofs.Inspected as inspected

@@ -3,24 +3,26 @@ use mathlib.Core.Path.{_≡_, refl, sym, ap, _∙_}
 use mathlib.Core.List.{List}
 use Prim.Native.Nat.{ℕ, _<_}
 use native.Mathlib.Omega.{arith}
-use lib.ListN.{getD}
+use lib.ListN.{getD, take}
 use Rattle.memory.specs.Memory.{wordAt}
 use Rattle.memory.specs.Address.{place}
+use Rattle.memory.specs.declared.Offset.{Offset}
 use Rattle.device.specs.State.{fresh}
 use Rattle.device.specs.Numbers.{counterPlace}
 use Rattle.device.specs.declared.Device.{Device}
 use Rattle.image.specs.Image.{imageOf}
 use Rattle.image.proofs.Exact.{fresh-range, fresh-wide}
 use Rattle.image.proofs.Steps.{length-image}
+use Rattle.actions.specs.Block.{argumentAt}
 use Rattle.control.specs.Obey.{ofScb}
 use Rattle.chip.specs.World.{Ran}
 use Rattle.chip.specs.Call.{attention, turn}
-use Rattle.calls.specs.Calls.{Called}
+use Rattle.calls.specs.Calls.{Called, answerNumber}
 use Rattle.traces.specs.Bytes.{number, sentLength}
 use Rattle.closure.proofs.Refusals.{gives-none}
 use Rattle.kinds.specs.Chips.{Chip, Meets}
 use Rattle.kinds.specs.Demands.{Demand1, lentOf, AsDefined, Demand2}
-use Rattle.kinds.specs.Kinds.{RefusesAll, OneAnswer, MemoryAsLent, setupIn, SetsNothing, MeasuresNothing, SendsNothing, MarksOnly, Invented, anotherCounter, anotherEdge, fromEdge, Invents}
+use Rattle.kinds.specs.Kinds.{RefusesAll, OneAnswer, MemoryAsLent, setupIn, SetsNothing, MeasuresNothing, SendsNothing, MarksOnly, Undone, settingsUndone, wordUndone, lengthUndone, frameUndone, MarksSome, Invented, anotherCounter, anotherEdge, fromEdge, Invents}
 use Rattle.kinds.proofs.Ours.{has-demand1, has-demand2}
 use Rattle.kinds.proofs.Witness.{zeros, heldArea, sentArea, attending, turning, acceptable-on, handed-on, firstly, idly, first-answer, idle-answer, first-status, zero-status, block, withUnit, turned, settingUp, setting-wide, setting-range, setting-done, was-set, is-set, measuring, measuring-wide, measuring-range, measuring-done, measured, begun, sending, sending-wide, sending-range, sending-done, sent-length, not-done, not-measured}
 
@@ -150,6 +152,23 @@ module _ (chip : Chip) where
 
   pub no-marks-only : MarksOnly chip → Meets chip → ⊥
   no-marks-only k p = marks-only-lacks-2 k (has-demand2 chip p)
+
+  -- one completion at which the action is not done
+
+  module _ (x : Device) (o : Offset) (said : Ran) (r : Called) (p : AsDefined said r) where
+    all-done : Undone x o said r → ⊥
+    all-done (settingsUndone differs) = differs (ap setupIn (p .kept))
+    all-done (wordUndone differs) = differs (ap (λ (m : List ℕ). wordAt m (place (x .units .base) o argumentAt)) (p .memory))
+    all-done (lengthUndone differs) = differs (ap sentLength (p .answer))
+    all-done (frameUndone differs) = differs (ap (take (sentLength (answerNumber (said .outcome .answer)))) (p .outgoing))
+
+  pub marks-some-lacks-2 : MarksSome chip → Demand2 chip → ⊥
+  marks-some-lacks-2 k d =
+      let r = d .each (k .inner) (turn (k .report)) (k .device) (k .memory) (k .holding) (k .outgoing) (k .acceptable) (k .lent) in
+      all-done (k .device) (k .block) _ _ r (k .undone)
+
+  pub no-marks-some : MarksSome chip → Meets chip → ⊥
+  no-marks-some k p = marks-some-lacks-2 k (has-demand2 chip p)
 
   -- ---- a counter or an edge that the definitions do not have: demand 2
 

@@ -10,8 +10,9 @@ pub mod Step
 pub mod Runs
 pub mod Start
 pub mod Third
+pub mod Traced
 pub mod Inspected
-pub mod Stubs
-pub mod Marker
 pub mod Closing
-pub mod Full
+pub mod Spoiled
+pub mod Marked
+pub mod Inventing

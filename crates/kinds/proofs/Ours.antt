@@ -70,7 +70,7 @@ both-untouched : (a : Areas) (x y : Called) → number (x .answer) ≡ number (y
 both-untouched a x y n p q =
     rw (p .whole ∙ n ∙ sym (q .whole), p .areas ∙ sym (q .areas))
 
-defined-kept : (x : Ran) (r : Called) → AsDefined x r → r ≡ onBytes x
+pub defined-kept : (x : Ran) (r : Called) → AsDefined x r → r ≡ onBytes x
 defined-kept x r p = rw (p .answer, p .memory, p .holding, p .outgoing, p .kept)
 
 module _ (chip : Chip) (one : Demand1 chip) (two : Demand2 chip) (s : chip .Inner) where

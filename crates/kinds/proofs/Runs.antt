@@ -36,7 +36,7 @@ busy-by false y z w r a h = absurd (let e : _≡_ {A = ℕ} 0 1 = cc in omega ar
 busy-by true true z w r a h = absurd (let e : _≡_ {A = ℕ} 0 1 = cc in omega arith)
 busy-by true false z w r a h = refl
 
-idle-turn : (w : World) (r : ℕ) → cuWorks (w .device .units .cu) ≡ false → ruWorks (w .device .units .ru) ≡ false
+pub idle-turn : (w : World) (r : ℕ) → cuWorks (w .device .units .cu) ≡ false → ruWorks (w .device .units .ru) ≡ false
     → afterwards (turnOf w r) ≡ w
 unfolding turnOf
 idle-turn w r a h = idle-by (cuWorks (w .device .units .cu)) (ruWorks (w .device .units .ru)) (w .device .units .rulast) w r a h

@@ -1,39 +1,33 @@
--- What bytes show of demand 3, of every chip that has demand 2, since every state that a call leaves is in range. Assumes nothing.
-use mathlib.Core.Path.{_≡_, refl, sym, ap, ap₂, _∙_}
-use mathlib.Core.Bool.{false}
-use mathlib.Core.List.{List, [], _∷_, map}
+-- Demand 3, of every chip that meets the promises, since every state that a call leaves is in range. Assumes nothing.
+use mathlib.Core.Path.{_≡_, refl, ap, _∙_}
+use mathlib.Core.List.{List, [], _∷_, _++_, map}
 use Prim.Native.Nat.{ℕ}
-use native.Mathlib.Omega.{arith}
 use lib.Dec.{lit≤}
 use Rattle.memory.specs.Memory.{wordAt}
-use Rattle.memory.proofs.Bytes.{bytes-nil}
-use Rattle.scb.specs.Words.{cuNumber}
-use Rattle.scb.specs.declared.CuState.{CuState}
-use Rattle.scb.specs.declared.CuState.the-variants as cus
 use Rattle.device.specs.Numbers.{counterPlace}
-use Rattle.device.specs.State.{cuState, isActive}
 use Rattle.device.specs.declared.Device.{Device}
-use Rattle.image.specs.Image.{imageOf}
 use Rattle.image.proofs.Exact.{image-bytes}
 use Rattle.control.specs.Obey.{ofScb}
-use Rattle.chip.specs.World.{World, worldOf, afterwards}
-use Rattle.chip.specs.Attention.{attentionOf}
-use Rattle.chip.specs.Call.{Call, attention, turn, ran}
-use Rattle.calls.specs.Calls.{Areas, answerNumber}
+use Rattle.chip.specs.World.{World, worldOf}
+use Rattle.chip.specs.Call.{Call, attention, ran}
+use Rattle.calls.specs.Calls.{Areas, Called, answerNumber, onBytes}
 use Rattle.progress.specs.Trace.{run}
 use Rattle.traces.specs.Areas.{Hosted, shown}
-use Rattle.traces.specs.Event.{Event, call, host, step}
+use Rattle.traces.specs.Event.{Event, call, host, step, answersOf}
 use Rattle.closure.specs.Refusals.{FrameRight}
-use Rattle.kinds.specs.Chips.{Chip, ours, Given, Handed, Meets, chipRun, chipAnswers}
+use Rattle.lists.proofs.Whole.{attention-list-done}
+use Rattle.held.proofs.Held.{held-frame}
+use Rattle.held.proofs.OnRecords.{to-hold}
+use Rattle.kinds.specs.Chips.{Chip, ours, Given, Handed, Meets, Act, does, asks, eventsIn, chipRun, chipAnswers}
 use Rattle.kinds.specs.Demands.{Acceptable, Demand2}
 use Rattle.kinds.specs.Closed.{Right, Closed}
-use Rattle.kinds.specs.Lists.{turnsOf, AllReports, AllAcceptable, DoneAsIn2, Demand3}
+use Rattle.kinds.specs.Third.{AllAcceptable, AllRefused, AsSaid, Demand3}
 use Rattle.kinds.specs.Kinds.{InventedAlong, anotherCount, anotherEdges, fromEdge, InventsAlong}
-use Rattle.kinds.proofs.Equal.{all-areas}
-use Rattle.kinds.proofs.Ours.{has-demand2, ours-demand2}
+use Rattle.kinds.proofs.Equal.{ours-meets, as-called}
+use Rattle.kinds.proofs.Ours.{has-demand2, defined-kept}
 use Rattle.kinds.proofs.Witness.{attending}
-use Rattle.kinds.proofs.Runs.{runs}
-use Rattle.kinds.proofs.Start.{list-ends}
+
+-- ---- a call in a world that is right is not to be refused, and leaves one that is
 
 right-acceptable : (c : Call) (w : World) → FrameRight c → Right w → Acceptable c (w .device) (w .memory) (w .holding) (w .outgoing)
 right-acceptable c w f r =
@@ -54,106 +48,128 @@ right-handed c w g r =
           };
     }
 
-acceptable-right : (c : Call) (w : World) → Acceptable c (w .device) (w .memory) (w .holding) (w .outgoing) → Handed c (shown w) → Right w
-acceptable-right c w s l =
-    record {
-      areas =
-          record {
-            size = s .size;
-            holding = s .holding;
-            outgoing = s .outgoing;
-            memory-bytes = l .areas .memory;
-            holding-bytes = l .areas .holding;
-            outgoing-bytes = l .areas .outgoing;
-          };
-      wide = s .wide;
-      range = s .range;
-    }
-
-not-active : (s : CuState) → isActive s ≡ false → cuNumber s ≡ cuNumber cus.Active → ⊥
-not-active cus.Idle a e = omega (arith, e)
-not-active cus.Suspended a e = omega (arith, e)
-not-active cus.Active a e = let z : _≡_ {A = ℕ} 0 1 = cc in omega arith
-
 -- what the host leaves is right, with a device that is
 hosted : (w : World) (m h out : List ℕ) → Hosted m h out → Right w → Right (worldOf (w .device) m h out)
 hosted w m h out k r = record { areas = k; wide = r .wide; range = r .range }
 
--- turns
-acceptable-turns : (rs : List ℕ) → AllReports rs → AllAcceptable (turnsOf rs)
-acceptable-turns [] p = tt
-acceptable-turns (r ∷ rs) p = (record { frame = bytes-nil; numbers = p .0 }, lit≤ tt, acceptable-turns rs (p .1))
+module _ (closed : Closed) where
+  pub right-along : (es : List Event) (w : World) → AllAcceptable es → Right w → Right (run step es w)
+  right-along [] w f r = r
+  right-along (call c ∷ es) w f r = right-along es (step (call c) w) (f .2) (closed .each c w (f .0) (f .1) r)
+  right-along (host m h out ∷ es) w f r = right-along es (step (host m h out) w) (f .1) (hosted w m h out (f .0) r)
 
-through-runs : (rs : List ℕ) (w : World) → run step (turnsOf rs) w ≡ runs rs w
-through-runs [] w = refl
-through-runs (r ∷ rs) w = through-runs rs (afterwards (ran (turn r) w))
+-- ---- a chip that has demand 2 does, along everything that comes, what the definitions do, whatever it does at calls that are to be refused
+
+abbrev pub AsIn2 : (chip : Chip) → chip .Inner → List Act → World → Type 0
+AsIn2 chip s [] w = Unit {0}
+AsIn2 chip s (does (call c) ∷ acts) w =
+    (chip .calls s c (shown w) ≡ onBytes (ran c w)) × AsIn2 chip (chip .next s c (shown w)) acts (step (call c) w)
+AsIn2 chip s (does (host m h out) ∷ acts) w = AsIn2 chip s acts (step (host m h out) w)
+AsIn2 chip s (asks c a ∷ acts) w = AsIn2 chip (chip .next s c a) acts w
 
 module _ (closed : Closed) (chip : Chip) (q : Demand2 chip) where
-  -- a chip that has demand 2 leaves, call by call, what shows the world that the definitions leave
-  goes-along : (s : chip .Inner) (c : Call) (w : World) → Given c → FrameRight c → Right w
-      → chip .calls s c (shown w) .areas ≡ shown (afterwards (ran c w))
-  goes-along s c w g f r =
-      let a = q .each s c (w .device) (w .memory) (w .holding) (w .outgoing) (right-acceptable c w f r) (right-handed c w g r) in
-      all-areas (chip .calls s c (shown w) .areas) (ran c w .memory) (ran c w .holding) (ran c w .outgoing) (imageOf (ran c w .outcome .device))
-      (a .memory) (a .holding) (a .outgoing) (a .kept)
+  at-call : (s : chip .Inner) (c : Call) (w : World) → Given c → FrameRight c → Right w → chip .calls s c (shown w) ≡ onBytes (ran c w)
+  at-call s c w g f r =
+      defined-kept _ _ (q .each s c (w .device) (w .memory) (w .holding) (w .outgoing) (right-acceptable c w f r) (right-handed c w g r))
 
-  answers-alike : (s : chip .Inner) (c : Call) (w : World) → Given c → FrameRight c → Right w
-      → chip .calls s c (shown w) .answer ≡ answerNumber (ran c w .outcome .answer)
-  answers-alike s c w g f r =
-      q .each s c (w .device) (w .memory) (w .holding) (w .outgoing) (right-acceptable c w f r) (right-handed c w g r) .answer
+  pub along : (acts : List Act) (s : chip .Inner) (w : World) → AllAcceptable (eventsIn acts) → Right w → AsIn2 chip s acts w
+  along [] s w f r = tt
+  along (does (call c) ∷ acts) s w f r = (
+    at-call s c w (f .0) (f .1) r,
+    along acts (chip .next s c (shown w)) (step (call c) w) (f .2) (closed .each c w (f .0) (f .1) r),
+  )
+  along (does (host m h out) ∷ acts) s w f r = along acts s (step (host m h out) w) (f .1) (hosted w m h out (f .0) r)
+  along (asks c a ∷ acts) s w f r = along acts (chip .next s c a) w f r
 
-  -- so it is along every run, whatever happens: all that is shown of the definitions' runs holds of such a chip's
-  pub along : (es : List Event) (s : chip .Inner) (w : World) → AllAcceptable es → Right w → DoneAsIn2 chip s es w
-  along [] s w f r = record { areas = refl; answers = refl }
-  along (call c ∷ es) s w f r =
+-- what that comes to: its run leaves what the definitions leave, and its answers are theirs
+module _ (chip : Chip) where
+  pub run-left : (acts : List Act) (s : chip .Inner) (w : World) → AsIn2 chip s acts w
+      → chipRun chip s acts (shown w) ≡ shown (run step (eventsIn acts) w)
+  run-left [] s w k = refl
+  run-left (does (call c) ∷ acts) s w k =
       let s′ = chip .next s c (shown w) in
-      let e = goes-along s c w (f .0) (f .1) r in
-      let more = along es s′ (afterwards (ran c w)) (f .2) (closed .each c w (f .0) (f .1) r) in
-      record {
-        areas = ap (chipRun chip s′ es) e ∙ more .areas;
-        answers = ap₂ (λ (y : ℕ) (ys : List ℕ). y ∷ ys) (answers-alike s c w (f .0) (f .1) r) (ap (chipAnswers chip s′ es) e ∙ more .answers);
-      }
-  along (host m h out ∷ es) s w f r =
-      let more = along es s (worldOf (w .device) m h out) (f .1) (hosted w m h out (f .0) r) in
-      record { areas = more .areas; answers = more .answers }
+      ap (λ (r : Called). chipRun chip s′ acts (r .areas)) (k .0) ∙ run-left acts s′ (step (call c) w) (k .1)
+  run-left (does (host m h out) ∷ acts) s w k = run-left acts s (step (host m h out) w) k
+  run-left (asks c a ∷ acts) s w k = run-left acts (chip .next s c a) w k
 
-  pub has-demand3 : Demand3 chip
-  has-demand3 =
-      record {
-        within =
-            λ s d m h out b bs rs k l start p n.
-            let w = worldOf d m h out in
-            let v = afterwards (attentionOf w) in
-            let over = list-ends w b bs start rs (omega (arith, k .size .least)) (omega (arith, n)) in
-            let run-is = along (call attention ∷ turnsOf rs) s w (attending, lit≤ tt, acceptable-turns rs p) (acceptable-right attention w k l) .areas in
-            let same = ap (λ (a : Areas). a .memory) run-is ∙ ap (λ (x : World). x .memory) (through-runs rs v) in
-            record {
-              done = rw same (over .done);
-              inactive = λ z. not-active (cuState (runs rs v .device .units .cu)) (over .off) (sym (over .said) ∙ rw same at z);
-            };
-        as-in-2 =
-            λ s d m h out b bs es k l start f c.
-            let w = worldOf d m h out in along (call attention ∷ es) s w (attending, lit≤ tt, f) (acceptable-right attention w k l);
-      }
+  pub run-answers : (acts : List Act) (s : chip .Inner) (w : World) → AsIn2 chip s acts w
+      → chipAnswers chip s acts (shown w) ≡ answersOf (eventsIn acts) w
+  run-answers [] s w k = refl
+  run-answers (does (call c) ∷ acts) s w k =
+      let s′ = chip .next s c (shown w) in
+      ap (λ (r : Called). r .answer ∷ chipAnswers chip s′ acts (r .areas)) (k .0)
+      ∙ ap (λ (ys : List ℕ). answerNumber (ran c w .outcome .answer) ∷ ys) (run-answers acts s′ (step (call c) w) (k .1))
+  run-answers (does (host m h out) ∷ acts) s w k = run-answers acts s (step (host m h out) w) k
+  run-answers (asks c a ∷ acts) s w k = run-answers acts (chip .next s c a) w k
 
-pub meets-demand3 : Closed → (chip : Chip) → Meets chip → Demand3 chip
-meets-demand3 closed chip p = has-demand3 closed chip (has-demand2 chip p)
+-- ---- at calls that are to be refused a chip that meets the promises does so too
+
+module _ (chip : Chip) (p : Meets chip) where
+  all-said : (acts : List Act) (s : chip .Inner) (w : World) → AllRefused acts → AsIn2 chip s acts w → AsSaid chip s acts w
+  all-said [] s w g k = tt
+  all-said (does (call c) ∷ acts) s w g k = (k .0, all-said acts (chip .next s c (shown w)) (step (call c) w) g (k .1))
+  all-said (does (host m h out) ∷ acts) s w g k = all-said acts s (step (host m h out) w) g k
+  all-said (asks c a ∷ acts) s w g k = (as-called chip p s c a (g .0), all-said acts (chip .next s c a) w (g .2) k)
+
+module _ (closed : Closed) (chip : Chip) (p : Meets chip) where
+  as-said : (acts : List Act) (s : chip .Inner) (w : World) → AllAcceptable (eventsIn acts) → AllRefused acts → Right w → AsSaid chip s acts w
+  as-said acts s w f g r = all-said chip p acts s w g (along closed chip (has-demand2 chip p) acts s w f r)
+
+  pub meets-demand3 : Demand3 chip
+  meets-demand3 =
+      record {
+        list =
+            λ s bs acts w k. (
+              attention-list-done bs (eventsIn acts) w (k .starts) (k .first) (k .listed) (k .premises),
+              as-said (does (call attention) ∷ acts) s w (attending, lit≤ tt, k .acceptable) (k .refused) (k .right),
+            );
+        frame =
+            λ s f acts w k. (
+              held-frame w f (eventsIn acts) (k .holds) (to-hold (w .device) f (k .right .range) (k .holds)) (k .events) (k .turns),
+              as-said acts s w (k .acceptable) (k .refused) (k .right),
+            );
+      }
 
 pub ours-demand3 : Closed → Demand3 ours
-ours-demand3 closed = has-demand3 closed ours ours-demand2
+ours-demand3 closed = meets-demand3 closed ours ours-meets
+
+module _ (chip : Chip) where
+  -- ---- what demand 3 comes to: so every chip that has it leaves, all along, what the definitions leave, and its answers are theirs
+
+  pub in-2 : (acts : List Act) (s : chip .Inner) (w : World) → AsSaid chip s acts w → AsIn2 chip s acts w
+  in-2 [] s w k = tt
+  in-2 (does (call c) ∷ acts) s w k = (k .0, in-2 acts (chip .next s c (shown w)) (step (call c) w) (k .1))
+  in-2 (does (host m h out) ∷ acts) s w k = in-2 acts s (step (host m h out) w) k
+  in-2 (asks c a ∷ acts) s w k = in-2 acts (chip .next s c a) w (k .1)
+
+  pub said-left : (acts : List Act) (s : chip .Inner) (w : World) → AsSaid chip s acts w
+      → chipRun chip s acts (shown w) ≡ shown (run step (eventsIn acts) w)
+  said-left acts s w k = run-left chip acts s w (in-2 acts s w k)
+
+  pub said-answers : (acts : List Act) (s : chip .Inner) (w : World) → AsSaid chip s acts w
+      → chipAnswers chip s acts (shown w) ≡ answersOf (eventsIn acts) w
+  said-answers acts s w k = run-answers chip acts s w (in-2 acts s w k)
+
+  -- of a part of what comes, from the beginning on
+  said-before : (acts more : List Act) (s : chip .Inner) (w : World) → AsSaid chip s (acts ++ more) w → AsSaid chip s acts w
+  said-before [] more s w k = tt
+  said-before (does (call c) ∷ acts) more s w k = (k .0, said-before acts more (chip .next s c (shown w)) (step (call c) w) (k .1))
+  said-before (does (host m h out) ∷ acts) more s w k = said-before acts more s (step (host m h out) w) k
+  said-before (asks c a ∷ acts) more s w k = (k .0, said-before acts more (chip .next s c a) w (k .1))
 
 -- ---- a counter or an edge that the definitions do not have, in the run of a list: demand 3, which means done as in 2
-module _ (chip : Chip) where
-  none-along : (d : Device) (after : Areas) (answers : List ℕ) (w : World) (said : List ℕ) → after ≡ shown w → answers ≡ said
-      → InventedAlong d after answers w said → ⊥
-  none-along d after answers w said p q (anotherCount k c differs) =
-      differs (ap (λ (a : Areas). wordAt (a .memory) (ofScb (d .units) (counterPlace k))) p)
-  none-along d after answers w said p q (anotherEdges differs) = differs (ap (map fromEdge) q)
 
-  pub invents-along-lacks-3 : InventsAlong chip → Demand3 chip → ⊥
-  invents-along-lacks-3 k d =
-      let same =
-      d .as-in-2 (k .inner) (k .device) (k .memory) (k .holding) (k .outgoing) (k .first) (k .rest) (k .events) (k .acceptable) (k .lent) (k .start)
-      (k .all-acceptable) (k .calm)
-      in
-      none-along (k .device) _ _ _ _ (same .areas) (same .answers) (k .invented)
+-- all bytes and answers are the definitions': nothing is invented
+pub none-along : (d : Device) (after : Areas) (answers : List ℕ) (w : World) (said : List ℕ) → after ≡ shown w → answers ≡ said
+    → InventedAlong d after answers w said → ⊥
+none-along d after answers w said p q (anotherCount k c differs) =
+    differs (ap (λ (a : Areas). wordAt (a .memory) (ofScb (d .units) (counterPlace k))) p)
+none-along d after answers w said p q (anotherEdges differs) = differs (ap (map fromEdge) q)
+
+pub invents-along-lacks-3 : (chip : Chip) → InventsAlong chip → Demand3 chip → ⊥
+invents-along-lacks-3 chip k d =
+    let all = d .list (k .inner) (k .blocks) (k .acts ++ k .more) (k .world) (k .comes) .1 in
+    let acts = does (call attention) ∷ k .acts in
+    let same = said-before chip acts (k .more) (k .inner) (k .world) all in
+    none-along (k .world .device) _ _ _ _ (said-left chip acts (k .inner) (k .world) same) (said-answers chip acts (k .inner) (k .world) same)
+    (k .invented)

@@ -1,20 +1,23 @@
 -- A list of two NOPs: a chip that serves the first command only lacks demand 3. Assumes nothing.
-use mathlib.Core.Path.{_≡_, refl, ap, _∙_}
-use mathlib.Core.Bool.{true, false}
+use mathlib.Core.Path.{_≡_, refl, sym, ap, _∙_, subst}
+use mathlib.Core.Bool.{Bool, true, false, not, _&&_}
 use mathlib.Core.List.{List, [], _∷_}
-use Prim.Native.Nat.{ℕ, zero, suc, _+_, _≤_, _<_}
+use mathlib.Core.Logic.{_≢_}
+use Prim.Native.Nat.{ℕ, zero, suc, _+_, _^_, _%_, _≤_, _<_}
 use native.Mathlib.Omega.{arith}
+use lib.Dec.{T, eqb, eqb→eq, eqb-refl, T-not, lit≤}
 use lib.ListN.{length, replicate, length-replicate}
 use Rattle.memory.specs.Address.{place}
 use Rattle.memory.specs.Memory.{byteAt, putByte, bytesAt, putBytes, value, digits, fieldAt, wordAt, Write, apply, wordTo}
 use Rattle.memory.specs.declared.Offset.{Offset}
-use Rattle.memory.proofs.Bytes.{Bytes, apply-bytes, digits-bytes}
+use Rattle.memory.proofs.Bytes.{Bytes, bytes-nil, apply-bytes, digits-bytes}
 use Rattle.memory.proofs.Fields.{Apart, up, down}
 use Rattle.memory.proofs.Laws.{length-apply}
 use Rattle.scb.specs.Control.{codeOf}
-use Rattle.scb.specs.Words.{bitsAt, bit, joined, acknowledged, anyOf, eventBits, statusWord}
+use Rattle.scb.specs.Words.{bitsAt, joined, acknowledged, anyOf, eventBits, statusWord}
 use Rattle.device.specs.Limits.{holdingSize, outgoingSize}
 use Rattle.device.specs.Numbers.{actionOf}
+use Rattle.device.specs.State.{cuWorks, ruWorks}
 use Rattle.device.specs.declared.Action.the-variants as action
 use Rattle.device.specs.declared.Cu.{Cu}
 use Rattle.device.specs.declared.Cu.the-variants as cu
@@ -30,19 +33,32 @@ use Rattle.command.specs.Service.{service}
 use Rattle.control.specs.Obey.{obeyCuc, obeyRuc}
 use Rattle.attention.specs.Attention as attentions
 use Rattle.attention.specs.Status.{statusTo}
-use Rattle.chip.specs.World.{worldOf}
+use Rattle.chip.specs.World.{World, worldOf}
 use Rattle.chip.specs.Attention.{attentionOf}
-use Rattle.chip.specs.Turn.{concluded, commandTurn, turnOf}
+use Rattle.chip.specs.Turn.{servedOf, isCommand, concluded, commandTurn, turnOf}
 use Rattle.chip.specs.Call.{Call, attention, turn, ran}
 use Rattle.calls.specs.Calls.{Areas}
-use Rattle.traces.specs.Event.{Event, call}
+use Rattle.progress.specs.Same.{In, here, there, range, Same}
+use Rattle.progress.specs.Trace.{run, AllMay}
+use Rattle.progress.specs.Machine.{Undisturbed, own}
+use Rattle.progress.proofs.Same.{each-nil, same-refl}
+use Rattle.traces.specs.Event.{Event, call, step, DuringList}
+use Rattle.lists.specs.Uses.{Listed, marked, uses, setupAfter, resultBytes}
+use Rattle.lists.specs.Unit.{machine}
+use Rattle.lists.specs.Done.{Starts, enough}
+use Rattle.lists.specs.Done as lists
+use Rattle.held.proofs.Exact.{and-left, and-right}
 use Rattle.closure.specs.Refusals.{FrameRight}
-use Rattle.kinds.specs.Chips.{Chip, Given, Handed, Meets, chipRun}
+use Rattle.kinds.specs.Chips.{Chip, Given, Handed, Meets, Act, does, eventsIn, chipRun}
 use Rattle.kinds.specs.Demands.{Acceptable, lentOf, Demand2}
-use Rattle.kinds.specs.Lists.{Starting, turnsOf, AllReports, started, Demand3}
+use Rattle.kinds.specs.Closed.{Right}
+use Rattle.kinds.specs.Lists.{Starting, turnsOf, AllReports, started}
+use Rattle.kinds.specs.Third.{AllAcceptable, AllRefused, ListRun, Demand3}
 use Rattle.kinds.specs.Kinds.{FirstOnly}
 use Rattle.kinds.proofs.Equal.{all-areas}
 use Rattle.kinds.proofs.Ours.{has-demand2}
+use Rattle.kinds.proofs.Runs.{idle-turn}
+use Rattle.kinds.proofs.Third.{said-left}
 use Rattle.kinds.proofs.Witness.{zeros, heldArea, sentArea, zero-bytes, smallest, attending, turning, withUnit, wide-with, range-with}
 
 -- ---- the memory: SCB at 30h with START and the CBL offset 40h; NOPs at 40h and, with EL, at 50h
@@ -133,29 +149,192 @@ pub other-clear : wordAt two (place (record { 0 = 0 }) other 0) ≡ 0
 unfolding byteAt putByte bytesAt putBytes value digits fieldAt place
 other-clear = refl
 
--- ---- 264 turns
+-- ---- what demand 3 asks of it: the list, 264 turns
 
 pub zero-reports : (n : ℕ) → AllReports (replicate n 0)
 zero-reports zero = tt
 zero-reports (suc n) = (omega arith, zero-reports n)
 
-no-c : bit 0 15 ≡ true → ⊥
-unfolding bitsAt
-no-c e = let z : _≡_ {A = ℕ} 0 1 = cc in omega arith
+abbrev pub waits : World
+waits = worldOf idle two heldArea sentArea
+
+abbrev pub begun : World
+begun = step (call attention) waits
+
+abbrev pub pair : List ℕ
+pair = 0x40 ∷ 0x50 ∷ []
+
+abbrev turns-of : List ℕ → List Event
+turns-of rs = eventsIn (turnsOf rs)
+
+-- after four turns both are done, whatever the first line report
+abbrev over : ℕ → World
+over r = run step (turns-of (r ∷ 0 ∷ 0 ∷ 0 ∷ [])) begun
+
+pub right-two : Right waits
+right-two =
+    let s = acceptable-two attention idle two (omega arith) two-size idle-wide idle-range in
+    record {
+      areas =
+          record {
+            size = s .size;
+            holding = s .holding;
+            outgoing = s .outgoing;
+            memory-bytes = two-bytes;
+            holding-bytes = zero-bytes holdingSize;
+            outgoing-bytes = zero-bytes outgoingSize;
+          };
+      wide = idle-wide;
+      range = idle-range;
+    }
+
+acceptable-turns : (rs : List ℕ) → AllReports rs → AllAcceptable (turns-of rs)
+acceptable-turns [] p = tt
+acceptable-turns (r ∷ rs) p = (record { frame = bytes-nil; numbers = p .0 }, omega arith, acceptable-turns rs (p .1))
+
+refused-turns : (rs : List ℕ) → AllRefused (turnsOf rs)
+refused-turns [] = tt
+refused-turns (r ∷ rs) = refused-turns rs
+
+may-turns : (rs : List ℕ) (w : World) → AllMay DuringList step (turns-of rs) w
+may-turns [] w = tt
+may-turns (r ∷ rs) w = ((refl, tt), may-turns rs (step (call (turn r)) w))
+
+-- turns without work
+module _ (w : World) (a : cuWorks (w .device .units .cu) ≡ false) (b : ruWorks (w .device .units .ru) ≡ false) where
+  idle-run : (rs : List ℕ) → run step (turns-of rs) w ≡ w
+  idle-run [] = refl
+  idle-run (r ∷ rs) = ap (run step (turns-of rs)) (idle-turn w r a b) ∙ idle-run rs
+
+  idle-next : isCommand (servedOf (w .device .units)) ≡ false
+  idle-next = rw (a, b)
+
+  idle-same : (L : List ℕ) (r : ℕ) → Same L (w .memory) (apply (own machine (call (turn r)) w) (w .memory))
+  idle-same L r = rw idle-next (same-refl L (w .memory))
+
+  idle-kept : (L rs : List ℕ) → Undisturbed machine L (turns-of rs) w
+  idle-kept L [] = tt
+  idle-kept L (r ∷ rs) =
+      subst (λ (v : World). Same L (v .memory) (apply (own machine (call (turn r)) w) (w .memory)) × Undisturbed machine L (turns-of rs) v)
+      (sym (idle-turn w r a b)) (idle-same L r, idle-kept L rs)
+
+not-eq : (a b : ℕ) → T (not (eqb a b)) → a ≢ b
+not-eq a b t e = T-not (eqb a b) t (subst (λ (x : ℕ). T (eqb a x)) e (eqb-refl a))
+
+-- a test of every address
+abbrev allb : (ℕ → Bool) → List ℕ → Bool
+allb p [] = true
+allb p (a ∷ L) = p a && allb p L
+
+all-ok : (p : ℕ → Bool) (L : List ℕ) → T (allb p L) → (a : ℕ) → In a L → T (p a)
+all-ok p (b ∷ L) t a here = and-left (p b) (allb p L) t
+all-ok p (b ∷ L) t a (there i) = all-ok p L (and-right (p b) (allb p L) t) a i
+
+abbrev sameb : List ℕ → List ℕ → List ℕ → Bool
+sameb L m q = eqb (length m) (length q) && allb (λ a. eqb (byteAt m a) (byteAt q a)) L
+
+same-ok : (L m q : List ℕ) → T (sameb L m q) → Same L m q
+same-ok L m q t =
+    let p : ℕ → Bool = λ x. eqb (byteAt m x) (byteAt q x) in
+    record {
+      size = eqb→eq (length m) (length q) (and-left (eqb (length m) (length q)) (allb p L) t);
+      bytes = λ a i. eqb→eq (byteAt m a) (byteAt q a) (all-ok p L (and-right (eqb (length m) (length q)) (allb p L) t) a i);
+    }
+
+-- who unfolds this unfolds all definitions that these calls run through
+unfoldable keptb : List ℕ → List Event → World → Bool
+unfolding byteAt putByte bytesAt putBytes value digits fieldAt place bitsAt joined acknowledged anyOf eventBits statusWord codeOf actionOf obeyCuc obeyRuc statusTo attentions.attendBy attentions.attend attentions.attention attentionOf begunBy begin act nextAfter end service concluded commandTurn turnOf range uses setupAfter resultBytes marked
+keptb L [] w = true
+keptb L (e ∷ es) w = sameb L (step e w .memory) (apply (own machine e w) (w .memory)) && keptb L es (step e w)
+
+kept-ok : (L : List ℕ) (es : List Event) (w : World) → T (keptb L es w) → Undisturbed machine L es w
+unfolding keptb
+kept-ok L [] w t = tt
+kept-ok L (e ∷ es) w t =
+    let m : List ℕ = step e w .memory in
+    let q : List ℕ = apply (own machine e w) (w .memory) in (
+      same-ok L m q (and-left (sameb L m q) (keptb L es (step e w)) t),
+      kept-ok L es (step e w) (and-right (sameb L m q) (keptb L es (step e w)) t),
+    )
+
+begins-at : Starts waits
+unfolding keptb
+begins-at = record { initialised = refl; unreset = refl; start = refl; idle = refl }
+
+stands : Listed (begun .device .units .base) (begun .memory) pair
+unfolding keptb
+stands = (refl, refl, refl)
+
+begun-size : length (begun .memory) ≡ 8192
+unfolding keptb
+begun-size = refl
+
+-- no result of the first is a byte of the second
+two-apart : lists.Apart pair begun
+unfolding keptb
+two-apart =
+    let n : ℕ = length (begun .memory) in
+    let apart : ℕ → ℕ → Bool = λ x y. not (eqb (x % n) (y % n)) in
+    let own : List ℕ = 0x40 ∷ 0x41 ∷ [] in
+    let later : List ℕ = 0x50 ∷ 0x51 ∷ 0x52 ∷ 0x53 ∷ 0x54 ∷ 0x55 ∷ [] in (
+      (λ x y i j. not-eq (x % n) (y % n) (all-ok (apart x) own (all-ok (λ z. allb (apart z) own) later tt x i) y j)),
+      ((λ x y i j. each-nil (λ z. z % n ≢ y % n) x i), tt),
+    )
+
+four-kept : (r : ℕ) → Undisturbed machine (lists.bytesOf begun pair) (turns-of (r ∷ 0 ∷ 0 ∷ 0 ∷ [])) begun
+unfolding keptb
+four-kept r = kept-ok (lists.bytesOf begun pair) (turns-of (r ∷ 0 ∷ 0 ∷ 0 ∷ [])) begun tt
+
+over-idle : (r : ℕ) → cuWorks (over r .device .units .cu) ≡ false
+unfolding keptb
+over-idle r = refl
+
+over-free : (r : ℕ) → ruWorks (over r .device .units .ru) ≡ false
+unfolding keptb
+over-free r = refl
+
+over-done : (r : ℕ) → wordAt (over r .memory) (place (record { 0 = 0 }) other 0) ≡ 0xA000
+unfolding keptb
+over-done r = refl
+
+pub two-run : (r : ℕ) → r < 2 ^ 16 → ListRun enough pair (turnsOf (r ∷ replicate 263 0)) waits
+unfolding byteAt bytesAt value fieldAt putByte putBytes digits place
+two-run r p =
+    let kept = four-kept r in
+    let idle-then = idle-kept (over r) (over-idle r) (over-free r) (lists.bytesOf begun pair) (replicate 260 0) in
+    record {
+      right = right-two;
+      starts = begins-at;
+      first = refl;
+      listed = stands;
+      acceptable = acceptable-turns (r ∷ replicate 263 0) (p, zero-reports 263);
+      refused = refused-turns (r ∷ replicate 263 0);
+      premises =
+          record {
+            size = omega (arith, begun-size);
+            apart = two-apart;
+            events = may-turns (r ∷ replicate 263 0) begun;
+            intact = (kept .0, (kept .1 .0, (kept .1 .1 .0, (kept .1 .1 .1 .0, idle-then))));
+            turns = lit≤ tt;
+          };
+    }
 
 module _ (chip : Chip) where
-  -- ---- serves the first command only: demand 3, in a list of two NOPs that no write but their own reaches. The second block's status is 0
-  -- before, and has no C ever after
+  -- ---- serves the first command only: demand 3. The second block's status is 0 before and would stay so, but becomes A000h
   pub first-only-lacks-3 : FirstOnly chip → Demand3 chip → ⊥
   first-only-lacks-3 k d =
+      let reports : List ℕ = 0 ∷ replicate 263 0 in
       let s = acceptable-two attention idle two (omega arith) two-size idle-wide idle-range in
       let l = handed-two attention idle two attending two-bytes idle-wide in
-      let n = length-replicate {A = ℕ} 264 0 in
-      let same = k .each (chip .first) idle two heldArea sentArea one (other ∷ []) (replicate 264 0) s l starting (zero-reports 264) .0 in
-      let done =
-      d .within (chip .first) idle two heldArea sentArea one (other ∷ []) (replicate 264 0) s l starting (zero-reports 264) (omega (arith, n)) .done .1 .0
+      let same = k .each (chip .first) idle two heldArea sentArea one (other ∷ []) reports s l starting (zero-reports 264) .0 in
+      let said = d .list (chip .first) pair (turnsOf reports) waits (two-run 0 (omega arith)) .1 in
+      let left = said-left chip (does (call attention) ∷ turnsOf reports) (chip .first) waits said in
+      let stays : run step (turns-of reports) begun ≡ over 0 = idle-run (over 0) (over-idle 0) (over-free 0) (replicate 260 0) in
+      let ends =
+      ap (λ (a : Areas). wordAt (a .memory) (place (record { 0 = 0 }) other 0)) left
+      ∙ ap (λ (w : World). wordAt (w .memory) (place (record { 0 = 0 }) other 0)) stays
       in
-      no-c (rw (same, other-clear) at done)
+      omega (arith, same, other-clear, ends, over-done 0)
 
 -- ---- and demand 2: the third turn after the start begins the second command
 
@@ -237,9 +416,9 @@ size3 = length-apply (wordTo 0x40 0xA000 ∷ []) m2 ∙ size2
 
 module _ (chip : Chip) (q : Demand2 chip) where
   -- a chip that has demand 2 goes the same way
-  leads : (s : chip .Inner) (c : Call) (cs : List Event) (d : Device) (m : List ℕ) (d′ : Device) (m′ : List ℕ) → Goes c d m d′ m′
+  leads : (s : chip .Inner) (c : Call) (cs : List Act) (d : Device) (m : List ℕ) (d′ : Device) (m′ : List ℕ) → Goes c d m d′ m′
       → Acceptable c d m heldArea sentArea → Handed c (lentOf d m heldArea sentArea)
-      → chipRun chip s (call c ∷ cs) (lentOf d m heldArea sentArea) ≡ chipRun chip (chip .next s c (lentOf d m heldArea sentArea)) cs (lentOf d′ m′ heldArea sentArea)
+      → chipRun chip s (does (call c) ∷ cs) (lentOf d m heldArea sentArea) ≡ chipRun chip (chip .next s c (lentOf d m heldArea sentArea)) cs (lentOf d′ m′ heldArea sentArea)
   leads s c cs d m d′ m′ g k l =
       let r = q .each s c d m heldArea sentArea k l in
       ap (chipRun chip (chip .next s c (lentOf d m heldArea sentArea)) cs)

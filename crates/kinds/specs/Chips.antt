@@ -58,15 +58,28 @@ pub record Meets (chip : Chip) : Type 0 where
   pub each : (s : chip .Inner) (c : Call) (a : Areas) → Handed c a → Permits c a (chip .calls s c a)
 
 -- ---- a run: each call is lent the areas that were left before it; between calls the host may leave memory, holding area and outgoing area
--- otherwise, and keeps the record
+-- otherwise, and keeps the record. Among these come calls that are to be refused, lent anything: what stood before such a call stands after it
 
-abbrev pub chipRun : (chip : Chip) → chip .Inner → List Event → Areas → Areas
+pub data Act : Type 0 where
+  does : Event → Act
+  asks : Call → Areas → Act
+
+-- what happens to the state: a refused call does nothing to it
+abbrev pub eventsIn : List Act → List Event
+eventsIn [] = []
+eventsIn (does e ∷ acts) = e ∷ eventsIn acts
+eventsIn (asks c a ∷ acts) = eventsIn acts
+
+abbrev pub chipRun : (chip : Chip) → chip .Inner → List Act → Areas → Areas
 chipRun chip s [] a = a
-chipRun chip s (call c ∷ es) a = chipRun chip (chip .next s c a) es (chip .calls s c a .areas)
-chipRun chip s (host m h out ∷ es) a = chipRun chip s es (areasOf m h out (a .kept))
+chipRun chip s (does (call c) ∷ acts) a = chipRun chip (chip .next s c a) acts (chip .calls s c a .areas)
+chipRun chip s (does (host m h out) ∷ acts) a = chipRun chip s acts (areasOf m h out (a .kept))
+chipRun chip s (asks c b ∷ acts) a = chipRun chip (chip .next s c b) acts a
 
--- the answers along it
-abbrev pub chipAnswers : (chip : Chip) → chip .Inner → List Event → Areas → List ℕ
+-- the answers along it, of the calls that are not to be refused
+abbrev pub chipAnswers : (chip : Chip) → chip .Inner → List Act → Areas → List ℕ
 chipAnswers chip s [] a = []
-chipAnswers chip s (call c ∷ es) a = chip .calls s c a .answer ∷ chipAnswers chip (chip .next s c a) es (chip .calls s c a .areas)
-chipAnswers chip s (host m h out ∷ es) a = chipAnswers chip s es (areasOf m h out (a .kept))
+chipAnswers chip s (does (call c) ∷ acts) a =
+    chip .calls s c a .answer ∷ chipAnswers chip (chip .next s c a) acts (chip .calls s c a .areas)
+chipAnswers chip s (does (host m h out) ∷ acts) a = chipAnswers chip s acts (areasOf m h out (a .kept))
+chipAnswers chip s (asks c b ∷ acts) a = chipAnswers chip (chip .next s c b) acts a

@@ -1,9 +1,10 @@
 -- The wrong kinds of chip: 01, "The inspector's list". Each is a property of an arbitrary chip, as wide as its sentence allows. Assumes nothing.
 use mathlib.Core.Path.{_≡_}
 use mathlib.Core.Bool.{true, false}
-use mathlib.Core.List.{List, _∷_, map}
+use mathlib.Core.List.{List, _∷_, _++_, map}
 use mathlib.Core.Logic.{_⊎_}
 use Prim.Native.Nat.{ℕ, _/_, _^_, _<_}
+use lib.ListN.{take}
 use Rattle.memory.specs.Address.{place}
 use Rattle.memory.specs.Memory.{wordAt}
 use Rattle.memory.specs.declared.Offset.{Offset}
@@ -26,12 +27,16 @@ use Rattle.image.specs.Image.{imageOf}
 use Rattle.chip.specs.World.{World, Ran, worldOf}
 use Rattle.chip.specs.Call.{Call, attention, turn, ran}
 use Rattle.calls.specs.Calls.{Areas, Called, answerNumber}
+use Rattle.traces.specs.Areas.{shown}
 use Rattle.traces.specs.Bytes.{number, sentLength}
-use Rattle.progress.specs.Trace.{run, AllMay}
-use Rattle.traces.specs.Event.{Event, call, step, answersOf, Calm}
-use Rattle.kinds.specs.Chips.{Chip, Handed, chipAnswers}
+use Rattle.progress.specs.Trace.{run}
+use Rattle.traces.specs.Event.{call, step, answersOf}
+use Rattle.lists.specs.Done.{enough}
+use Rattle.kinds.specs.Chips.{Chip, Handed, Act, does, eventsIn, chipRun, chipAnswers}
+use Rattle.kinds.specs.Closed.{Right}
 use Rattle.kinds.specs.Demands.{Demand1, Acceptable, lentOf, Demand2}
-use Rattle.kinds.specs.Lists.{All, Starting, turnsOf, AllReports, started, AllAcceptable, Demand3}
+use Rattle.kinds.specs.Lists.{All, Starting, turnsOf, AllReports, started}
+use Rattle.kinds.specs.Third.{AllAcceptable, ListRun, Demand3}
 
 -- at every call that is not to be refused, something is so of what is lent and what is left; a chip of which it is so at every call is of the
 -- kind too
@@ -100,6 +105,30 @@ pub record MarksOnly (chip : Chip) : Type 0 where
   pub tdr : MeasuresNothing chip
   pub sending : SendsNothing chip
 
+-- some completions are enough: at one, what the action is to leave is not there, be it the settings, TDR's word, the sent length or the frame's bytes
+-- in the outgoing area. What was left as it was, where the definitions change it, is of this sort
+pub data Undone (d : Device) (o : Offset) (said : Ran) (r : Called) : Type 0 where
+  settingsUndone : (setupIn (r .areas .kept) ≡ setupIn (imageOf (said .outcome .device)) → ⊥) → Undone d o said r
+  wordUndone : (wordAt (r .areas .memory) (place (d .units .base) o argumentAt) ≡ wordAt (said .memory) (place (d .units .base) o argumentAt) → ⊥)
+      → Undone d o said r
+  lengthUndone : (sentLength (r .answer) ≡ sentLength (answerNumber (said .outcome .answer)) → ⊥) → Undone d o said r
+  frameUndone : (take (sentLength (answerNumber (said .outcome .answer))) (r .areas .outgoing)
+      ≡ take (sentLength (answerNumber (said .outcome .answer))) (said .outgoing) → ⊥) → Undone d o said r
+
+pub record MarksSome (chip : Chip) : Type 0 where
+  pub inner : chip .Inner
+  pub report : ℕ
+  pub device : Device
+  pub memory : List ℕ
+  pub holding : List ℕ
+  pub outgoing : List ℕ
+  pub block : Offset
+  pub acceptable : Acceptable (turn report) device memory holding outgoing
+  pub lent : Handed (turn report) (lentOf device memory holding outgoing)
+  pub completes : Completes device memory (chip .calls inner (turn report) (lentOf device memory holding outgoing)) block
+  pub undone : Undone device block (ran (turn report) (worldOf device memory holding outgoing))
+      (chip .calls inner (turn report) (lentOf device memory holding outgoing))
+
 -- ---- one that serves the first command only: whatever the turns after the start, the status of every block after the first stays as it was
 pub record FirstOnly (chip : Chip) : Type 0 where
   pub each : (s : chip .Inner) (d : Device) (m h out : List ℕ) (b : Offset) (bs : List Offset) (reports : List ℕ)
@@ -134,8 +163,8 @@ pub record Invents (chip : Chip) : Type 0 where
   pub lent : Handed call (lentOf device memory holding outgoing)
   pub invented : Invented device (ran call (worldOf device memory holding outgoing)) (chip .calls inner call (lentOf device memory holding outgoing))
 
--- the same after the start of a list, amid turns, arriving frames and host writes: after them a counter, or along them an edge, is not what the
--- definitions leave
+-- the same in the run of a list, as demand 3 has it, amid turns, arriving frames, host writes and refused calls: after some of them a counter, or
+-- along them an edge, is not what the definitions leave
 pub data InventedAlong (d : Device) (after : Areas) (answers : List ℕ) (w : World) (said : List ℕ) : Type 0 where
   anotherCount : (k : Counter) → isCounter k ≡ true
       → (wordAt (after .memory) (ofScb (d .units) (counterPlace k)) ≡ wordAt (w .memory) (ofScb (d .units) (counterPlace k)) → ⊥)
@@ -144,24 +173,29 @@ pub data InventedAlong (d : Device) (after : Areas) (answers : List ℕ) (w : Wo
 
 pub record InventsAlong (chip : Chip) : Type 0 where
   pub inner : chip .Inner
-  pub device : Device
-  pub memory : List ℕ
-  pub holding : List ℕ
-  pub outgoing : List ℕ
-  pub first : Offset
-  pub rest : List Offset
-  pub events : List Event
-  pub acceptable : Acceptable attention device memory holding outgoing
-  pub lent : Handed attention (lentOf device memory holding outgoing)
-  pub start : Starting device memory first rest
-  pub all-acceptable : AllAcceptable events
-  pub calm : AllMay Calm step events (step (call attention) (worldOf device memory holding outgoing))
-  pub invented : InventedAlong device (started chip inner events (lentOf device memory holding outgoing))
-      (chipAnswers chip inner (call attention ∷ events) (lentOf device memory holding outgoing))
-      (run step (call attention ∷ events) (worldOf device memory holding outgoing))
-      (answersOf (call attention ∷ events) (worldOf device memory holding outgoing))
+  pub blocks : List ℕ
+  pub acts : List Act
+  pub more : List Act
+  pub world : World
+  pub comes : ListRun enough blocks (acts ++ more) world
+  pub invented : InventedAlong (world .device) (started chip inner acts (shown world))
+      (chipAnswers chip inner (does (call attention) ∷ acts) (shown world))
+      (run step (call attention ∷ eventsIn acts) world) (answersOf (call attention ∷ eventsIn acts) world)
 
--- ---- the list: a chip of any of these kinds; of one that marks commands complete, a third is enough
+-- the same along any trace of calls and host writes, from any state in range, whatever it does at calls that are to be refused: after it a counter of
+-- the SCB, where that was or where it is, or along it an edge, is not what the definitions leave
+pub record InventsInTrace (chip : Chip) : Type 0 where
+  pub inner : chip .Inner
+  pub world : World
+  pub acts : List Act
+  pub right : Right world
+  pub all-acceptable : AllAcceptable (eventsIn acts)
+  pub scb : Device
+  pub before-or-after : (scb ≡ world .device) ⊎ (scb ≡ run step (eventsIn acts) world .device)
+  pub invented : InventedAlong scb (chipRun chip inner acts (shown world)) (chipAnswers chip inner acts (shown world))
+      (run step (eventsIn acts) world) (answersOf (eventsIn acts) world)
+
+-- ---- the list: a chip of any of these kinds; of one that marks commands complete, a third is enough, and so is one completion
 
 pub data Wrong (chip : Chip) : Type 0 where
   refuses : RefusesAll chip → Wrong chip
@@ -171,9 +205,11 @@ pub data Wrong (chip : Chip) : Type 0 where
   settingNothing : SetsNothing chip → Wrong chip
   measuringNothing : MeasuresNothing chip → Wrong chip
   sendingNothing : SendsNothing chip → Wrong chip
+  markingSome : MarksSome chip → Wrong chip
   firstOnly : FirstOnly chip → Wrong chip
   inventing : Invents chip → Wrong chip
   inventingAlong : InventsAlong chip → Wrong chip
+  inventingInTrace : InventsInTrace chip → Wrong chip
 
 -- the demand that document 01 names with each
 abbrev pub LacksNamed : (chip : Chip) → Wrong chip → Type 0
@@ -184,6 +220,8 @@ LacksNamed chip (marking k) = Demand2 chip → ⊥
 LacksNamed chip (settingNothing k) = Demand2 chip → ⊥
 LacksNamed chip (measuringNothing k) = Demand2 chip → ⊥
 LacksNamed chip (sendingNothing k) = Demand2 chip → ⊥
+LacksNamed chip (markingSome k) = Demand2 chip → ⊥
 LacksNamed chip (firstOnly k) = (Demand2 chip → ⊥) × (Demand3 chip → ⊥)
 LacksNamed chip (inventing k) = Demand2 chip → ⊥
-LacksNamed chip (inventingAlong k) = Demand3 chip → ⊥
+LacksNamed chip (inventingAlong k) = (Demand2 chip → ⊥) × (Demand3 chip → ⊥)
+LacksNamed chip (inventingInTrace k) = Demand2 chip → ⊥

@@ -3,4 +3,6 @@ pub mod Chips
 pub mod Demands
 pub mod Closed
 pub mod Lists
+pub mod Third
 pub mod Kinds
+pub mod Spoiled

@@ -1,8 +1,8 @@
--- A command list in memory, its start, and what bytes show of demand 3. Assumes nothing.
+-- A command list in memory, and its start where no frame is held. Assumes nothing.
 use mathlib.Core.Path.{_≡_}
 use mathlib.Core.Bool.{true, false}
 use mathlib.Core.List.{List, [], _∷_, map}
-use Prim.Native.Nat.{ℕ, _*_, _^_, _≤_, _<_}
+use Prim.Native.Nat.{ℕ, _^_, _<_}
 use lib.ListN.{length}
 use Rattle.memory.specs.Address.{place, offsetAt}
 use Rattle.memory.specs.Memory.{wordAt}
@@ -10,8 +10,7 @@ use Rattle.memory.specs.declared.Offset.{Offset}
 use Rattle.memory.specs.declared.RealAddress.{RealAddress}
 use Rattle.memory.proofs.Fields.{Apart}
 use Rattle.scb.specs.Words as scb
-use Rattle.scb.specs.Words.{bitsAt, bit, cuc, resets, cuNumber}
-use Rattle.scb.specs.declared.CuState.the-variants as cus
+use Rattle.scb.specs.Words.{bit, cuc, resets}
 use Rattle.device.specs.Numbers.{actionNumber}
 use Rattle.device.specs.State.{cuState, isActive, isHolding}
 use Rattle.device.specs.declared.Action.the-variants as action
@@ -19,16 +18,11 @@ use Rattle.device.specs.declared.Device.{Device}
 use Rattle.actions.specs.Block.{blockStatusAt, blockCommandAt, argumentAt}
 use Rattle.command.specs.Begin.{cmd}
 use Rattle.control.specs.Obey.{ofScb}
-use Rattle.chip.specs.World.{World, worldOf}
 use Rattle.chip.specs.Call.{attention, turn}
 use Rattle.calls.specs.Calls.{Areas}
-use Rattle.progress.specs.Trace.{run, AllMay}
-use Rattle.traces.specs.Areas.{Hosted, shown}
-use Rattle.traces.specs.Event.{Event, call, host, step, answersOf, Calm}
-use Rattle.closure.specs.Refusals.{FrameRight}
+use Rattle.traces.specs.Event.{call}
 use Rattle.lists.specs.Uses as lists
-use Rattle.kinds.specs.Chips.{Chip, Given, Handed, chipRun, chipAnswers}
-use Rattle.kinds.specs.Demands.{Acceptable, lentOf}
+use Rattle.kinds.specs.Chips.{Chip, Act, does, chipRun}
 
 -- ---- a list: 01, "Turns". The first block that has EL or S is the last, each other's link leads to the next
 
@@ -70,47 +64,17 @@ pub record Starting (d : Device) (m : List ℕ) (b : Offset) (bs : List Offset) 
 -- ---- the run: the attention, and what happens after it
 
 -- turns with their line reports
-abbrev pub turnsOf : List ℕ → List Event
+abbrev pub turnsOf : List ℕ → List Act
 turnsOf [] = []
-turnsOf (r ∷ rs) = call (turn r) ∷ turnsOf rs
+turnsOf (r ∷ rs) = does (call (turn r)) ∷ turnsOf rs
 
 abbrev pub AllReports : List ℕ → Type 0
 AllReports [] = Unit {0}
 AllReports (r ∷ rs) = (r < 2 ^ 16) × AllReports rs
 
-abbrev pub started : (chip : Chip) → chip .Inner → List Event → Areas → Areas
-started chip s es a = chipRun chip s (call attention ∷ es) a
-
--- any events: calls that are not to be refused for what they bring; areas of bytes of the right lengths, as the host leaves them
-abbrev pub AllAcceptable : List Event → Type 0
-AllAcceptable [] = Unit {0}
-AllAcceptable (call c ∷ es) = Given c × FrameRight c × AllAcceptable es
-AllAcceptable (host m h out ∷ es) = Hosted m h out × AllAcceptable es
+abbrev pub started : (chip : Chip) → chip .Inner → List Act → Areas → Areas
+started chip s acts a = chipRun chip s (does (call attention) ∷ acts) a
 
 -- a block has C
 abbrev pub isDone : RealAddress → List ℕ → Offset → Type 0
 isDone base m b = bit (wordAt m (place base b blockStatusAt)) 15 ≡ true
-
--- ---- what bytes show of demand 3
-
--- every block of the list has C, and the SCB's status does not say Active
-pub record Completed (d : Device) (bs : List Offset) (m : List ℕ) : Type 0 where
-  pub done : All (isDone (d .units .base) m) bs
-  pub inactive : bitsAt (wordAt m (ofScb (d .units) scb.scbStatusAt)) 8 3 ≡ cuNumber cus.Active → ⊥
-
--- done as in 2: all bytes are as the definitions leave them, and the answers were the definitions'
-pub record DoneAsIn2 (chip : Chip) (s : chip .Inner) (es : List Event) (w : World) : Type 0 where
-  pub areas : chipRun chip s es (shown w) ≡ shown (run step es w)
-  pub answers : chipAnswers chip s es (shown w) ≡ answersOf es w
-
-pub record Demand3 (chip : Chip) : Type 0 where
-  -- within 132 times n turns. It is asked of runs of turns while no frame is held: nothing but the commands' results and the SCB's status is
-  -- written then. Arguments, descriptors and data may lie anywhere, since each block gets its C all the same
-  pub within : (s : chip .Inner) (d : Device) (m h out : List ℕ) (b : Offset) (bs : List Offset) (reports : List ℕ)
-      → Acceptable attention d m h out → Handed attention (lentOf d m h out) → Starting d m b bs → AllReports reports
-      → 132 * length (b ∷ bs) ≤ length reports → Completed d (b ∷ bs) (started chip s (turnsOf reports) (lentOf d m h out) .memory)
-  -- and at every moment after the start: turns, frames that arrive, whatever the host writes
-  pub as-in-2 : (s : chip .Inner) (d : Device) (m h out : List ℕ) (b : Offset) (bs : List Offset) (es : List Event)
-      → Acceptable attention d m h out → Handed attention (lentOf d m h out) → Starting d m b bs → AllAcceptable es
-      → AllMay Calm step es (step (call attention) (worldOf d m h out))
-      → DoneAsIn2 chip s (call attention ∷ es) (worldOf d m h out)

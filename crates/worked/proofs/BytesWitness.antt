@@ -32,11 +32,11 @@ use Rattle.lists.proofs.Accepted.{Right, accepts, right-again, Rights, all-acce
 
 -- ---- bytes, by a test
 
-abbrev bytesb : List ℕ → Bool
+abbrev pub bytesb : List ℕ → Bool
 bytesb [] = true
 bytesb (b ∷ bs) = ltb b 256 && bytesb bs
 
-bytes-ok : (bs : List ℕ) → T (bytesb bs) → Bytes bs
+pub bytes-ok : (bs : List ℕ) → T (bytesb bs) → Bytes bs
 bytes-ok [] t = bytes-nil
 bytes-ok (b ∷ bs) t = bytes-cons b bs (lit< (and-l (ltb b 256) (bytesb bs) t)) (bytes-ok bs (and-r (ltb b 256) (bytesb bs) t))
 

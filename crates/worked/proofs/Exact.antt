@@ -10,7 +10,7 @@ use lib.ListN.{length, replicate}
 use Rattle.scb.specs.Words.{noEvents}
 use Rattle.device.specs.State.{cuState, isActive}
 use Rattle.actions.specs.Setup.{setupOf}
-use Rattle.chip.specs.Cases.{Word, _is_, put, startOn}
+use Rattle.chip.specs.Cases.{Word, _is_, put, start}
 use Rattle.chip.specs.Call.{attention, arrive, turn}
 use Rattle.chip.specs.World.{World}
 use Rattle.traces.specs.Event.{Event, call, host, step, DuringList}
@@ -31,6 +31,17 @@ FirstHalf least =
     → Listed (step (call attention) w .device .units .base) (step (call attention) w .memory) bs
     → Premises DuringList least bs es (step (call attention) w) → Done bs es (step (call attention) w)
 
+-- a list, with all that is asked but for the number of turns, whose unit is still Active
+pub record Unfinished (least : ℕ → ℕ) (bs : List ℕ) (es : List Event) (w : World) : Type 0 where
+  pub starts : Starts w
+  pub first : firstOf bs ≡ cblOf w .0
+  pub listed : Listed (step (call attention) w .device .units .base) (step (call attention) w .memory) bs
+  pub premises : Premises DuringList least bs es (step (call attention) w)
+  pub active : isActive (cuState (run step es (step (call attention) w) .device .units .cu)) ≡ true
+
+refuted : (least : ℕ → ℕ) (bs : List ℕ) (es : List Event) (w : World) → Unfinished least bs es w → FirstHalf least → ⊥
+refuted least bs es w u half = true≢false (sym (u .active) ∙ half bs es w (u .starts) (u .first) (u .listed) (u .premises) .stopped)
+
 -- ---- the board: ISCP at 0, SCB at 8, base 0
 
 -- a Transmit at 18h with a command word that is said, another with EL at 54h, both with the descriptor at 28h
@@ -45,14 +56,20 @@ blocks word =
 abbrev descriptors : List Word
 descriptors = 0x34 is 0x30 ∷ 0x36 is 0x48 ∷ 0x4A is 0x48 ∷ 0x4C is 0x52 ∷ 0x50 is 1 ∷ []
 
-abbrev cold : ℕ → World
-cold word = startOn (put descriptors (put (blocks word) (put (8188 is 0 ∷ 2 is 0x08 ∷ []) (replicate 8192 0))))
+abbrev pub words : ℕ → List Word
+words word = 8188 is 0 ∷ 2 is 0x08 ∷ blocks word ++ descriptors
+
+abbrev pub cold : ℕ → World
+cold word = start (words word)
 
 -- all acknowledged, START for both units, CBL and RFA offset
-abbrev told : World → World
-told w = step (host (put (0x0A is 0xF110 ∷ 0x0C is 0x18 ∷ 0x0E is 0x30 ∷ []) (w .memory)) (w .holding) (w .outgoing)) w
+abbrev pub orders : List Word
+orders = 0x0A is 0xF110 ∷ 0x0C is 0x18 ∷ 0x0E is 0x30 ∷ []
 
-abbrev before : ℕ → World
+abbrev told : World → World
+told w = step (host (put orders (w .memory)) (w .holding) (w .outgoing)) w
+
+abbrev pub before : ℕ → World
 before word = told (step (call attention) (cold word))
 
 abbrev begun : ℕ → World
@@ -63,7 +80,7 @@ unfolding keptb
 starts word = record { initialised = refl; unreset = refl; start = refl; idle = refl }
 
 -- a frame to everyone, with 64 bytes of data
-abbrev frame : Event
+abbrev pub frame : Event
 frame = call (arrive (replicate 78 255) 0)
 
 abbrev addresses : List ℕ
@@ -77,7 +94,7 @@ addresses =
 abbrev alone : World
 alone = begun 0x8004
 
-abbrev one : ℕ → List Event
+abbrev pub one : ℕ → List Event
 one k = frame ∷ replicate k (call (turn 0))
 
 -- its 64 descriptors are one
@@ -106,12 +123,14 @@ after-132 : log machine (one 132) alone ≡ began 0x18 ∷ ended 0x18 0x8100 [] 
 unfolding keptb
 after-132 = refl
 
+pub one-unfinished : (least : ℕ → ℕ) → least 1 ≤ 131 → Unfinished least (0x18 ∷ []) (one 131) (before 0x8004)
+unfolding keptb
+one-unfinished least l =
+    record { starts = starts 0x8004; first = refl; listed = refl; premises = one-premises least l; active = not-after-131 }
+
 -- fewer than 132 turns for one command do not suffice
 pub one-takes-132 : (least : ℕ → ℕ) → least 1 ≤ 131 → FirstHalf least → ⊥
-unfolding keptb
-one-takes-132 least l half =
-    true≢false
-    (sym not-after-131 ∙ half (0x18 ∷ []) (one 131) (before 0x8004) (starts 0x8004) refl refl (one-premises least l) .stopped)
+one-takes-132 least l half = refuted least (0x18 ∷ []) (one 131) (before 0x8004) (one-unfinished least l) half
 
 -- 131 turns a command do not suffice
 pub not-131 : FirstHalf (λ n. 131 * n) → ⊥
@@ -122,10 +141,10 @@ not-131 half = one-takes-132 (λ n. 131 * n) (lit≤ tt) half
 abbrev pair : World
 pair = begun 0x0004
 
-abbrev both : List ℕ
+abbrev pub both : List ℕ
 both = 0x18 ∷ 0x54 ∷ []
 
-abbrev two : ℕ → List Event
+abbrev pub two : ℕ → List Event
 two k = frame ∷ (replicate 131 (call (turn 0)) ++ (frame ∷ replicate k (call (turn 0))))
 
 abbrev addresses₂ : List ℕ
@@ -158,12 +177,14 @@ two-premises least l =
       turns = l;
     }
 
+pub two-unfinished : (least : ℕ → ℕ) → least 2 ≤ 263 → Unfinished least both (two 132) (before 0x0004)
+unfolding keptb
+two-unfinished least l =
+    record { starts = starts 0x0004; first = refl; listed = (refl, refl, refl); premises = two-premises least l; active = not-after-263 }
+
 -- fewer than 264 turns for two commands do not suffice
 pub two-take-264 : (least : ℕ → ℕ) → least 2 ≤ 263 → FirstHalf least → ⊥
-unfolding keptb
-two-take-264 least l half =
-    true≢false
-    (sym not-after-263 ∙ half both (two 132) (before 0x0004) (starts 0x0004) refl (refl, refl, refl) (two-premises least l) .stopped)
+two-take-264 least l half = refuted least both (two 132) (before 0x0004) (two-unfinished least l) half
 
 -- ---- 132 turns a command are enough, and not one can be spared
 

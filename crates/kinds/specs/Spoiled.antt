@@ -1,0 +1,255 @@
+-- A chip of each wrong kind that is no worse than that: ours, spoilt in one thing. Assumes nothing.
+use mathlib.Core.Path.{_≡_}
+use mathlib.Core.Bool.{Bool, true, false, not, cond, _&&_}
+use mathlib.Core.List.{List, [], _∷_}
+use mathlib.Core.Logic.{_⊎_}
+use Prim.Native.Nat.{ℕ, _+_, _-_, _*_, _%_, _^_, _≤_, _<_}
+use lib.Dec.{eqb}
+use lib.ListN.{length, take, drop}
+use lib.Seq.{sets}
+use Rattle.memory.specs.Address.{place}
+use Rattle.memory.specs.Memory.{wordAt, Write, apply, wordTo}
+use Rattle.memory.specs.declared.Offset.{Offset}
+use Rattle.memory.specs.declared.RealAddress.{RealAddress}
+use Rattle.device.specs.declared.Action.{Action}
+use Rattle.device.specs.declared.Action.the-variants as action
+use Rattle.device.specs.declared.Cu.{Cu}
+use Rattle.device.specs.declared.Cu.the-variants as cu
+use Rattle.packed.specs.Record.{setupAt}
+use Rattle.packed.specs.SetUp.{setupSize}
+use Rattle.actions.specs.Block.{argumentAt}
+use Rattle.chip.specs.Call.{Call, reset, attention, arrive, turn}
+use Rattle.chip.specs.Turn.{servedOf, isCommand}
+use Rattle.calls.specs.Calls.{Areas, areasOf, Called}
+use Rattle.traces.specs.Areas.{unitsIn}
+use Rattle.traces.specs.Bytes.{called, number, sentLength, isRefused}
+use Rattle.kinds.specs.Chips.{Chip, Handed}
+use Rattle.kinds.specs.Kinds.{setupIn, fromEdge}
+
+-- ---- all that a call leaves, piece by piece: three of the answer, and each byte of each area by its index
+
+pub data Piece : Type 0 where
+  theNumber : Piece
+  theLength : Piece
+  theEdge : Piece
+  memoryByte : ℕ → Piece
+  holdingByte : ℕ → Piece
+  outgoingByte : ℕ → Piece
+  recordByte : ℕ → Piece
+
+-- the byte at an index; none beyond the end
+abbrev pub byteIn : ℕ → List ℕ → List ℕ
+byteIn i xs = take 1 (drop i xs)
+
+abbrev pub pieceOf : Piece → Called → List ℕ
+pieceOf theNumber r = number (r .answer) ∷ []
+pieceOf theLength r = sentLength (r .answer) ∷ []
+pieceOf theEdge r = fromEdge (r .answer) ∷ []
+pieceOf (memoryByte i) r = byteIn i (r .areas .memory)
+pieceOf (holdingByte i) r = byteIn i (r .areas .holding)
+pieceOf (outgoingByte i) r = byteIn i (r .areas .outgoing)
+pieceOf (recordByte i) r = byteIn i (r .areas .kept)
+
+-- whatever the inner state, the call and what is lent: every piece but those that are said to be spoilt is what the definitions leave
+pub record AsOursBut (chip : Chip) (spoilt : chip .Inner → Call → Areas → Piece → Type 0) : Type 0 where
+  pub each : (s : chip .Inner) (c : Call) (a : Areas) (p : Piece) → Handed c a → (spoilt s c a p → ⊥)
+      → pieceOf p (chip .calls s c a) ≡ pieceOf p (called c a)
+
+-- ---- chips without inner state
+
+abbrev pub plain : (Call → Areas → Called) → Chip
+plain does = record { Inner = Unit {0}; first = tt; calls = λ s c a. does c a; next = λ s c a. tt }
+
+-- it refuses every call: with document 01's number where there is one, else with 1
+abbrev pub refusing : Chip
+refusing = plain (λ c a. cond (isRefused (called c a)) (called c a) (record { answer = 1; areas = a }))
+
+-- it answers n
+abbrev pub withAnswer : ℕ → Called → Called
+withAnswer n r = record { answer = n; areas = r .areas }
+
+abbrev pub answering : ℕ → Chip
+answering n = plain (λ c a. withAnswer n (called c a))
+
+abbrev pub OfAnswer : Piece → Type 0
+OfAnswer theNumber = Unit {0}
+OfAnswer theLength = Unit {0}
+OfAnswer theEdge = Unit {0}
+OfAnswer (memoryByte i) = ⊥
+OfAnswer (holdingByte i) = ⊥
+OfAnswer (outgoingByte i) = ⊥
+OfAnswer (recordByte i) = ⊥
+
+-- it leaves memory as lent
+abbrev pub withMemory : List ℕ → Called → Called
+withMemory m r = record { answer = r .answer; areas = areasOf m (r .areas .holding) (r .areas .outgoing) (r .areas .kept) }
+
+abbrev pub leaving : Chip
+leaving = plain (λ c a. withMemory (a .memory) (called c a))
+
+abbrev pub OfMemory : Piece → Type 0
+OfMemory theNumber = ⊥
+OfMemory theLength = ⊥
+OfMemory theEdge = ⊥
+OfMemory (memoryByte i) = Unit {0}
+OfMemory (holdingByte i) = ⊥
+OfMemory (outgoingByte i) = ⊥
+OfMemory (recordByte i) = ⊥
+
+-- ---- chips that spoil what a turn leaves: if it is not refused, and at the reports that are said
+
+abbrev pub spoiledBy : Bool → (Called → Called) → Called → Called
+spoiledBy at spoil r = cond (at && not (isRefused r)) (spoil r) r
+
+abbrev pub spoiling : (ℕ → Bool) → (Areas → Called → Called) → Call → Areas → Called
+spoiling at spoil reset a = called reset a
+spoiling at spoil attention a = called attention a
+spoiling at spoil (arrive f v) a = called (arrive f v) a
+spoiling at spoil (turn report) a = spoiledBy (at report) (spoil a) (called (turn report) a)
+
+-- such a turn
+abbrev pub SpoiltTurn : (ℕ → Bool) → Call → Type 0
+SpoiltTurn at reset = ⊥
+SpoiltTurn at attention = ⊥
+SpoiltTurn at (arrive f v) = ⊥
+SpoiltTurn at (turn report) = at report ≡ true
+
+-- at every report, or at 7 alone
+abbrev pub always : ℕ → Bool
+always report = true
+
+abbrev pub atSeven : ℕ → Bool
+atSeven report = eqb report 7
+
+-- the settings are those of the record lent
+abbrev pub unset : Areas → Called → Called
+unset a r =
+    record {
+      answer = r .answer;
+      areas = areasOf (r .areas .memory) (r .areas .holding) (r .areas .outgoing) (sets (r .areas .kept) setupAt (setupIn (a .kept)));
+    }
+
+abbrev pub OfSetup : Piece → Type 0
+OfSetup theNumber = ⊥
+OfSetup theLength = ⊥
+OfSetup theEdge = ⊥
+OfSetup (memoryByte i) = ⊥
+OfSetup (holdingByte i) = ⊥
+OfSetup (outgoingByte i) = ⊥
+OfSetup (recordByte i) = (setupAt ≤ i) × (i < setupAt + setupSize)
+
+-- the word of a begun TDR is as lent
+abbrev pub measuredBy : Action → Offset → List Offset
+measuredBy action.Nop o = []
+measuredBy action.IaSetup o = []
+measuredBy action.Configure o = []
+measuredBy action.McSetup o = []
+measuredBy action.Tdr o = o ∷ []
+measuredBy action.Dump o = []
+measuredBy action.Diagnose o = []
+
+abbrev pub measuredIn : Cu → List Offset
+measuredIn cu.Idle = []
+measuredIn (cu.Suspended o) = []
+measuredIn (cu.Waiting o) = []
+measuredIn (cu.Acting g a) = measuredBy a (g .block)
+measuredIn (cu.Sending g w) = []
+measuredIn (cu.Ending g n) = []
+measuredIn (cu.Failing g) = []
+
+abbrev pub wordsBack : RealAddress → List ℕ → List Offset → List Write
+wordsBack base m [] = []
+wordsBack base m (o ∷ os) = wordTo (place base o argumentAt) (wordAt m (place base o argumentAt)) ∷ wordsBack base m os
+
+abbrev pub unmeasured : Areas → Called → Called
+unmeasured a r =
+    let u = unitsIn (a .kept) in withMemory (apply (wordsBack (u .base) (a .memory) (measuredIn (u .cu))) (r .areas .memory)) r
+
+abbrev pub ByteOfWord : ℕ → RealAddress → List Offset → ℕ → Type 0
+ByteOfWord n base [] i = ⊥
+ByteOfWord n base (o ∷ os) i = (i ≡ place base o argumentAt % n) ⊎ (i ≡ (place base o argumentAt + 1) % n) ⊎ ByteOfWord n base os i
+
+abbrev pub OfWord : Areas → Piece → Type 0
+OfWord a theNumber = ⊥
+OfWord a theLength = ⊥
+OfWord a theEdge = ⊥
+OfWord a (memoryByte i) = ByteOfWord (length (a .memory)) (unitsIn (a .kept) .base) (measuredIn (unitsIn (a .kept) .cu)) i
+OfWord a (holdingByte i) = ⊥
+OfWord a (outgoingByte i) = ⊥
+OfWord a (recordByte i) = ⊥
+
+-- length 0 is told
+abbrev pub unsent : Called → Called
+unsent r = withAnswer (number (r .answer) + fromEdge (r .answer) * 2 ^ 32) r
+
+-- all three
+abbrev pub unacted : Areas → Called → Called
+unacted a r = unsent (unmeasured a (unset a r))
+
+abbrev pub OfAction : Areas → Piece → Type 0
+OfAction a p = OfSetup p ⊎ OfWord a p ⊎ (p ≡ theLength)
+
+-- an edge is told where there is none, and none where there is one
+abbrev pub turnedOver : Called → Called
+turnedOver r = withAnswer (r .answer % 2 ^ 32 + (1 - fromEdge (r .answer)) * 2 ^ 32) r
+
+abbrev pub settingNothing : Chip
+settingNothing = plain (spoiling always unset)
+
+abbrev pub measuringNothing : Chip
+measuringNothing = plain (spoiling always unmeasured)
+
+abbrev pub sendingNothing : Chip
+sendingNothing = plain (spoiling always (λ a. unsent))
+
+abbrev pub markingOnly : Chip
+markingOnly = plain (spoiling always unacted)
+
+abbrev pub markingAtSeven : Chip
+markingAtSeven = plain (spoiling atSeven unacted)
+
+abbrev pub inventing : Chip
+inventing = plain (spoiling atSeven (λ a. turnedOver))
+
+-- ---- one that serves the first command and no other: it keeps in mind whether a command was completed since the last attention
+
+-- the end turn of a command is next
+abbrev pub isEnd : Cu → Bool
+isEnd cu.Idle = false
+isEnd (cu.Suspended o) = false
+isEnd (cu.Waiting o) = false
+isEnd (cu.Acting g a) = true
+isEnd (cu.Sending g w) = false
+isEnd (cu.Ending g n) = true
+isEnd (cu.Failing g) = true
+
+-- the command unit is to be served; it is, with an end turn
+abbrev pub toCommand : Areas → Bool
+toCommand a = isCommand (servedOf (unitsIn (a .kept)))
+
+abbrev pub completing : Areas → Bool
+completing a = toCommand a && isEnd (unitsIn (a .kept) .cu)
+
+-- after a completed command, a turn that is the command unit's leaves all as lent and answers 0, if it is not refused
+abbrev pub firstCalls : Bool → Call → Areas → Called
+firstCalls completed reset a = called reset a
+firstCalls completed attention a = called attention a
+firstCalls completed (arrive f v) a = called (arrive f v) a
+firstCalls completed (turn report) a =
+    spoiledBy (completed && toCommand a) (λ r. record { answer = 0; areas = a }) (called (turn report) a)
+
+abbrev pub firstNext : Bool → Call → Areas → Bool
+firstNext completed reset a = false
+firstNext completed attention a = false
+firstNext completed (arrive f v) a = completed
+firstNext completed (turn report) a = cond (completing a && not (isRefused (called (turn report) a))) true completed
+
+abbrev pub servingFirst : Chip
+servingFirst = record { Inner = Bool; first = false; calls = firstCalls; next = firstNext }
+
+-- the calls that it spoils
+abbrev pub AfterFirst : Bool → Call → Areas → Type 0
+AfterFirst completed reset a = ⊥
+AfterFirst completed attention a = ⊥
+AfterFirst completed (arrive f v) a = ⊥
+AfterFirst completed (turn report) a = (completed ≡ true) × (toCommand a ≡ true)
