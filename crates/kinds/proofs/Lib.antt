@@ -17,3 +17,4 @@ pub mod Full
 pub mod Spoiled
 pub mod Marked
 pub mod Inventing
+pub mod First
