@@ -13,7 +13,8 @@ use Rattle.chip.specs.Call.{Call, attention, turn, ran}
 use Rattle.calls.specs.Calls.{Areas, Called, answerNumber}
 use Rattle.traces.specs.Areas.{shown}
 use Rattle.traces.specs.Bytes.{called}
-use Rattle.kinds.specs.Chips.{Handed}
+use Rattle.closure.specs.Refusals.{FrameRight}
+use Rattle.kinds.specs.Chips.{Given, Handed}
 use Rattle.kinds.specs.Closed.{Right}
 use Rattle.kinds.specs.Demands.{Acceptable}
 use Rattle.kinds.specs.Lists.{turnsOf}
@@ -71,7 +72,7 @@ inventing-is-of-its-kind =
 
 -- ---- along a trace, of one turn
 
-acceptable-right : (c : Call) (w : World) → Acceptable c (w .device) (w .memory) (w .holding) (w .outgoing) → Handed c (shown w) → Right w
+pub acceptable-right : (c : Call) (w : World) → Acceptable c (w .device) (w .memory) (w .holding) (w .outgoing) → Handed c (shown w) → Right w
 acceptable-right c w s l =
     record {
       areas =
@@ -108,16 +109,16 @@ start-acceptable = acceptable-two attention idle two (omega arith) two-size idle
 after-right : Right begun
 after-right = closing .each attention waits attending (omega arith) right-two
 
-after-acceptable : (w : World) → Right w → Acceptable (turn 7) (w .device) (w .memory) (w .holding) (w .outgoing)
-after-acceptable w r =
+pub right-acceptable : (c : Call) (w : World) → FrameRight c → Right w → Acceptable c (w .device) (w .memory) (w .holding) (w .outgoing)
+right-acceptable c w f r =
     let a = r .areas in
-    record { size = a .size; holding = a .holding; outgoing = a .outgoing; frame = omega arith; wide = r .wide; range = r .range }
+    record { size = a .size; holding = a .holding; outgoing = a .outgoing; frame = f; wide = r .wide; range = r .range }
 
-after-handed : (w : World) → Right w → Handed (turn 7) (shown w)
-after-handed w r =
+pub right-handed : (c : Call) (w : World) → Given c → Right w → Handed c (shown w)
+right-handed c w g r =
     let a = r .areas in
     record {
-      given = sevenths;
+      given = g;
       areas =
           record {
             memory = a .memory-bytes;
@@ -142,6 +143,6 @@ inventing-along =
       invented =
           anotherEdges
           (λ e.
-          edge-differs begun (after-acceptable begun after-right) (after-handed begun after-right)
+          edge-differs begun (right-acceptable (turn 7) begun (omega arith) after-right) (right-handed (turn 7) begun sevenths after-right)
           (ap (λ (a : Areas). fromEdge (inventing .calls tt (turn 7) a .answer)) (sym same) ∙ ap (λ (xs : List ℕ). getD xs 1 0) e));
     }
