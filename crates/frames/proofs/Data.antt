@@ -1,7 +1,7 @@
 -- Demand 2 of frames, "held to be stored": along a trace in which a frame stays held and the host keeps the holding area, the buffers get its data, all of
 -- it if it is stored with buffers enough, a proper beginning of it if out of buffers. Assumes nothing.
 use mathlib.Core.Path.{_≡_, refl, sym, ap, ap₂, _∙_, subst}
-use mathlib.Core.Bool.{Bool, true, false, _&&_, true≢false, false≢true}
+use mathlib.Core.Bool.{Bool, true, false, true≢false, false≢true}
 use mathlib.Core.List.{List, [], _∷_, _++_, append-nil, append-assoc, head-eq-of-cons-eq}
 use Prim.Native.Nat.{ℕ, _+_, _-_, _≤_, _<_, min}
 use native.Mathlib.Omega.{arith}
@@ -16,7 +16,7 @@ use Rattle.memory.specs.declared.Offset.{Offset}
 use Rattle.device.specs.Answers.{isHeld}
 use Rattle.device.specs.Limits.{header, heldFrom}
 use Rattle.device.specs.Numbers.{verdictOf}
-use Rattle.device.specs.State.{heldIn, isGood}
+use Rattle.device.specs.State.{heldIn}
 use Rattle.device.specs.declared.Counter.{Counter}
 use Rattle.device.specs.declared.Counter.the-variants as counter
 use Rattle.device.specs.declared.Device.{Device}
@@ -48,7 +48,7 @@ use Rattle.closure.proofs.Carried.{not-refused, carry, carry-shown}
 use Rattle.closure.proofs.Driven.{shows-said, fair-along}
 use Rattle.frames.specs.Arrival.{RightLengths, unitOf, judgedAs, shortBy, IsHeld, ArrivalFate}
 use Rattle.frames.specs.Arrival as arrival
-use Rattle.frames.specs.Held.{loses, isServed, ends, endIsNext, StaysHeld, begunUnit, bufferIn, dataTo, filledUnit, Serves, Waits, untouched, suspends, Meanwhile, served, unserved}
+use Rattle.frames.specs.Held.{loses, isServed, ends, endIsNext, begunUnit, bufferIn, dataTo, filledUnit, Serves, Waits, untouched, suspends, Meanwhile, served, unserved}
 use Rattle.frames.specs.Held as held
 use Rattle.frames.specs.Data.{Staying, fillsBy, fillsAt, fillsAlong, together, AllMeanwhile, dataWithin, dataOf, Got, all, beginning, Delivered, ArrivedDelivered, EndLent, upTo}
 use Rattle.frames.proofs.Arrival.{arrival-fate}
@@ -341,10 +341,10 @@ came w bs v c r h (arrival.bad-saved fd x o b e z k) = is-held w bs fd (verdictO
 came w bs v c r h (arrival.bad-unsaved fd x o b e z k) = absurd (not-held (fate.Bad x) c (r .outcome .fates) refl (k .fates) h)
 came w bs v c r h (arrival.bad-unready x o b e k) = absurd (not-held (fate.Bad x) c (r .outcome .fates) refl (k .fates) h)
 
-from-came : (w : World) (bs : List ℕ) (r : Ran) (es : List Event) (report : ℕ) → Sound (r .outcome .device) → Came bs r
+from-came : (bs : List ℕ) (r : Ran) (es : List Event) (report : ℕ) → Sound (r .outcome .device) → Came bs r
     → AllMay Staying step es (afterwards r) → ends (turn report) (run step es (afterwards r)) ≡ true
     → ArrivedDelivered bs es (afterwards r) report
-from-came w bs r es report s k m n =
+from-came bs r es report s k m n =
     let d = sound-delivered (afterwards r) (k .fd) (k .frame) false es report s (k .unit) m n in
     let whole : dataOf (k .frame) (r .holding) ≡ drop header bs =
     ap (λ (n : ℕ). dataWithin heldFrom header n (r .holding)) (k .bytes) ∙ behind-header heldFrom header bs (r .holding) (k .enough) (k .entered)
@@ -365,7 +365,7 @@ pub arrived : (w : World) (bs : List ℕ) (v : ℕ) (c : Counter) (es : List Eve
     → AllMay Staying step es (step (call (arrive bs v)) w) → ends (turn report) (run step es (step (call (arrive bs v)) w)) ≡ true
     → ArrivedDelivered bs es (step (call (arrive bs v)) w) report
 arrived w bs v c es report l r h m n =
-    from-came w bs (arrivalOf w bs v) es report (call-sound (arrive bs v) w (in-range-sound (w .device) r))
+    from-came bs (arrivalOf w bs v) es report (call-sound (arrive bs v) w (in-range-sound (w .device) r))
     (came w bs v c (arrivalOf w bs v) h (arrival-fate w bs v l)) m n
 
 -- ---- on the calls, each with what it is lent, refused ones among them
@@ -375,14 +375,14 @@ run-append [] fs w = refl
 run-append (e ∷ es) fs w = run-append es fs (step e w)
 
 -- what is lent along the calls and to the turn at their end shows the state, and all of it may occur
-record Driven (a b : Areas) (w : World) (ls : List Lending) (report : ℕ) : Type 0 where
+record Driven (b : Areas) (w : World) (ls : List Lending) (report : ℕ) : Type 0 where
   may : AllMay Staying step (upTo ls b) w
   shows : Shows b (run step (upTo ls b) w)
   same : called (turn report) b ≡ onBytes (ran (turn report) (run step (upTo ls b) w))
   ends : ends (turn report) (run step (upTo ls b) w) ≡ true
 
 driven : (a b : Areas) (w : World) (ls : List Lending) (report : ℕ) → Shows a w → AllFair Staying ls a → EndLent b report (run left ls a)
-    → ends (turn report) (worldSaid b) ≡ true → Driven a b w ls report
+    → ends (turn report) (worldSaid b) ≡ true → Driven b w ls report
 driven a b w ls report s m t n =
     let k = fair-along Staying ls a w m s in
     let v : World = run step (eventsOf ls) w in

@@ -1,7 +1,7 @@
 -- What is said of a frame's data is about something: 60 bytes that arrive, into buffers of 20, 20 and 20 bytes, and into buffers of 20 and 20. What is
 -- asked is met, and what the buffers get is computed. Assumes nothing.
 use mathlib.Core.Path.{_≡_, refl, ap, _∙_}
-use mathlib.Core.Bool.{Bool, true, false}
+use mathlib.Core.Bool.{true, false}
 use mathlib.Core.List.{List, [], _∷_, _++_}
 use Prim.Native.Nat.{ℕ, zero, suc, _+_}
 use native.Mathlib.Omega.{arith}
@@ -97,23 +97,23 @@ sized ws = ap sizeAllowed (length-apply ws (replicate 8192 0) ∙ length-replica
 pub lengths : (third : ℕ) → RightLengths (before third) sixty
 lengths third = record { size = sized (words third); area = length-replicate {A = ℕ} holdingSize 0; frame = omega arith }
 
-pub record Seen (third : ℕ) (trace : List Event) : Type 0 where
+-- what the arrival and the trace meet, and what the buffers get: so many of the 46 bytes of data
+pub record Seen (third : ℕ) (trace : List Event) (got : ℕ) : Type 0 where
   pub fate : arrivals.arrivalOf (before third) sixty 0 .outcome .fates ≡ fate.Held counter.Uncounted ∷ []
   pub may : AllMay Staying step trace (step (call (arrive sixty 0)) (before third))
   pub ends : ends (turn 0) (run step trace (step (call (arrive sixty 0)) (before third))) ≡ true
-  pub got : ℕ
   pub bytes : together (fillsAlong trace (step (call (arrive sixty 0)) (before third))) ≡ take got (drop header sixty)
 
 -- begin and three buffers: all 46
-pub enough : Seen 0xA0 (call (turn 0) ∷ call (turn 0) ∷ call (turn 0) ∷ call (turn 0) ∷ [])
+pub enough : Seen 0xA0 (call (turn 0) ∷ call (turn 0) ∷ call (turn 0) ∷ call (turn 0) ∷ []) 46
 unfolding byteAt putByte bytesAt putBytes value digits fieldAt place beyond bitsAt joined anyOf eventBits statusWord counts verdictOf agree isListed matches lengthOf judged fateOf arrival receive-begin.begunBy receive-begin.begin receive-buffer.descriptorAt receive-buffer.buffer frameStatus settles close lack receive-service.service statusTo arrivals.arrival arrivals.arrivalOf concluded receiveTurn turnOf
-enough = record { fate = refl; may = ((refl, refl), ((refl, refl), ((refl, refl), ((refl, refl), tt)))); ends = refl; got = 46; bytes = refl }
+enough = record { fate = refl; may = ((refl, refl), ((refl, refl), ((refl, refl), ((refl, refl), tt)))); ends = refl; bytes = refl }
 
 -- begin and two buffers: 40 of them
-pub too-few : Seen 0xFFFF (call (turn 0) ∷ call (turn 0) ∷ call (turn 0) ∷ [])
+pub too-few : Seen 0xFFFF (call (turn 0) ∷ call (turn 0) ∷ call (turn 0) ∷ []) 40
 unfolding byteAt putByte bytesAt putBytes value digits fieldAt place beyond bitsAt joined anyOf eventBits statusWord counts verdictOf agree isListed matches lengthOf judged fateOf arrival receive-begin.begunBy receive-begin.begin receive-buffer.descriptorAt receive-buffer.buffer frameStatus settles close lack receive-service.service statusTo arrivals.arrival arrivals.arrivalOf concluded receiveTurn turnOf
-too-few = record { fate = refl; may = ((refl, refl), ((refl, refl), ((refl, refl), tt))); ends = refl; got = 40; bytes = refl }
+too-few = record { fate = refl; may = ((refl, refl), ((refl, refl), ((refl, refl), tt))); ends = refl; bytes = refl }
 
 -- so both are delivered as said
-pub is-said : (third : ℕ) (trace : List Event) → Seen third trace → ArrivedDelivered sixty trace (step (call (arrive sixty 0)) (before third)) 0
-is-said third trace s = arrived (before third) sixty 0 counter.Uncounted trace 0 (lengths third) in-range (s .fate) (s .may) (s .ends)
+pub is-said : (third : ℕ) (trace : List Event) (got : ℕ) → Seen third trace got → ArrivedDelivered sixty trace (step (call (arrive sixty 0)) (before third)) 0
+is-said third trace got s = arrived (before third) sixty 0 counter.Uncounted trace 0 (lengths third) in-range (s .fate) (s .may) (s .ends)
