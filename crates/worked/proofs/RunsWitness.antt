@@ -79,8 +79,8 @@ by-runs (l ∷ ls) a m =
 
 -- ---- the worked list
 
-pub runs-premises : PremisesByRuns DuringList enough three (byRuns worked) (called attention first .areas) begun
-runs-premises =
+pub runs-met : PremisesByRuns DuringList enough three (byRuns worked) (called attention first .areas) begun
+runs-met =
     let x = by-runs worked (called attention first .areas) (bytes-premises .fair) in
     record {
       fair = x .0;
@@ -93,4 +93,4 @@ pub runs-done : DoneByRuns three (byRuns worked) (called attention first .areas)
 unfolding keptb
 runs-done =
     runs-list-done three (byRuns worked) first (before .device) (right-first .bytes) (right-first .holds) not-refused starts refl (is-started .listed)
-    runs-premises
+    runs-met
