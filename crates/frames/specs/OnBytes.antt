@@ -28,7 +28,7 @@ same [] (y ∷ ys) = false
 same (x ∷ xs) [] = false
 same (x ∷ xs) (y ∷ ys) = eqb x y && same xs ys
 
--- the host alters the record to that of a state in range
+-- the host alters the record to that of a state in range; a state that is found in a record of bytes is so, and the second line is not met there
 abbrev pub alteredTo : (d : Device) → (fits : Bool) → inRange d ≡ fits → List Deed
 alteredTo d true r = alter d r ∷ []
 alteredTo d false r = []
