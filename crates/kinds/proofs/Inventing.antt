@@ -7,7 +7,7 @@ use native.Mathlib.Omega.{arith}
 use lib.Dec.{lit≤}
 use lib.ListN.{getD, replicate}
 use Rattle.device.specs.State.{fresh}
-use Rattle.image.proofs.Exact.{fresh-range, fresh-wide, image-bytes}
+use Rattle.image.proofs.Exact.{fresh-range, fresh-wide}
 use Rattle.chip.specs.World.{World, worldOf}
 use Rattle.chip.specs.Call.{Call, attention, turn, ran}
 use Rattle.calls.specs.Calls.{Areas, Called, answerNumber}
@@ -20,6 +20,7 @@ use Rattle.kinds.specs.Lists.{turnsOf}
 use Rattle.kinds.specs.Kinds.{fromEdge, anotherEdge, Invents, anotherEdges, InventsInTrace, InventsAlong}
 use Rattle.kinds.specs.Spoiled.{atSeven, turnedOver, inventing}
 use Rattle.kinds.proofs.Accepted.{accepted-call}
+use Rattle.kinds.proofs.Third.{right-acceptable, right-handed}
 use Rattle.kinds.proofs.Closing.{closing}
 use Rattle.kinds.proofs.Witness.{zeros, heldArea, sentArea, attending, acceptable-on, handed-on}
 use Rattle.kinds.proofs.Two.{two, idle, two-size, acceptable-two, idle-wide, idle-range, waits, begun, pair, right-two, two-run}
@@ -71,7 +72,7 @@ inventing-is-of-its-kind =
 
 -- ---- along a trace, of one turn
 
-acceptable-right : (c : Call) (w : World) → Acceptable c (w .device) (w .memory) (w .holding) (w .outgoing) → Handed c (shown w) → Right w
+pub acceptable-right : (c : Call) (w : World) → Acceptable c (w .device) (w .memory) (w .holding) (w .outgoing) → Handed c (shown w) → Right w
 acceptable-right c w s l =
     record {
       areas =
@@ -108,25 +109,6 @@ start-acceptable = acceptable-two attention idle two (omega arith) two-size idle
 after-right : Right begun
 after-right = closing .each attention waits attending (omega arith) right-two
 
-after-acceptable : (w : World) → Right w → Acceptable (turn 7) (w .device) (w .memory) (w .holding) (w .outgoing)
-after-acceptable w r =
-    let a = r .areas in
-    record { size = a .size; holding = a .holding; outgoing = a .outgoing; frame = omega arith; wide = r .wide; range = r .range }
-
-after-handed : (w : World) → Right w → Handed (turn 7) (shown w)
-after-handed w r =
-    let a = r .areas in
-    record {
-      given = sevenths;
-      areas =
-          record {
-            memory = a .memory-bytes;
-            holding = a .holding-bytes;
-            outgoing = a .outgoing-bytes;
-            kept = image-bytes (w .device) (r .wide);
-          };
-    }
-
 pub inventing-along : InventsAlong inventing
 inventing-along =
     let same : called attention (shown waits) .areas ≡ shown begun =
@@ -142,6 +124,6 @@ inventing-along =
       invented =
           anotherEdges
           (λ e.
-          edge-differs begun (after-acceptable begun after-right) (after-handed begun after-right)
+          edge-differs begun (right-acceptable (turn 7) begun (omega arith) after-right) (right-handed (turn 7) begun sevenths after-right)
           (ap (λ (a : Areas). fromEdge (inventing .calls tt (turn 7) a .answer)) (sym same) ∙ ap (λ (xs : List ℕ). getD xs 1 0) e));
     }

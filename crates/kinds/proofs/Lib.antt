@@ -16,3 +16,4 @@ pub mod Closing
 pub mod Spoiled
 pub mod Marked
 pub mod Inventing
+pub mod First

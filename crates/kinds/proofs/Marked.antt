@@ -117,7 +117,7 @@ module _ (report : ℕ) (d : Device) (m h out : List ℕ) (k : Acceptable (turn 
       spliced q s n size
 
   -- TDR's word is as it was
-  units-said : unitsIn (imageOf d) ≡ d .units
+  pub units-said : unitsIn (imageOf d) ≡ d .units
   units-said = ap unitsBy (decode-image d (k .wide) (k .range))
 
   word-back : (o : Offset) (b : Begun) (q : List ℕ) → length q ≡ length m → InWork (d .units .cu) o → d .units .cu ≡ cu.Acting b action.Tdr

@@ -5,19 +5,24 @@ use mathlib.Core.List.{List, [], _∷_}
 use Prim.Native.Nat.{ℕ, suc, _≤_, _<_}
 use native.Mathlib.Omega.{arith}
 use lib.ListN.{length}
+use Rattle.memory.specs.Address.{place}
+use Rattle.memory.specs.Memory.{wordAt}
 use Rattle.memory.specs.declared.Offset.{Offset}
 use Rattle.memory.specs.declared.RealAddress.{RealAddress}
 use Rattle.device.specs.State.{cuState, isActive, cuWorks, ruWorks}
 use Rattle.device.specs.declared.Cu.{Cu}
 use Rattle.device.specs.declared.Cu.the-variants as cu
-use Rattle.device.specs.declared.Ru.the-variants as ru
+use Rattle.actions.specs.Block.{blockStatusAt}
 use Rattle.command.specs.Part.{partOf}
 use Rattle.command.specs.Service.{service}
 use Rattle.control.specs.Obey.{ofScb}
 use Rattle.chip.specs.World.{World, Ran, afterwards}
-use Rattle.chip.proofs.Status.{command-memory}
+use Rattle.chip.proofs.Status.{command-memory, writtenIfRaised}
 use Rattle.chip.specs.Turn.{turnBy, servedBy, concluded, commandUnits, commandTurn, turnOf}
-use Rattle.kinds.proofs.Step.{AtBlock, rankOf, At, Stopped, Next, goes, stopped, service-next}
+use Rattle.kinds.specs.Lists.{All}
+use Rattle.kinds.specs.Spoiled.{isEnd}
+use Rattle.kinds.proofs.Service.{statuses-kept}
+use Rattle.kinds.proofs.Step.{AtBlock, rankOf, At, Stopped, Next, goes, stopped, service-stays, service-own, service-next}
 
 -- ---- turns, one after the other
 
@@ -41,7 +46,7 @@ pub idle-turn : (w : World) (r : ℕ) → cuWorks (w .device .units .cu) ≡ fal
 unfolding turnOf
 idle-turn w r a h = idle-by (cuWorks (w .device .units .cu)) (ruWorks (w .device .units .ru)) (w .device .units .rulast) w r a h
 
-busy-turn : (w : World) (r : ℕ) → cuWorks (w .device .units .cu) ≡ true → ruWorks (w .device .units .ru) ≡ false
+pub busy-turn : (w : World) (r : ℕ) → cuWorks (w .device .units .cu) ≡ true → ruWorks (w .device .units .ru) ≡ false
     → turnOf w r ≡ commandTurn w r
 unfolding turnOf
 busy-turn w r a h = busy-by (cuWorks (w .device .units .cu)) (ruWorks (w .device .units .ru)) (w .device .units .rulast) w r a h
@@ -50,7 +55,7 @@ idle-runs : (rs : List ℕ) (w : World) → cuWorks (w .device .units .cu) ≡ f
 idle-runs [] w a h = refl
 idle-runs (r ∷ rs) w a h = ap (runs rs) (idle-turn w r a h) ∙ idle-runs rs w a h
 
-at-active : (tdr : Offset → Type 0) (base : RealAddress) (m : List ℕ) (u : Cu) (b : Offset) → AtBlock tdr base m u b → isActive (cuState u) ≡ true
+pub at-active : (tdr : Offset → Type 0) (base : RealAddress) (m : List ℕ) (u : Cu) (b : Offset) → AtBlock tdr base m u b → isActive (cuState u) ≡ true
 at-active tdr base m cu.Idle b k = absurd k
 at-active tdr base m (cu.Suspended o) b k = absurd k
 at-active tdr base m (cu.Waiting o) b k = refl
@@ -91,6 +96,28 @@ module _ (n : ℕ) (tdr : Offset → Type 0) (whole : List Offset) (room : 8 ≤
       let x = commandUnits (w .device) (service p (w .memory) r) in
       rw (command-memory w r)
       (service-next n tdr p (ofScb (w .device .units) 0) whole (w .memory) fs b bs room x (w .device .units .cu) r s refl refl)
+
+  -- before its end turn a command stays in work
+  pub turn-stays : (w : World) (r : ℕ) (fs : List Offset) (b : Offset) (bs : List Offset) → isEnd (w .device .units .cu) ≡ false → Here w fs b bs
+      → Here (afterwards (commandTurn w r)) fs b bs
+  unfolding commandTurn concluded service
+  turn-stays w r fs b bs e s =
+      let p = partOf (w .device) (w .outgoing) in
+      let x = commandUnits (w .device) (service p (w .memory) r) in
+      rw (command-memory w r) (service-stays n tdr p (ofScb (w .device .units) 0) whole (w .memory) fs b bs room x (w .device .units .cu) r e s)
+
+  -- and no turn of it writes the status of a later block
+  pub turn-leaves : (w : World) (r : ℕ) (fs : List Offset) (b : Offset) (bs : List Offset) → Here w fs b bs
+      → All (λ c. wordAt (afterwards (commandTurn w r) .memory) (place (w .device .units .base) c blockStatusAt)
+      ≡ wordAt (w .memory) (place (w .device .units .base) c blockStatusAt)) bs
+  unfolding commandTurn concluded service
+  turn-leaves w r fs b bs s =
+      let p = partOf (w .device) (w .outgoing) in
+      let x = commandUnits (w .device) (service p (w .memory) r) in
+      let ws = writtenIfRaised (service p (w .memory) r .writes) (service p (w .memory) r .raised) x in
+      rw (command-memory w r)
+      (statuses-kept n tdr (w .device .units .base) b (ofScb (w .device .units) 0) ws (w .memory) (s .size)
+      (service-own n tdr p (ofScb (w .device .units) 0) whole (w .memory) fs b bs room x (w .device .units .cu) r s refl refl) bs (s .blocks .0) (s .scb-rest .1))
 
   -- what remains to be shown of each shorter run
   abbrev Progress : List ℕ → Type 0

@@ -1,7 +1,7 @@
 -- One service of the command unit at a block of a list: where it writes, and where the list stands afterwards. Assumes nothing.
 use mathlib.Core.Path.{_≡_, ap}
 use mathlib.Core.List.{List, [], _∷_, _++_}
-use Prim.Native.Nat.{ℕ, _+_, _-_, _≤_}
+use Prim.Native.Nat.{ℕ, _+_, _≤_}
 use native.Mathlib.Omega.{arith}
 use lib.ListN.{length}
 use Rattle.memory.specs.Address.{place}
@@ -166,3 +166,13 @@ module _ (tdr : Offset → Type 0) (base : RealAddress) (b : Offset) (scb : ℕ)
     rw (own-kept (tdr b) base b scb (place base b 2) ws m (own-command n tdr base scb b r s) own) (d .0),
     kinds-kept k cs p q (d .1),
   )
+
+-- nor is the status of another block written
+pub statuses-kept : (n : ℕ) (tdr : Offset → Type 0) (base : RealAddress) (b : Offset) (scb : ℕ) (ws : List Write) (m : List ℕ) → length m ≡ n
+    → AllOwn (tdr b) base b scb ws → (cs : List Offset) → All (λ c. NoResult n base tdr b c × NoResult n base tdr c b) cs
+    → All (ScbApart n tdr base scb) cs → All (λ c. wordAt (apply ws m) (place base c 0) ≡ wordAt m (place base c 0)) cs
+statuses-kept n tdr base b scb ws m e own [] p q = tt
+statuses-kept n tdr base b scb ws m e own (c ∷ cs) p q = (
+  own-kept (tdr b) base b scb (place base c 0) ws m (rw e (other-word n tdr base scb b c 0 (omega arith) (p .0 .0) (q .0))) own,
+  statuses-kept n tdr base b scb ws m e own cs (p .1) (q .1),
+)

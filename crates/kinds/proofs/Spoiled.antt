@@ -139,7 +139,7 @@ leaving-is-no-worse = record { each = λ s c a p l h. rest c a p h }
 
 -- ---- what spoils a turn alone, and of that some pieces alone
 
-chosen : (x y : Bool) (s r : Called) (p : Piece) → (x ≡ true → pieceOf p s ≡ pieceOf p r) → pieceOf p (cond (x && y) s r) ≡ pieceOf p r
+pub chosen : (x y : Bool) (s r : Called) (p : Piece) → (x ≡ true → pieceOf p s ≡ pieceOf p r) → pieceOf p (cond (x && y) s r) ≡ pieceOf p r
 chosen true true s r p h = h refl
 chosen true false s r p h = refl
 chosen false y s r p h = refl

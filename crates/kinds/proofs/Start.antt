@@ -141,6 +141,14 @@ module _ (tdr : Offset → Type 0) (base : RealAddress) (u : Units) (m : List �
       let e = word-kept (settledWrites u) m (place base c 2) (settled-apart u (length m) tdr base c 2 (omega arith) (p .0)) in
       (λ h. ap cmd (sym e) ∙ h, kinds-stay k cs (p .1))
 
+  statuses-stay : (cs : List Offset) → All (ScbApart (length m) tdr base (ofScb u 0)) cs
+      → All (λ c. wordAt (apply (settledWrites u) m) (place base c 0) ≡ wordAt m (place base c 0)) cs
+  statuses-stay [] p = tt
+  statuses-stay (c ∷ cs) p = (
+    word-kept (settledWrites u) m (place base c 0) (settled-apart u (length m) tdr base c 0 (omega arith) (p .0)),
+    statuses-stay cs (p .1),
+  )
+
 nothing-before : (bs : List Offset) → All (λ c. Unit {0}) bs
 nothing-before [] = tt
 nothing-before (b ∷ bs) = (tt, nothing-before bs)
@@ -216,6 +224,31 @@ module _ (w : World) (b : Offset) (bs : List Offset) (s : Starting (w .device) (
   Ends rs v =
       Stopped (length (w .memory)) (isTdr (w .device .units .base) (w .memory)) (w .device .units .base) (ofScb (w .device .units) 0) (b ∷ bs)
       (runs rs v .memory) (runs rs v .device .units .cu)
+
+  -- at once: the unit is at the first block, no frame is held, and the status of every block is as it was
+  pub record Begins (v : World) : Type 0 where
+    pub at : At (length (w .memory)) (isTdr (w .device .units .base) (w .memory)) (v .device .units .base) (ofScb (v .device .units) 0) (b ∷ bs)
+        (v .memory) (v .device .units .cu) [] b bs
+    pub free : isHolding (v .device .units .ru) ≡ false
+    pub base : v .device .units .base ≡ w .device .units .base
+    pub statuses : All (λ c. wordAt (v .memory) (place (w .device .units .base) c 0) ≡ wordAt (w .memory) (place (w .device .units .base) c 0)) bs
+
+  obeyed-begins : Begins (worldAfter (attendBy false (w .device) (command (w .device) (w .memory) b bs s) (w .memory)))
+  unfolding attendBy
+  obeyed-begins =
+      let u = obeyed (w .device) (w .memory) b bs s .outcome .device .units in
+      record {
+        at = obeyed-at (w .device) (w .memory) b bs s;
+        free = obeyed-free (w .device) (w .memory) b bs s;
+        base = refl;
+        statuses =
+            rw (obeyed-writes (w .device) (w .memory) b bs s)
+            (statuses-stay (isTdr (w .device .units .base) (w .memory)) (w .device .units .base) u (w .memory) bs (s .scb-apart .1));
+      }
+
+  pub list-begins : Begins (afterwards (attentionOf w))
+  unfolding attentionOf
+  list-begins = subst (λ (a : Attended). Begins (worldAfter a)) (sym attended) obeyed-begins
 
   obeyed-ends : (rs : List ℕ) → 8 ≤ length (w .memory) → 66 + 66 * length bs ≤ length rs
       → Ends rs (worldAfter (attendBy false (w .device) (command (w .device) (w .memory) b bs s) (w .memory)))

@@ -38,6 +38,7 @@ use Rattle.chip.specs.Turn.{raisedIn, statusBy}
 use Rattle.chip.proofs.Status.{writtenIfRaised}
 use Rattle.lists.specs.Uses.{block, stops}
 use Rattle.kinds.specs.Lists.{Listed, All, NoResult, BlocksApart, isDone}
+use Rattle.kinds.specs.Spoiled.{isEnd}
 use Rattle.kinds.proofs.Service.{atStatus, atWord, atScb, Own, AllOwn, own-append, own-kept, word-kept, ScbApart, own-command, own-link, done-kept, own-listed, rest-listed, kinds-kept, own-kinds}
 
 never : _≡_ {A = Bool} false true → ⊥
@@ -445,10 +446,13 @@ module _ (n : ℕ) (tdr : Offset → Type 0) (p : Part) (scb : ℕ) (whole : Lis
 
 module _ (n : ℕ) (tdr : Offset → Type 0) (p : Part) (scb : ℕ) (whole : List Offset) (m : List ℕ) (fs : List Offset) (b : Offset) (bs : List Offset)
     (room : 8 ≤ n) (x : Units) where
-  begin-next : (o : Offset) → At n tdr (p .base) scb whole m (cu.Waiting o) fs b bs
-      → Next n tdr (p .base) scb whole (apply (writtenIfRaised (begin p o m .writes) (begin p o m .raised) x) m) (begin p o m .part .unit) (66 + 66 * length bs)
+  -- a begin and a buffer leave the unit at the same block, with fewer services left
+  begin-onto : (o : Offset) → At n tdr (p .base) scb whole m (cu.Waiting o) fs b bs
+      → At n tdr (p .base) scb whole (apply (writtenIfRaised (begin p o m .writes) (begin p o m .raised) x) m) (begin p o m .part .unit) fs b bs
+      × (rankOf (begin p o m .part .unit) (length bs) < 66 + 66 * length bs)
+      × AllOwn (tdr b) (p .base) b scb (writtenIfRaised (begin p o m .writes) (begin p o m .raised) x)
   unfolding begin anyOf digits
-  begin-next o s =
+  begin-onto o s =
       let word = wordAt m (place (p .base) o 2) in
       let ws = wordTo (place (p .base) o 0) 0x4000 ∷ [] in
       let own : AllOwn (tdr b) (p .base) b scb ws = (record { spot = atStatus (ap (λ (c : Offset). place (p .base) c 0) (s .unit)); two = refl }, tt) in
@@ -462,19 +466,59 @@ module _ (n : ℕ) (tdr : Offset → Type 0) (p : Part) (scb : ℕ) (whole : Lis
       λ h. s .kinds .0 (ap (λ (c : Offset). cmd (wordAt m (place (p .base) c 2))) (sym (s .unit)) ∙ action-tdr (cmd word) h)
       in
       let on = begin-onwards (eqb (cmd word) transmit) tdr p (begunBy o word) word m (apply ws m) b (length bs) k t in
-      goes fs b bs (stays n tdr (p .base) scb whole m (cu.Waiting o) fs b bs room s ws (begin p o m .part .unit) own (on .unit)) (on .less)
+      (stays n tdr (p .base) scb whole m (cu.Waiting o) fs b bs room s ws (begin p o m .part .unit) own (on .unit), on .less, own)
 
-  buffer-next : (g : Begun) (w : Walk) → At n tdr (p .base) scb whole m (cu.Sending g w) fs b bs
-      → Next n tdr (p .base) scb whole (apply (writtenIfRaised (buffer p g w m .writes) (buffer p g w m .raised) x) m) (buffer p g w m .part .unit)
-      (2 + (63 - w .used) + 66 * length bs)
+  begin-next : (o : Offset) → At n tdr (p .base) scb whole m (cu.Waiting o) fs b bs
+      → Next n tdr (p .base) scb whole (apply (writtenIfRaised (begin p o m .writes) (begin p o m .raised) x) m) (begin p o m .part .unit) (66 + 66 * length bs)
+  begin-next o s = let y = begin-onto o s in goes fs b bs (y .0) (y .1)
+
+  buffer-onto : (g : Begun) (w : Walk) → At n tdr (p .base) scb whole m (cu.Sending g w) fs b bs
+      → At n tdr (p .base) scb whole (apply (writtenIfRaised (buffer p g w m .writes) (buffer p g w m .raised) x) m) (buffer p g w m .part .unit) fs b bs
+      × (rankOf (buffer p g w m .part .unit) (length bs) < 2 + (63 - w .used) + 66 * length bs)
+      × AllOwn (tdr b) (p .base) b scb (writtenIfRaised (buffer p g w m .writes) (buffer p g w m .raised) x)
   unfolding buffer anyOf
-  buffer-next g w s =
+  buffer-onto g w s =
       let d = descriptorAt (p .base) (w .next) m in
       let on =
       buffer-onwards tdr (p .base) m g b (length bs) (s .unit .0) (fits d w) (d .eof) (isNone (d .next)) (isLast (w .used)) (past d w) (w .used) refl
       (s .unit .1) refl
       in
-      goes fs b bs (stays n tdr (p .base) scb whole m (cu.Sending g w) fs b bs room s [] (buffer p g w m .part .unit) tt (on .unit)) (on .less)
+      (stays n tdr (p .base) scb whole m (cu.Sending g w) fs b bs room s [] (buffer p g w m .part .unit) tt (on .unit), on .less, tt)
+
+  buffer-next : (g : Begun) (w : Walk) → At n tdr (p .base) scb whole m (cu.Sending g w) fs b bs
+      → Next n tdr (p .base) scb whole (apply (writtenIfRaised (buffer p g w m .writes) (buffer p g w m .raised) x) m) (buffer p g w m .part .unit)
+      (2 + (63 - w .used) + 66 * length bs)
+  buffer-next g w s = let y = buffer-onto g w s in goes fs b bs (y .0) (y .1)
+
+  -- before its end turn a command stays in work
+  pub service-stays : (u : Cu) (report : ℕ) → isEnd u ≡ false → At n tdr (p .base) scb whole m u fs b bs
+      → At n tdr (p .base) scb whole (apply (writtenIfRaised (serviceBy u p m report .writes) (serviceBy u p m report .raised) x) m)
+      (serviceBy u p m report .part .unit) fs b bs
+  service-stays cu.Idle report e s = absurd (s .unit)
+  service-stays (cu.Suspended o) report e s = absurd (s .unit)
+  service-stays (cu.Waiting o) report e s = begin-onto o s .0
+  service-stays (cu.Acting g a) report e s = absurd (never (sym e))
+  service-stays (cu.Sending g w) report e s = buffer-onto g w s .0
+  service-stays (cu.Ending g k) report e s = absurd (never (sym e))
+  service-stays (cu.Failing g) report e s = absurd (never (sym e))
+
+  -- every service writes the block's results and the SCB's status, and nothing else
+  pub service-own : (u : Cu) (report : ℕ) → At n tdr (p .base) scb whole m u fs b bs → place (x .base) (x .scb) 0 ≡ scb
+      → x .cu ≡ serviceBy u p m report .part .unit
+      → AllOwn (tdr b) (p .base) b scb (writtenIfRaised (serviceBy u p m report .writes) (serviceBy u p m report .raised) x)
+  service-own cu.Idle report s to unit = absurd (s .unit)
+  service-own (cu.Suspended o) report s to unit = absurd (s .unit)
+  service-own (cu.Waiting o) report s to unit = begin-onto o s .2
+  service-own (cu.Acting g a) report s to unit =
+      end-own n tdr p scb whole m (cu.Acting g a) fs b room g (act a (p .base) (p .setup) (g .block) m) x to unit (s .unit .0)
+      (act-at (tdr b) (p .base) b scb a (p .setup) (g .block) m (s .unit .0 .block) (s .unit .1))
+  service-own (cu.Sending g w) report s to unit = buffer-onto g w s .2
+  service-own (cu.Ending g k) report s to unit =
+      end-own n tdr p scb whole m (cu.Ending g k) fs b room g (sent (p .setup) k report) x to unit (s .unit)
+      (sent-at (tdr b) (p .base) b scb (p .setup) k report)
+  service-own (cu.Failing g) report s to unit =
+      end-own n tdr p scb whole m (cu.Failing g) fs b room g (notSent (p .setup)) x to unit (s .unit)
+      (not-sent-at (tdr b) (p .base) b scb (p .setup))
 
   pub service-next : (u : Cu) (report : ℕ) → At n tdr (p .base) scb whole m u fs b bs → place (x .base) (x .scb) 0 ≡ scb
       → x .cu ≡ serviceBy u p m report .part .unit

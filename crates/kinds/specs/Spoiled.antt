@@ -19,7 +19,8 @@ use Rattle.packed.specs.Record.{setupAt}
 use Rattle.packed.specs.SetUp.{setupSize}
 use Rattle.actions.specs.Block.{argumentAt}
 use Rattle.chip.specs.Call.{Call, reset, attention, arrive, turn}
-use Rattle.chip.specs.Turn.{servedOf, isCommand}
+use Rattle.chip.specs.Turn.{servedOf, isCommand, turnOf}
+use Rattle.chip.specs.World.{World, afterwards}
 use Rattle.calls.specs.Calls.{Areas, areasOf, Called}
 use Rattle.traces.specs.Areas.{unitsIn}
 use Rattle.traces.specs.Bytes.{called, number, sentLength, isRefused}
@@ -253,3 +254,8 @@ AfterFirst completed reset a = ⊥
 AfterFirst completed attention a = ⊥
 AfterFirst completed (arrive f v) a = ⊥
 AfterFirst completed (turn report) a = (completed ≡ true) × (toCommand a ≡ true)
+
+-- turns, as the definitions go, to the end turn of the command that is in work
+abbrev pub untilEnd : List ℕ → World → World
+untilEnd [] w = w
+untilEnd (r ∷ rs) w = cond (isEnd (w .device .units .cu)) (afterwards (turnOf w r)) (untilEnd rs (afterwards (turnOf w r)))
