@@ -23,12 +23,11 @@ use Rattle.chip.specs.World.{World, afterwards}
 use Rattle.chip.specs.Arrival.{arrivalOf}
 use Rattle.chip.specs.Call.{Call, attention, ran}
 use Rattle.calls.specs.Calls.{Areas, Called, turnCall, runCall}
-use Rattle.progress.specs.Trace.{run, turns}
-use Rattle.progress.specs.Machine.{Undisturbed}
+use Rattle.progress.specs.Trace.{run}
 use Rattle.traces.specs.Event.{Event, call, step, DuringList}
 use Rattle.traces.specs.Bytes.{called, number, isRefused}
-use Rattle.traces.specs.Areas.{FrameBytes, AreBytes, Holds, worldIn, Shows}
-use Rattle.traces.specs.Driven.{Lending, left, isTaken, eventsOf, Drive, leftDriven, turnsDriven, unrolled, AllFair, AllFairDrive}
+use Rattle.traces.specs.Areas.{FrameBytes, AreBytes, Holds, worldIn}
+use Rattle.traces.specs.Driven.{Lending, Drive}
 use Rattle.closure.specs.Sound.{Sound}
 use Rattle.closure.specs.Refusals.{When, Seen, Untouched}
 use Rattle.closure.specs.Carried.{Again}
@@ -47,8 +46,8 @@ use Rattle.frames.proofs.Held as holdings
 use Rattle.frames.proofs.Stands as exits
 use Rattle.frames.proofs.Fates as fates
 use Rattle.lists.specs.Uses.{Listed, firstOf}
-use Rattle.lists.specs.Unit.{machine}
-use Rattle.lists.specs.Done.{Starts, Apart, enough, Premises, Done, bytesOf}
+use Rattle.lists.specs.Done.{Starts, Resumes, enough, Premises, Done}
+use Rattle.lists.specs.OnBytes.{PremisesOnBytes, DoneOnBytes, PremisesByRuns, DoneByRuns}
 use Rattle.lists.proofs.Whole as whole
 use Rattle.lists.proofs.Bytes as list-bytes
 use Rattle.worked.proofs.Exact as list-exact
@@ -181,7 +180,8 @@ a-run-of-no-turn = run-of-turns.run-none
 
 -- ---- demand 3, first half
 
--- "Let a channel attention start a command list .. within 132 times n turns all n are done as in 2, once each, in list order"
+-- "Let a channel attention start a command list .. within 132 times n turns all n are done as in 2, once each, in list order". Done as in 2: each
+-- with its status, its frame, the events that it raises, and at each turn the edge in the answer and the SCB's status word
 pub a-list-is-done : (bs : List ℕ) (es : List Event) (w : World) → Starts w
     → firstOf bs ≡ wordAt (w .memory) (ofScb (w .device .units) cblAt)
     → Listed (step (call attention) w .device .units .base) (step (call attention) w .memory) bs
@@ -189,29 +189,43 @@ pub a-list-is-done : (bs : List ℕ) (es : List Event) (w : World) → Starts w
     → Done bs es (step (call attention) w)
 a-list-is-done = whole.attention-list-done
 
--- the same over the calls on the areas that the host lends, refused calls among them
+-- an attention starts a list by RESUME too, from the block on before which the unit was suspended
+pub a-resumed-list-is-done : (bs : List ℕ) (es : List Event) (w : World) → Resumes (firstOf bs) w
+    → Listed (step (call attention) w .device .units .base) (step (call attention) w .memory) bs
+    → Premises DuringList enough bs es (step (call attention) w)
+    → Done bs es (step (call attention) w)
+a-resumed-list-is-done = whole.resumed-list-done
+
+-- the same over the calls on the areas that the host lends, refused calls among them: every answer and byte is the definitions', and the frames that
+-- the caller is told are those that are sent
 pub a-list-is-done-on-bytes : (bs : List ℕ) (ls : List Lending) (a : Areas) (d : Device) → AreBytes a → Holds (a .kept) d
     → isRefused (called attention a) ≡ false → Starts (worldIn d a) → firstOf bs ≡ wordAt (a .memory) (ofScb (d .units) cblAt)
     → Listed (d .units .base) (step (call attention) (worldIn d a) .memory) bs
-    → AllFair DuringList ls (called attention a .areas)
-    → Apart bs (step (call attention) (worldIn d a))
-    → Undisturbed machine (bytesOf (step (call attention) (worldIn d a)) bs) (eventsOf ls) (step (call attention) (worldIn d a))
-    → enough (length bs) ≤ turns isTaken ls
-    → Done bs (eventsOf ls) (step (call attention) (worldIn d a))
-    × Shows (run left ls (called attention a .areas)) (run step (eventsOf ls) (step (call attention) (worldIn d a)))
+    → PremisesOnBytes DuringList enough bs ls (called attention a .areas) (step (call attention) (worldIn d a))
+    → DoneOnBytes bs ls (called attention a .areas) (step (call attention) (worldIn d a))
 a-list-is-done-on-bytes = list-bytes.areas-list-done
+
+pub a-resumed-list-is-done-on-bytes : (bs : List ℕ) (ls : List Lending) (a : Areas) (d : Device) → AreBytes a → Holds (a .kept) d
+    → isRefused (called attention a) ≡ false → Resumes (firstOf bs) (worldIn d a)
+    → Listed (d .units .base) (step (call attention) (worldIn d a) .memory) bs
+    → PremisesOnBytes DuringList enough bs ls (called attention a .areas) (step (call attention) (worldIn d a))
+    → DoneOnBytes bs ls (called attention a .areas) (step (call attention) (worldIn d a))
+a-resumed-list-is-done-on-bytes = list-bytes.areas-resumed-done
 
 -- the same where runs of turns are among the calls: a run is as many turns as its answer says, and `unrolled` has those turns in its place
 pub a-list-is-done-by-runs : (bs : List ℕ) (ds : List Drive) (a : Areas) (d : Device) → AreBytes a → Holds (a .kept) d
     → isRefused (called attention a) ≡ false → Starts (worldIn d a) → firstOf bs ≡ wordAt (a .memory) (ofScb (d .units) cblAt)
     → Listed (d .units .base) (step (call attention) (worldIn d a) .memory) bs
-    → AllFairDrive DuringList ds (called attention a .areas)
-    → Apart bs (step (call attention) (worldIn d a))
-    → Undisturbed machine (bytesOf (step (call attention) (worldIn d a)) bs) (eventsOf (unrolled ds)) (step (call attention) (worldIn d a))
-    → enough (length bs) ≤ turnsDriven ds
-    → Done bs (eventsOf (unrolled ds)) (step (call attention) (worldIn d a))
-    × Shows (run leftDriven ds (called attention a .areas)) (run step (eventsOf (unrolled ds)) (step (call attention) (worldIn d a)))
+    → PremisesByRuns DuringList enough bs ds (called attention a .areas) (step (call attention) (worldIn d a))
+    → DoneByRuns bs ds (called attention a .areas) (step (call attention) (worldIn d a))
 a-list-is-done-by-runs = list-bytes.runs-list-done
+
+pub a-resumed-list-is-done-by-runs : (bs : List ℕ) (ds : List Drive) (a : Areas) (d : Device) → AreBytes a → Holds (a .kept) d
+    → isRefused (called attention a) ≡ false → Resumes (firstOf bs) (worldIn d a)
+    → Listed (d .units .base) (step (call attention) (worldIn d a) .memory) bs
+    → PremisesByRuns DuringList enough bs ds (called attention a .areas) (step (call attention) (worldIn d a))
+    → DoneByRuns bs ds (called attention a .areas) (step (call attention) (worldIn d a))
+a-resumed-list-is-done-by-runs = list-bytes.runs-resumed-done
 
 -- 132 is exact: with 131 for one command, or 263 for two, the statement is false
 pub no-fewer-for-one : (least : ℕ → ℕ) → least 1 ≤ 131 → list-exact.FirstHalf least → ⊥

@@ -32,7 +32,14 @@ pub record Starts (w : World) : Type 0 where
   pub start : cuc (wordAt (w .memory) (ofScb (w .device .units) scbCommandAt)) ≡ 1
   pub idle : isActive (cuState (w .device .units .cu)) ≡ false
 
--- what it leaves: the command unit is Active before the first of the blocks, which stand in memory as a list
+-- one that resumes a list before its block first: initialised, RESET clear, CUC RESUME from Suspended; any acknowledgement, any RUC
+pub record Resumes (first : ℕ) (w : World) : Type 0 where
+  pub initialised : w .device .units .initialised ≡ true
+  pub unreset : resets (wordAt (w .memory) (ofScb (w .device .units) scbCommandAt)) ≡ false
+  pub resume : cuc (wordAt (w .memory) (ofScb (w .device .units) scbCommandAt)) ≡ 2
+  pub suspended : w .device .units .cu ≡ cu.Suspended (block first)
+
+-- what either leaves: the command unit is Active before the first of the blocks, which stand in memory as a list
 pub record Started (bs : List ℕ) (w : World) : Type 0 where
   pub unit : w .device .units .cu ≡ cu.Waiting (block (firstOf bs))
   pub listed : Listed (w .device .units .base) (w .memory) bs

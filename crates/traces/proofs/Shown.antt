@@ -15,10 +15,15 @@ use Rattle.calls.specs.Calls.{Areas, areasOf, answerNumber, refusalOf, turnCall
 use Rattle.traces.specs.Event.{Event, call, host, isTurn, isCalm, DuringList, WhileHeld}
 use Rattle.traces.specs.Areas.{FrameBytes}
 use Rattle.traces.specs.Driven.{Lending, lending, refusedAt, left, isTaken, eventsOf, Drive, runs, leftDriven, turnsOne, unrolled, Fair, FairDrive}
+use Rattle.traces.specs.Told.{frameOf}
 
 -- 01, "Calls, lent areas, refusals": a frame is made of bytes
 pub byBytes : FrameBytes (arrive (256 ∷ []) 0) → ⊥
 byBytes b = omega (arith, b .each 0)
+
+-- the length sent says how many bytes of the outgoing area are the frame; 0, that none was sent
+pub byLength : (frameOf 0 (5 ∷ 6 ∷ []) ≡ []) × (frameOf 2 (5 ∷ 6 ∷ 7 ∷ []) ≡ (5 ∷ 6 ∷ []) ∷ [])
+byLength = (refl, refl)
 
 -- ---- 01, "Turns": demand 3 counts turns, and no other call
 

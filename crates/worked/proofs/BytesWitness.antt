@@ -1,7 +1,7 @@
 -- The premises over lent areas can be met: the worked list of `Witness`, run by calls on areas of bytes, with a refused call among them.
 -- Assumes nothing.
 use mathlib.Core.Path.{_≡_, refl}
-use mathlib.Core.Bool.{Bool, true, _&&_}
+use mathlib.Core.Bool.{Bool, true, false, _&&_}
 use mathlib.Core.List.{List, [], _∷_, _++_}
 use Prim.Native.Nat.{ℕ, zero, suc}
 use lib.Dec.{T, ltb, lit<, lit≤}
@@ -16,19 +16,17 @@ use Rattle.image.proofs.Exact.{image-bytes, fresh-range, fresh-wide}
 use Rattle.chip.specs.Cases.{_is_, put}
 use Rattle.chip.specs.Call.{attention, turn}
 use Rattle.calls.specs.Calls.{Areas, areasOf, answerNumber, refusalOf, turnCall}
-use Rattle.traces.specs.Bytes.{called}
+use Rattle.traces.specs.Bytes.{called, isRefused}
 use Rattle.traces.specs.Event.{Event, call, host, step, DuringList}
-use Rattle.progress.specs.Trace.{run}
 use Rattle.closure.specs.Sound.{Sound}
 use Rattle.closure.proofs.Closed.{closed}
 use Rattle.traces.specs.Areas.{Shows}
-use Rattle.traces.specs.Driven.{Lending, refusedAt, left, eventsOf}
-use Rattle.lists.specs.Done.{enough, Done}
-use Rattle.lists.specs.OnBytes.{PremisesOnBytes}
-use Rattle.lists.proofs.Laws.{list-laws}
+use Rattle.traces.specs.Driven.{Lending, refusedAt}
+use Rattle.lists.specs.Done.{enough}
+use Rattle.lists.specs.OnBytes.{PremisesOnBytes, DoneOnBytes}
 use Rattle.worked.proofs.Tests.{keptb, and-l, and-r}
 use Rattle.worked.proofs.Witness.{cold, before, starts, begun, three, is-started, frame, early, writes, late, middle, busy, trace, premises}
-use Rattle.lists.proofs.Bytes.{start-shows, bytes-list-done}
+use Rattle.lists.proofs.Bytes.{start-shows, areas-list-done}
 use Rattle.lists.proofs.Lift.{lendings, lifted, refused-anywhere}
 use Rattle.lists.proofs.Accepted.{Right, accepts, right-again, Rights, all-accepted}
 
@@ -63,7 +61,7 @@ sound-cold =
 abbrev pub first : Areas
 first = areasOf (before .memory) (before .holding) (before .outgoing) (imageOf (before .device))
 
-right-first : Right first (before .device)
+pub right-first : Right first (before .device)
 unfolding keptb
 right-first =
     let s : Sound (step (call attention) cold) = closed attention cold bytes-nil sound-cold in
@@ -127,10 +125,12 @@ worked = stray ∷ lendings trace (called attention first .areas)
 started-right : Right (called attention first .areas) (begun .device)
 started-right = right-again attention first (before .device) right-first bytes-nil (lit≤ tt)
 
+pub not-refused : isRefused (called attention first) ≡ false
+not-refused = accepts attention first (before .device) right-first (lit≤ tt)
+
 pub shows-begun : Shows (called attention first .areas) begun
 shows-begun =
-    start-shows first (before .device) (right-first .bytes) (right-first .holds)
-    (accepts attention first (before .device) right-first (lit≤ tt))
+    start-shows first (before .device) (right-first .bytes) (right-first .holds) not-refused
 
 pub bytes-premises : PremisesOnBytes DuringList enough three worked (called attention first .areas) begun
 bytes-premises =
@@ -139,9 +139,8 @@ bytes-premises =
     (lifted enough three trace (called attention first .areas) begun shows-begun
     (all-accepted trace (called attention first .areas) (begun .device) started-right rights) premises)
 
-pub bytes-done : Done three (eventsOf worked) begun
-    × Shows (run left worked (called attention first .areas)) (run step (eventsOf worked) begun)
+pub bytes-done : DoneOnBytes three worked (called attention first .areas) begun
 unfolding keptb
 bytes-done =
-    bytes-list-done DuringList list-laws three worked first (before .device) (right-first .bytes) (right-first .holds)
-    (accepts attention first (before .device) right-first (lit≤ tt)) starts refl (is-started .listed) bytes-premises
+    areas-list-done three worked first (before .device) (right-first .bytes) (right-first .holds)
+    not-refused starts refl (is-started .listed) bytes-premises

@@ -3,20 +3,27 @@
 use mathlib.Core.Path.{_≡_, refl, sym, ap, _∙_, subst}
 use mathlib.Core.Bool.{Bool, true, false}
 use mathlib.Core.List.{List, [], _∷_}
-use Prim.Native.Nat.{ℕ}
+use Prim.Native.Nat.{ℕ, _≤_}
+use lib.ListN.{length}
 use Rattle.chip.specs.Call.{Call, reset, attention, arrive, turn}
 use Rattle.calls.specs.Calls.{Areas, turnCall, runCall}
 use Rattle.progress.specs.Trace.{turns}
+use Rattle.progress.specs.Machine.{Undisturbed}
 use Rattle.traces.specs.Bytes.{called, isRefused}
 use Rattle.traces.specs.Event.{DuringList}
 use Rattle.traces.specs.Areas.{AreBytes}
-use Rattle.traces.specs.Driven.{Lending, lending, refusedAt, left, isTaken, Drive, calls, runs, takenIn, leftDriven, turnsDriven, unrolled}
+use Rattle.traces.specs.Driven.{Lending, lending, refusedAt, left, isTaken, eventsOf, Drive, calls, runs, takenIn, leftDriven, turnsDriven, unrolled}
 use Rattle.traces.specs.Driven.{Lends, Fair, AllFair, FairDrive, AllFairDrive}
 use Rattle.closure.specs.Turns.{turnsOn}
 use Rattle.closure.proofs.Turns.{run-accepted, run-is-turns, run-of-one}
 use Rattle.closure.proofs.Driven.{spread}
-use Rattle.lists.proofs.Bytes.{list-turns}
-use Rattle.worked.proofs.BytesWitness.{first, worked, bytes-premises}
+use Rattle.lists.specs.Unit.{machine}
+use Rattle.lists.specs.Done.{enough, bytesOf}
+use Rattle.lists.specs.OnBytes.{PremisesByRuns, DoneByRuns}
+use Rattle.lists.proofs.Bytes.{list-turns, runs-list-done}
+use Rattle.worked.proofs.Tests.{keptb}
+use Rattle.worked.proofs.Witness.{before, starts, begun, three, is-started}
+use Rattle.worked.proofs.BytesWitness.{first, right-first, not-refused, worked, bytes-premises}
 
 -- ---- each turn that is not refused by a run
 
@@ -72,6 +79,18 @@ by-runs (l ∷ ls) a m =
 
 -- ---- the worked list
 
-pub runs-met : AllFairDrive DuringList (byRuns worked) (called attention first .areas)
-    × (unrolled (byRuns worked) ≡ worked) × (turnsDriven (byRuns worked) ≡ turns isTaken worked)
-runs-met = by-runs worked (called attention first .areas) (bytes-premises .fair)
+pub runs-premises : PremisesByRuns DuringList enough three (byRuns worked) (called attention first .areas) begun
+runs-premises =
+    let x = by-runs worked (called attention first .areas) (bytes-premises .fair) in
+    record {
+      fair = x .0;
+      apart = bytes-premises .apart;
+      intact = subst (λ (ls : List Lending). Undisturbed machine (bytesOf begun three) (eventsOf ls) begun) (sym (x .1)) (bytes-premises .intact);
+      turns = subst (λ (n : ℕ). enough (length three) ≤ n) (sym (x .2)) (bytes-premises .turns);
+    }
+
+pub runs-done : DoneByRuns three (byRuns worked) (called attention first .areas) begun
+unfolding keptb
+runs-done =
+    runs-list-done three (byRuns worked) first (before .device) (right-first .bytes) (right-first .holds) not-refused starts refl (is-started .listed)
+    runs-premises

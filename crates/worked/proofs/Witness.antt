@@ -20,7 +20,7 @@ use Rattle.progress.proofs.Trace.{may-append}
 use Rattle.lists.specs.Unit.{machine, began, ended}
 use Rattle.lists.specs.Done.{Starts, Started, enough, Premises, Done, bytesOf}
 use Rattle.lists.proofs.Laws.{list-laws}
-use Rattle.lists.proofs.Start.{started}
+use Rattle.lists.proofs.Start.{begins, started}
 use Rattle.lists.proofs.Order.{listDone}
 use Rattle.worked.proofs.Tests.{cxAlone, cnaAlone, keptb, kept-ok, clash-ok, calls-ok, kept-append, idle-kept}
 
@@ -65,7 +65,7 @@ three = 0x18 ∷ 0x32 ∷ 0x3A ∷ []
 
 pub is-started : Started three begun
 unfolding keptb
-is-started = started three before starts refl (refl, refl, (refl, refl, refl))
+is-started = started three before begun (begins three before starts refl) (refl, refl, (refl, refl, refl))
 
 -- its bytes: of the Transmit 16 of the block, the descriptor's seven, the data's two; of the TDR eight; of the NOP six
 its-bytes : bytesOf begun three
