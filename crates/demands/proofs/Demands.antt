@@ -364,14 +364,14 @@ pub as-demand-3-says : (chip : Chip) → Meets chip → Demand3 chip
 as-demand-3-says = closing.meets-demand3
 
 -- and no chip, whatever it does, has it with fewer turns for one command, for two or for a held frame
-pub no-chip-needs-fewer-for-one : (chip : Chip) (least : ℕ → ℕ) (most : ℕ) → least 1 ≤ 131 → Demand3By least most chip → ⊥
-no-chip-needs-fewer-for-one = sharp.one-takes-132
+pub no-chip-with-fewer-for-one : (chip : Chip) (least : ℕ → ℕ) (most : ℕ) → least 1 ≤ 131 → Demand3By least most chip → ⊥
+no-chip-with-fewer-for-one = sharp.one-takes-132
 
-pub no-chip-needs-fewer-for-two : (chip : Chip) (least : ℕ → ℕ) (most : ℕ) → least 2 ≤ 263 → Demand3By least most chip → ⊥
-no-chip-needs-fewer-for-two = sharp.two-take-264
+pub no-chip-with-fewer-for-two : (chip : Chip) (least : ℕ → ℕ) (most : ℕ) → least 2 ≤ 263 → Demand3By least most chip → ⊥
+no-chip-with-fewer-for-two = sharp.two-take-264
 
-pub no-chip-needs-fewer-for-a-frame : (chip : Chip) (least : ℕ → ℕ) (most : ℕ) → most < 132 → Demand3By least most chip → ⊥
-no-chip-needs-fewer-for-a-frame = sharp.frame-takes-132
+pub no-chip-with-fewer-for-a-frame : (chip : Chip) (least : ℕ → ℕ) (most : ℕ) → most < 132 → Demand3By least most chip → ⊥
+no-chip-with-fewer-for-a-frame = sharp.frame-takes-132
 
 -- ---- the inspector's list
 

@@ -76,7 +76,7 @@ right-board given orders =
 
 -- ---- events that are no refused calls
 
-turns-acceptable : (n : ℕ) → AllAcceptable (replicate n (call (turn 0)))
+pub turns-acceptable : (n : ℕ) → AllAcceptable (replicate n (call (turn 0)))
 turns-acceptable zero = tt
 turns-acceptable (suc n) = (turning, lit≤ tt, turns-acceptable n)
 
@@ -97,11 +97,11 @@ sixty-acceptable : AllAcceptable (held-exact.sixty ∷ [])
 sixty-acceptable = (record { frame = bytes-ok _ tt; numbers = lit≤ tt }, lit≤ tt, tt)
 
 -- as acts
-events-back : (es : List Event) → eventsIn (map does es) ≡ es
+pub events-back : (es : List Event) → eventsIn (map does es) ≡ es
 events-back [] = refl
 events-back (e ∷ es) = ap (λ (fs : List Event). e ∷ fs) (events-back es)
 
-none-asked : (es : List Event) → AllRefused (map does es)
+pub none-asked : (es : List Event) → AllRefused (map does es)
 none-asked [] = tt
 none-asked (e ∷ es) = none-asked es
 
@@ -156,7 +156,7 @@ two-take-264 chip least most l d =
 
 -- ---- a held frame
 
-right-begun : Right held-exact.begun
+pub right-begun : Right held-exact.begun
 unfolding held-exact.begun
 right-begun =
     let t = turns-acceptable 5 in

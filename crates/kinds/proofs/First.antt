@@ -48,7 +48,8 @@ use Rattle.kinds.proofs.Start.{Begins, list-begins}
 use Rattle.kinds.proofs.Closing.{closing}
 use Rattle.kinds.proofs.Spoiled.{chosen}
 use Rattle.kinds.proofs.Marked.{not-refused, units-said}
-use Rattle.kinds.proofs.Inventing.{acceptable-right, right-acceptable, right-handed}
+use Rattle.kinds.proofs.Third.{right-acceptable, right-handed}
+use Rattle.kinds.proofs.Inventing.{acceptable-right}
 
 -- ---- no worse: but for the turns of the command unit after a completed command, every call is ours
 

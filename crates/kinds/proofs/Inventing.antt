@@ -7,20 +7,20 @@ use native.Mathlib.Omega.{arith}
 use lib.Dec.{lit≤}
 use lib.ListN.{getD, replicate}
 use Rattle.device.specs.State.{fresh}
-use Rattle.image.proofs.Exact.{fresh-range, fresh-wide, image-bytes}
+use Rattle.image.proofs.Exact.{fresh-range, fresh-wide}
 use Rattle.chip.specs.World.{World, worldOf}
 use Rattle.chip.specs.Call.{Call, attention, turn, ran}
 use Rattle.calls.specs.Calls.{Areas, Called, answerNumber}
 use Rattle.traces.specs.Areas.{shown}
 use Rattle.traces.specs.Bytes.{called}
-use Rattle.closure.specs.Refusals.{FrameRight}
-use Rattle.kinds.specs.Chips.{Given, Handed}
+use Rattle.kinds.specs.Chips.{Handed}
 use Rattle.kinds.specs.Closed.{Right}
 use Rattle.kinds.specs.Demands.{Acceptable}
 use Rattle.kinds.specs.Lists.{turnsOf}
 use Rattle.kinds.specs.Kinds.{fromEdge, anotherEdge, Invents, anotherEdges, InventsInTrace, InventsAlong}
 use Rattle.kinds.specs.Spoiled.{atSeven, turnedOver, inventing}
 use Rattle.kinds.proofs.Accepted.{accepted-call}
+use Rattle.kinds.proofs.Third.{right-acceptable, right-handed}
 use Rattle.kinds.proofs.Closing.{closing}
 use Rattle.kinds.proofs.Witness.{zeros, heldArea, sentArea, attending, acceptable-on, handed-on}
 use Rattle.kinds.proofs.Two.{two, idle, two-size, acceptable-two, idle-wide, idle-range, waits, begun, pair, right-two, two-run}
@@ -108,25 +108,6 @@ start-acceptable = acceptable-two attention idle two (omega arith) two-size idle
 
 after-right : Right begun
 after-right = closing .each attention waits attending (omega arith) right-two
-
-pub right-acceptable : (c : Call) (w : World) → FrameRight c → Right w → Acceptable c (w .device) (w .memory) (w .holding) (w .outgoing)
-right-acceptable c w f r =
-    let a = r .areas in
-    record { size = a .size; holding = a .holding; outgoing = a .outgoing; frame = f; wide = r .wide; range = r .range }
-
-pub right-handed : (c : Call) (w : World) → Given c → Right w → Handed c (shown w)
-right-handed c w g r =
-    let a = r .areas in
-    record {
-      given = g;
-      areas =
-          record {
-            memory = a .memory-bytes;
-            holding = a .holding-bytes;
-            outgoing = a .outgoing-bytes;
-            kept = image-bytes (w .device) (r .wide);
-          };
-    }
 
 pub inventing-along : InventsAlong inventing
 inventing-along =

@@ -29,12 +29,12 @@ use Rattle.kinds.proofs.Witness.{attending}
 
 -- ---- a call in a world that is right is not to be refused, and leaves one that is
 
-right-acceptable : (c : Call) (w : World) → FrameRight c → Right w → Acceptable c (w .device) (w .memory) (w .holding) (w .outgoing)
+pub right-acceptable : (c : Call) (w : World) → FrameRight c → Right w → Acceptable c (w .device) (w .memory) (w .holding) (w .outgoing)
 right-acceptable c w f r =
     let a = r .areas in
     record { size = a .size; holding = a .holding; outgoing = a .outgoing; frame = f; wide = r .wide; range = r .range }
 
-right-handed : (c : Call) (w : World) → Given c → Right w → Handed c (shown w)
+pub right-handed : (c : Call) (w : World) → Given c → Right w → Handed c (shown w)
 right-handed c w g r =
     let a = r .areas in
     record {

@@ -115,7 +115,7 @@ rights =
 abbrev pub stray : Lending
 stray = record { made = turn 0; lent = areasOf [] [] [] [] }
 
-stray-refused : refusedAt stray ≡ true
+pub stray-refused : refusedAt stray ≡ true
 unfolding turnCall refusalOf answerNumber bitsAt sizeAllowed
 stray-refused = refl
 
