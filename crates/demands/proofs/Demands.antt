@@ -2,16 +2,21 @@
 -- says of all functions; what each exported call promises is in crates/lentoquist/src/lib.rt. Assumes nothing.
 use mathlib.Core.Path.{_≡_}
 use mathlib.Core.Bool.{Bool, true, false}
-use mathlib.Core.List.{List, [], _∷_, _++_}
-use Prim.Native.Nat.{ℕ, _+_, _≤_, _<_}
-use lib.ListN.{length}
-use Rattle.memory.specs.Memory.{wordAt}
+use mathlib.Core.List.{List, [], _∷_, _++_, map}
+use Prim.Native.Nat.{ℕ, _+_, _*_, _%_, _^_, _≤_, _<_}
+use lib.Dec.{T}
+use lib.ListN.{length, replicate}
+use Rattle.memory.specs.Memory.{putBytes, digits, fieldAt, wordAt}
 use Rattle.memory.specs.declared.Offset.{Offset}
 use Rattle.memory.proofs.Bytes.{Bytes}
-use Rattle.scb.specs.Words.{cblAt}
-use Rattle.device.specs.State.{isHolding, heldIn, isGood}
+use Rattle.memory.proofs.Fields as fields
+use Rattle.scb.specs.Words.{bitsAt, joined, cblAt}
+use Rattle.scb.specs.declared.RuState.the-variants as rus
+use Rattle.scb.proofs.Fields as bit-fields
+use Rattle.device.specs.State.{ruState, isHolding, heldIn, isGood}
 use Rattle.device.specs.declared.Counter.{Counter}
 use Rattle.device.specs.declared.Counter.the-variants as counter
+use Rattle.device.specs.declared.Cu.the-variants as cu
 use Rattle.device.specs.declared.Device.{Device}
 use Rattle.device.specs.declared.Fate.the-variants as fate
 use Rattle.device.specs.declared.Frame.{Frame}
@@ -22,7 +27,10 @@ use Rattle.image.specs.Ranges.{inRange}
 use Rattle.control.specs.Obey.{ofScb}
 use Rattle.chip.specs.World.{World, afterwards}
 use Rattle.chip.specs.Arrival.{arrivalOf}
+use Rattle.chip.specs.Cases.{allPass}
 use Rattle.chip.specs.Call.{Call, attention, arrive, turn, ran}
+use Rattle.chip.proofs.Papers as marked-cases
+use Rattle.chip.proofs.Swaps as swapped
 use Rattle.calls.specs.Calls.{Areas, Called, onBytes, turnCall, runCall}
 use Rattle.progress.specs.Trace.{run, AllMay, turns}
 use Rattle.traces.specs.Event.{Event, call, step, DuringList}
@@ -41,7 +49,7 @@ use Rattle.closure.proofs.Turns as run-of-turns
 use Rattle.frames.specs.Arrival as arrival
 use Rattle.frames.specs.Held.{ends, heldFates, FatesOfHeld, GoodFate, BadFate}
 use Rattle.frames.specs.Fates.{Deed, alter, Scene, namesOf, opening, still, advance, beginnings, endings, times, timesFated, timesAltered, AllFates}
-use Rattle.frames.specs.Fates.{isUnaltered, AllProper}
+use Rattle.frames.specs.Fates.{by-call, by-altering, isUnaltered, AllProper}
 use Rattle.frames.specs.OnBytes.{altering, deedsOf, AllGiven, AllGivenDrive, AllKept, AllSaidOf, worldAt, heldOf, endedOf, stillOf}
 use Rattle.frames.specs.Stands.{NoOverlap, pieces, GoodExit}
 use Rattle.frames.specs.Data.{Staying, dataOf, Delivered, ArrivedDelivered, EndLent, upTo}
@@ -51,26 +59,42 @@ use Rattle.frames.proofs.Stands as exits
 use Rattle.frames.proofs.Data as stored
 use Rattle.frames.proofs.Fates as fates
 use Rattle.frames.proofs.OnBytes as on-bytes
+use Rattle.frames.proofs.DataWitness as data-run
+use Rattle.frames.proofs.BytesWitness as bytes-run
 use Rattle.lists.specs.Uses.{Listed, firstOf}
 use Rattle.lists.specs.Done.{Starts, Resumes, enough, Premises, Done}
 use Rattle.lists.specs.OnBytes.{PremisesOnBytes, DoneOnBytes, PremisesByRuns, DoneByRuns}
 use Rattle.lists.proofs.Whole as whole
 use Rattle.lists.proofs.Bytes as list-bytes
 use Rattle.worked.proofs.Exact as list-exact
+use Rattle.worked.proofs.Witness as list-run
+use Rattle.worked.proofs.BytesWitness as list-bytes-run
+use Rattle.worked.proofs.RunsWitness as list-drives
+use Rattle.worked.proofs.Suspended as suspended-run
 use Rattle.held.specs.Held as held
 use Rattle.held.specs.OnRecords as on-records
 use Rattle.held.proofs.Held as held-frames
 use Rattle.held.proofs.Exact as held-exact
 use Rattle.held.proofs.Calls as held-calls
-use Rattle.kinds.specs.Chips.{Chip, Meets, Says, Permits}
+use Rattle.held.proofs.Lending as lent-run
+use Rattle.kinds.specs.Chips.{Chip, Meets, Says, Permits, does}
 use Rattle.kinds.specs.Demands.{Demand1, Demand2}
-use Rattle.kinds.specs.Third.{Demand3By, Demand3}
-use Rattle.kinds.specs.Kinds.{Wrong, LacksNamed}
+use Rattle.kinds.specs.Lists.{turnsOf}
+use Rattle.kinds.specs.Third.{ListRun, HeldRun, Demand3By, Demand3}
+use Rattle.kinds.specs.Kinds.{Wrong, LacksNamed, RefusesAll, OneAnswer, MemoryAsLent, MarksOnly, MarksSome, FirstOnly, Invents, InventsAlong}
+use Rattle.kinds.specs.Spoiled.{AsOursBut, theEdge, OfAnswer, OfMemory, OfAction, SpoiltTurn, always, atSeven, AfterFirst}
+use Rattle.kinds.specs.Spoiled.{refusing, answering, leaving, markingOnly, markingAtSeven, servingFirst, inventing}
 use Rattle.kinds.proofs.Equal as equal
 use Rattle.kinds.proofs.Ours as demanded
 use Rattle.kinds.proofs.Inspected as inspected
 use Rattle.kinds.proofs.Closing as closing
+use Rattle.kinds.proofs.Two.{pair, waits}
+use Rattle.kinds.proofs.Spoiled as spoiled
+use Rattle.kinds.proofs.Marked as marked
+use Rattle.kinds.proofs.First as first
+use Rattle.kinds.proofs.Inventing as invented
 use Rattle.demands.proofs.Sharp as sharp
+use Rattle.demands.proofs.Witness as met
 
 -- ---- demand 1
 
@@ -93,6 +117,11 @@ every-state-left-is-in-range = closure.closed
 
 pub a-record-left-is-accepted : (c : Call) (a : Areas) → FrameBytes c → AreBytes a → isRefused (called c a) ≡ false → Again c a
 a-record-left-is-accepted = carried.accepted-again
+
+-- and "no held frame outside Ready"
+pub no-held-frame-outside-ready : (r : List ℕ) (d : Device) (f : Frame) (fs : List Frame) → Holds r d → heldIn (d .units .ru) ≡ f ∷ fs
+    → ruState (d .units .ru) ≡ rus.Ready
+no-held-frame-outside-ready = carried.holds-ready
 
 -- a run of turns gives the number that a turn gives there, whatever its budget; a refused one is a refused turn, no turn taken and nothing changed
 pub a-run-is-refused-as-a-turn : (a : Areas) (report budget : ℕ) → number (runCall a report budget .answer) ≡ number (turnCall a report .answer)
@@ -392,3 +421,105 @@ each-lacks-its-demand = inspected.lacks-named closing.closing
 
 pub promises-are-enough : (chip : Chip) → Meets chip → Demand1 chip × Demand2 chip × Demand3 chip
 promises-are-enough chip p = (demanded.has-demand1 chip p, demanded.has-demand2 chip p, closing.meets-demand3 chip p)
+
+-- and each kind has a chip that is of it and no worse: ours, spoilt in one thing; every other piece of what it answers and leaves, at every call, is as
+-- ours. One that refuses everything
+pub a-chip-that-refuses-everything : RefusesAll refusing × AsOursBut refusing (λ s c a p. isRefused (called c a) ≡ false)
+a-chip-that-refuses-everything = (spoiled.refusing-is-of-its-kind, spoiled.refusing-is-no-worse)
+
+-- with a constant answer
+pub a-chip-with-a-constant-answer : (n : ℕ) → OneAnswer (answering n) × AsOursBut (answering n) (λ s c a p. OfAnswer p)
+a-chip-with-a-constant-answer n = (spoiled.answering-is-of-its-kind n, spoiled.answering-is-no-worse n)
+
+-- that leaves memory untouched
+pub a-chip-that-leaves-memory-untouched : MemoryAsLent leaving × AsOursBut leaving (λ s c a p. OfMemory p)
+a-chip-that-leaves-memory-untouched = (spoiled.leaving-is-of-its-kind, spoiled.leaving-is-no-worse)
+
+-- that marks commands complete without acting, always, and at some turns alone
+pub a-chip-that-marks-only : MarksOnly markingOnly × AsOursBut markingOnly (λ s c a p. SpoiltTurn always c × OfAction a p)
+a-chip-that-marks-only = (marked.marking-only-is-of-its-kind, spoiled.marking-only-is-no-worse)
+
+pub a-chip-that-marks-some : MarksSome markingAtSeven × AsOursBut markingAtSeven (λ s c a p. SpoiltTurn atSeven c × OfAction a p)
+a-chip-that-marks-some = (marked.marking-at-seven-is-of-its-kind, spoiled.marking-at-seven-is-no-worse)
+
+-- that serves the first command only, and serves it as ours does
+pub a-chip-that-serves-the-first-command-only : FirstOnly servingFirst × AsOursBut servingFirst (λ s c a p. AfterFirst s c a)
+a-chip-that-serves-the-first-command-only = (first.serving-first-is-of-its-kind, first.serving-first-is-no-worse)
+
+-- that invents an edge, also amid a list
+pub a-chip-that-invents-an-edge : Invents inventing × InventsAlong inventing × AsOursBut inventing (λ s c a p. SpoiltTurn atSeven c × (p ≡ theEdge))
+a-chip-that-invents-an-edge = (invented.inventing-is-of-its-kind, invented.inventing-along, spoiled.inventing-is-no-worse)
+
+-- ---- document 01's cases, and its fields
+
+-- "P1 to P8 are shown of the definitions by a single statement over a list of them"; and so are the "Readings that swap the columns"
+pub p1-to-p8 : T (allPass marked-cases.papers)
+p1-to-p8 = marked-cases.shown
+
+pub no-columns-are-swapped : T (allPass swapped.swaps)
+no-columns-are-swapped = swapped.refuted
+
+-- "Facts on 16- and 24-bit fields are shown once over the width": a field of k bytes at an address reads as it was written, whatever lies over the end
+-- of memory; one apart from it stays; and a field of j and k bytes is its low part and its high part
+pub a-field-reads-as-written : (m : List ℕ) (a k v : ℕ) → k ≤ length m → fieldAt k (putBytes m a (digits k v)) a ≡ v % 256 ^ k
+a-field-reads-as-written = fields.field-same
+
+pub a-field-apart-stays : (m : List ℕ) (a : ℕ) (bs : List ℕ) (b k : ℕ) → fields.Apart (length m) a (length bs) b k
+    → fieldAt k (putBytes m a bs) b ≡ fieldAt k m b
+a-field-apart-stays = fields.field-other
+
+pub a-field-in-two-parts : (m : List ℕ) (a j k : ℕ) → fieldAt (j + k) m a ≡ fieldAt j m a + 256 ^ j * fieldAt k m (a + j)
+a-field-in-two-parts = fields.field-append
+
+-- the same of bits in a word: so many from a place on read as they were joined, and those below it stay
+pub bits-read-as-joined : (w at v bits : ℕ) → w < 2 ^ at → v < 2 ^ bits → bitsAt (joined w at v) at bits ≡ v
+bits-read-as-joined = bit-fields.bits-of-joined
+
+pub bits-below-stay : (w at v k bits : ℕ) → bits + k ≤ at → bitsAt (joined w at v) k bits ≡ bitsAt w k bits
+bits-below-stay = bit-fields.bits-kept
+
+-- ---- no premise is empty: each is met by a run that is computed
+
+-- demand 2: 60 bytes arrive, and 46 of them get to three buffers, or 40 to two
+pub a-frame-whose-data-is-stored : data-run.Seen 0xA0 (replicate 4 (call (turn 0))) 46
+a-frame-whose-data-is-stored = data-run.enough
+
+pub a-frame-out-of-buffers : data-run.Seen 0xFFFF (replicate 3 (call (turn 0))) 40
+a-frame-out-of-buffers = data-run.too-few
+
+-- six calls, one of them refused: of two held frames one ends by a record that is lent otherwise, and one is stored
+pub frames-on-bytes : AllGiven bytes-run.calls
+    × (bytes-run.story ≡ record { held = 1 ∷ 2 ∷ []; ends = (1, by-altering) ∷ (2, by-call fate.Stored) ∷ []; still = [] })
+frames-on-bytes = (bytes-run.all-given, bytes-run.its-story)
+
+-- demand 3, first half: a Transmit, a TDR and a NOP, while two frames are stored and the host writes; on bytes, with a refused call; and by runs
+pub a-list-that-is-run : Done list-run.three list-run.trace list-run.begun
+a-list-that-is-run = list-run.witness-done
+
+pub a-list-that-is-run-on-bytes : DoneOnBytes list-run.three list-bytes-run.worked (called attention list-bytes-run.first .areas) list-run.begun
+a-list-that-is-run-on-bytes = list-bytes-run.bytes-done
+
+pub a-list-that-is-run-by-runs : DoneByRuns list-run.three (list-drives.byRuns list-bytes-run.worked) (called attention list-bytes-run.first .areas) list-run.begun
+a-list-that-is-run-by-runs = list-drives.runs-done
+
+-- one that ends in S, started from Suspended by an attention that also acknowledges all and aborts a begun frame, with a Transmit whose data lies over its
+-- own status word, while frames arrive; and RESUME goes on
+pub a-list-at-an-unruly-start : Starts suspended-run.before
+    × (suspended-run.before .device .units .cu ≡ cu.Suspended (record { 0 = 0 }))
+    × (isHolding (suspended-run.before .device .units .ru) ≡ true)
+    × Done suspended-run.two suspended-run.trace suspended-run.begun
+a-list-at-an-unruly-start = (suspended-run.starts, suspended-run.was-suspended, suspended-run.was-storing .0, suspended-run.suspended-done)
+
+pub a-list-that-is-resumed : Resumes 0x18 suspended-run.halted × Done suspended-run.one suspended-run.rest suspended-run.resumed
+a-list-that-is-resumed = (suspended-run.resumes, suspended-run.resumed-done)
+
+-- second half: among refusals, with another memory and other areas at each call
+pub a-frame-that-is-settled : on-records.Settled 132 held-exact.frame (lent-run.restless 132 lent-run.device) lent-run.standing
+a-frame-that-is-settled = held-calls.met-restless
+
+-- both of a chip, with a refused call among what comes
+pub a-list-of-a-chip : ListRun enough pair (met.strayTurn ∷ turnsOf (0 ∷ replicate 263 0)) waits
+a-list-of-a-chip = met.list-met
+
+pub a-frame-of-a-chip : HeldRun 132 held-exact.frame (met.strayTurn ∷ map does (held-exact.turnsOf 132)) held-exact.begun
+a-frame-of-a-chip = met.frame-met
