@@ -71,6 +71,7 @@ use Rattle.worked.proofs.Witness as list-run
 use Rattle.worked.proofs.BytesWitness as list-bytes-run
 use Rattle.worked.proofs.RunsWitness as list-drives
 use Rattle.worked.proofs.Suspended as suspended-run
+use Rattle.worked.proofs.Resumed as resumed-run
 use Rattle.held.specs.Held as held
 use Rattle.held.specs.OnRecords as on-records
 use Rattle.held.proofs.Held as held-frames
@@ -503,15 +504,15 @@ pub a-list-that-is-run-by-runs : DoneByRuns list-run.three (list-drives.byRuns l
 a-list-that-is-run-by-runs = list-drives.runs-done
 
 -- one that ends in S, started from Suspended by an attention that also acknowledges all and aborts a begun frame, with a Transmit whose data lies over its
--- own status word, while frames arrive; and RESUME goes on
+-- own status word, while frames arrive; and one that goes on by RESUME
 pub a-list-at-an-unruly-start : Starts suspended-run.before
     × (suspended-run.before .device .units .cu ≡ cu.Suspended (record { 0 = 0 }))
     × (isHolding (suspended-run.before .device .units .ru) ≡ true)
     × Done suspended-run.two suspended-run.trace suspended-run.begun
 a-list-at-an-unruly-start = (suspended-run.starts, suspended-run.was-suspended, suspended-run.was-storing .0, suspended-run.suspended-done)
 
-pub a-list-that-is-resumed : Resumes 0x18 suspended-run.halted × Done suspended-run.one suspended-run.rest suspended-run.resumed
-a-list-that-is-resumed = (suspended-run.resumes, suspended-run.resumed-done)
+pub a-list-that-is-resumed : Resumes 0x20 resumed-run.before × Done resumed-run.behind resumed-run.trace resumed-run.begun
+a-list-that-is-resumed = (resumed-run.resumes, resumed-run.resumed-done)
 
 -- second half: among refusals, with another memory and other areas at each call
 pub a-frame-that-is-settled : on-records.Settled 132 held-exact.frame (lent-run.restless 132 lent-run.device) lent-run.standing

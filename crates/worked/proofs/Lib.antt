@@ -1,9 +1,9 @@
--- Tests that compute the premises (Tests); a list that meets them (Witness), on lent bytes (BytesWitness) and by runs (RunsWitness), and one that is
--- resumed (Resumed); that 132 turns a command are exact (Exact).
+-- Tests that compute the premises (Tests); a list that meets them (Witness), on lent bytes (BytesWitness) and by runs (RunsWitness), one at an unruly
+-- start (Suspended) and one that is resumed (Resumed); that 132 turns a command are exact (Exact).
 pub mod Tests
 pub mod Witness
+pub mod Suspended
 pub mod Resumed
 pub mod Exact
 pub mod BytesWitness
 pub mod RunsWitness
-pub mod Suspended

@@ -31,20 +31,20 @@ abbrev suspended : World
 suspended = run step (replicate 2 (call (turn 0))) (step (call attention) (told 0xF100 (step (call attention) cold)))
 
 -- RESUME
-abbrev before : World
+abbrev pub before : World
 before = told 0xF200 suspended
 
-abbrev begun : World
+abbrev pub begun : World
 begun = step (call attention) before
 
-resumes : Resumes 0x20 before
+pub resumes : Resumes 0x20 before
 unfolding keptb
 resumes = record { initialised = refl; unreset = refl; resume = refl; suspended = refl }
 
-abbrev behind : List ℕ
+abbrev pub behind : List ℕ
 behind = 0x20 ∷ []
 
-abbrev trace : List Event
+abbrev pub trace : List Event
 trace = replicate 2 (call (turn 0)) ++ replicate 130 (call (turn 0))
 
 idle-after : (isActive (cuState (run step (replicate 2 (call (turn 0))) begun .device .units .cu)) ≡ false)

@@ -1,6 +1,6 @@
 -- The premises can be met at an unruly start: the command unit is Suspended, and the attention that starts the list acknowledges every event and aborts
 -- a frame whose storing is begun. The list is a Transmit whose data lies over its own status word, so that it sends its own 4000h, and a NOP with S;
--- frames arrive all the while. And it goes on by RESUME. Assumes nothing.
+-- frames arrive all the while. Assumes nothing.
 use mathlib.Core.Path.{_≡_, refl}
 use mathlib.Core.Bool.{true, false}
 use mathlib.Core.List.{List, [], _∷_, _++_}
@@ -20,20 +20,19 @@ use Rattle.progress.specs.Trace.{run, AllMay, turns}
 use Rattle.progress.specs.Machine.{Undisturbed, log}
 use Rattle.progress.proofs.Trace.{may-append}
 use Rattle.lists.specs.Unit.{machine, began, ended}
-use Rattle.lists.specs.Done.{Starts, Resumes, due, Premises, enough, Done, bytesOf}
-use Rattle.lists.proofs.Whole.{attention-list-done, resumed-list-done}
+use Rattle.lists.specs.Done.{Starts, due, Premises, enough, Done, bytesOf}
+use Rattle.lists.proofs.Whole.{attention-list-done}
 use Rattle.worked.proofs.Tests.{keptb, kept-ok, clash-ok, calls-ok, kept-append, idle-kept}
 use Rattle.worked.proofs.Witness.{frame}
 
 -- ---- the board: ISCP at 0, SCB at 8, base 0
 
--- a NOP with S at 18h; a Transmit with I at 20h, whose descriptor at 30h has the two bytes at 20h; a NOP with S at 38h,
--- linked to the first
+-- a NOP with S at 18h; a Transmit with I at 20h, whose descriptor at 30h has the two bytes at 20h; a NOP with S at 38h
 abbrev blocks : List Word
 blocks =
     0x1A is 0x4000
     ∷ 0x22 is 0x2004 ∷ 0x24 is 0x38 ∷ 0x26 is 0x30 ∷ 0x30 is 0x8002 ∷ 0x32 is 0xFFFF ∷ 0x34 is 0x20
-    ∷ 0x3A is 0x4000 ∷ 0x3C is 0x18
+    ∷ 0x3A is 0x4000
     ∷ []
 
 -- a frame descriptor at 40h, linked to itself; a buffer descriptor at 58h, linked to itself, with 20 bytes at 70h
@@ -131,7 +130,7 @@ unfolding keptb
 noted = refl
 
 -- the unit is Suspended again, and the SCB says so: CX, CNA, RNR
-left : (run step busy begun .device .units .cu ≡ cu.Suspended (record { 0 = 0x18 })) × (wordAt (run step busy begun .memory) 0x08 ≡ 0xB100)
+left : (run step busy begun .device .units .cu ≡ cu.Suspended (record { 0 = 0 })) × (wordAt (run step busy begun .memory) 0x08 ≡ 0xB100)
 unfolding keptb
 left = (refl, refl)
 
@@ -139,50 +138,3 @@ left = (refl, refl)
 pub suspended-done : Done two trace begun
 unfolding keptb
 suspended-done = attention-list-done two trace before starts refl (refl, refl, refl) premises
-
--- ---- and it goes on by RESUME, before the block that the last link says: the first NOP once more
-
-abbrev pub halted : World
-halted = told 0xF200 0x20 (run step busy begun)
-
-abbrev pub resumed : World
-resumed = step (call attention) halted
-
-pub resumes : Resumes 0x18 halted
-unfolding keptb
-resumes = record { initialised = refl; unreset = refl; resume = refl; suspended = refl }
-
-abbrev pub one : List ℕ
-one = 0x18 ∷ []
-
-abbrev pub last : List Event
-last = each ++ each
-
-abbrev pub rest : List Event
-rest = last ++ replicate 130 (call (turn 0))
-
-kept-last : Undisturbed machine (bytesOf resumed one) last resumed
-unfolding keptb
-kept-last = kept-ok (bytesOf resumed one) last resumed tt
-
-idle-last : (isActive (cuState (run step last resumed .device .units .cu)) ≡ false)
-    × (isHolding (run step last resumed .device .units .ru) ≡ false)
-unfolding keptb
-idle-last = (refl, refl)
-
-pub resumed-premises : Premises DuringList enough one rest resumed
-unfolding keptb
-resumed-premises =
-    record {
-      size = lit≤ tt;
-      apart = clash-ok (length (resumed .memory)) (resumed .device .units .base) (setupOf (resumed .device)) (resumed .memory) one tt;
-      events = may-append DuringList step last (replicate 130 (call (turn 0))) resumed (calls-ok last resumed tt) (calls-ok (replicate 130 (call (turn 0))) (run step last resumed) tt);
-      intact =
-          kept-append (bytesOf resumed one) last (replicate 130 (call (turn 0))) resumed kept-last
-          (idle-kept 130 0 (bytesOf resumed one) (run step last resumed) (idle-last .0) (idle-last .1));
-      turns = lit≤ tt;
-    }
-
-pub resumed-done : Done one rest resumed
-unfolding keptb
-resumed-done = resumed-list-done one rest halted resumes refl resumed-premises
