@@ -61,14 +61,14 @@ module _ (May : Event → World → Type 0) where
   said-by : (x : Bool) (l : Lending) (ls : List Lending) (a : Areas) (w : World) → refusedAt l ≡ x → Fair May l a → Shows a w
       → AllFair May ls (leftBy x l a) → ((b : Areas) (v : World) → AllFair May ls b → Shows b v → AllSaid ls v)
       → Said x l w × AllSaid ls (run step (eventsBy x l []) w)
-  said-by true l ls a w e k s m f = (tt, f a w m s)
+  said-by true l ls a w e k s m f = (untouched (l .made) (l .lent) e .areas, f a w m s)
   said-by false l ls a w e k s m f =
       let h = k e in (
         said-shown l (step (hostOf (l .lent)) w) (h .bytes) (lent-shows May l a w h s) e (h .frame),
         f (called (l .made) (l .lent) .areas) (step (call (l .made)) (step (hostOf (l .lent)) w)) m (next-shows May l a w e h s),
       )
 
-  -- where the areas show the world, every call that is not refused answers and leaves what the definitions do
+  -- where the areas show the world, every call that is not refused answers and leaves what the definitions do, and every other leaves all as lent
   pub fair-said : (ls : List Lending) (a : Areas) (w : World) → AllFair May ls a → Shows a w → AllSaid ls w
   fair-said [] a w m s = tt
   fair-said (l ∷ ls) a w m s = said-by (refusedAt l) l ls a w refl (m .0) s (m .1) (fair-said ls)

@@ -84,7 +84,7 @@ abbrev pub AllKept : List Lending → Areas → Type 0
 AllKept ls a = AllMay KeepsRecord left ls a
 
 -- ---- that these deeds are what the calls do: the answer and every lent byte of each call that is not refused are what the definitions say in the
--- world after the deeds before it
+-- world after the deeds before it, and a refused one leaves all as it was lent
 
 abbrev pub AllSaidOf : List Lending → Areas → World → Type 0
 AllSaidOf [] a w = Unit {0}

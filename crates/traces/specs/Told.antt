@@ -42,10 +42,11 @@ abbrev pub framesDriven : List Drive → List (List ℕ)
 framesDriven [] = []
 framesDriven (d ∷ ds) = frameDriven d ++ framesDriven ds
 
--- ---- every answer and every lent byte, at each call that is not refused: what the definitions say in the world in which it comes
+-- ---- every answer and every lent byte: of a call that is not refused what the definitions say in the world in which it comes; a refused one has its
+-- number by the table of refusals and leaves all as it was lent
 
 abbrev pub Said : (refused : Bool) → Lending → World → Type 0
-Said true l w = Unit {0}
+Said true l w = called (l .made) (l .lent) .areas ≡ l .lent
 Said false l w = called (l .made) (l .lent) ≡ onBytes (ran (l .made) (step (hostOf (l .lent)) w))
 
 abbrev pub AllSaid : List Lending → World → Type 0
