@@ -2,7 +2,7 @@
 -- accepted again; bytes stay bytes and lengths stay. Assumes nothing.
 use mathlib.Core.Path.{_≡_, refl, sym, ap, subst, _∙_}
 use mathlib.Core.Bool.{Bool, true, false}
-use mathlib.Core.List.{List, [], _∷_, nil≢cons}
+use mathlib.Core.List.{List, _∷_, nil≢cons}
 use Prim.Native.Nat.{ℕ, _≤_}
 use native.Mathlib.Omega.{arith}
 use borrow.Author.Tests.{eqb-true, eq-eqb, not-false}
@@ -41,7 +41,7 @@ use Rattle.closure.specs.Carried.{AsLong, Carried, Again, Parts}
 use Rattle.closure.proofs.Closed.{closed, reset-closed}
 use Rattle.closure.proofs.Lengths.{lengths-kept}
 use Rattle.closure.proofs.Answers.{number-accepted, sent-most}
-use Rattle.closure.proofs.Refusals.{holds-of, table, wrong-row, AllRight, Unrefused, none-given, untouched}
+use Rattle.closure.proofs.Refusals.{table, wrong-row, AllRight, Unrefused, none-given, untouched}
 
 -- ---- a record that holds a state
 
@@ -51,10 +51,6 @@ holds-decoded r d h = rw (h .image) (decode-image d (h .wide) (h .range))
 
 pub holds-back : (r : List ℕ) (d : Device) → Holds r d → deviceAt r (d .units) ≡ d
 holds-back r d h = rw (h .image) (device-back d (h .wide))
-
--- and what is decoded holds the state that it is decoded to
-pub accepted-holds : (r : List ℕ) → Bytes r → (u : Units) → decodeOf r ≡ is.Units u → Holds r (deviceAt r u)
-accepted-holds r b u e = holds-of r b u e
 
 -- has 256 bytes
 pub holds-length : (r : List ℕ) (d : Device) → Holds r d → length r ≡ 256
@@ -77,10 +73,6 @@ ready-by (ru.Lacking s) f fs h = refl
 pub holds-ready : (r : List ℕ) (d : Device) (f : Frame) (fs : List Frame) → Holds r d → heldIn (d .units .ru) ≡ f ∷ fs
     → ruState (d .units .ru) ≡ rus.Ready
 holds-ready r d f fs k h = ready-by (d .units .ru) f fs h
-
--- the image of a state in range
-image-holds : (w : World) → Sound w → Holds (imageOf (w .device)) (w .device)
-image-holds w s = record { wide = s .wide; range = s .range; image = refl }
 
 lent-sound : (a : Areas) (d : Device) → AreBytes a → Holds (a .kept) d → Sound (worldIn d a)
 lent-sound a d l h = record { range = h .range; wide = h .wide; memory = l .memory; holding = l .holding; outgoing = l .outgoing }

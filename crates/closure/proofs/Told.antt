@@ -16,17 +16,16 @@ use Rattle.image.specs.Found as is
 use Rattle.chip.specs.World.{World, Ran, worldOf, afterwards}
 use Rattle.chip.specs.Turn.{turnOf}
 use Rattle.chip.specs.Run.{stopsAt, Run, continued, runOf}
-use Rattle.chip.specs.Call.{turn, ran}
+use Rattle.chip.specs.Call.{ran}
 use Rattle.calls.specs.Answer.{turnsTaken, withTurns, withoutTurns}
 use Rattle.calls.specs.Calls.{Areas, Called, refusalOf, refusedAnswer, refused, onBytes, decodedOn, runOnBytes, turnCall, runCall}
 use Rattle.calls.proofs.Answer.{told, told-alone}
 use Rattle.progress.specs.Trace.{run}
-use Rattle.traces.specs.Bytes.{called, sentLength, isRefused}
+use Rattle.traces.specs.Bytes.{called, sentLength}
 use Rattle.traces.specs.Event.{Event, call, step}
 use Rattle.traces.specs.Areas.{FrameBytes, AreBytes, Shows}
 use Rattle.traces.specs.Driven.{Lending, refusedAt, leftBy, left, hostOf, eventsBy, eventsOf, Drive, calls, runs, takenIn, leftDriven, turnsFrom, unrolled, Fair, AllFair, AllFairDrive}
-use Rattle.traces.specs.Told.{frameOf, framesAlong, frameTold, framesTold, frameDriven, framesDriven, Said, AllSaid}
-use Rattle.closure.specs.Carried.{Parts}
+use Rattle.traces.specs.Told.{frameOf, framesAlong, frameTold, framesTold, framesDriven, Said, AllSaid}
 use Rattle.closure.specs.Turns.{turnsOn, lastAnswer, sent, AsTurns}
 use Rattle.closure.proofs.Refusals.{untouched}
 use Rattle.closure.proofs.Carried.{carry, answer-parts, shows-world}

@@ -32,11 +32,11 @@ use Rattle.chip.specs.Call.{Call, attention, arrive, turn, ran}
 use Rattle.chip.proofs.Papers as marked-cases
 use Rattle.chip.proofs.Swaps as swapped
 use Rattle.calls.specs.Calls.{Areas, Called, onBytes, turnCall, runCall}
-use Rattle.progress.specs.Trace.{run, AllMay, turns}
+use Rattle.progress.specs.Trace.{run, AllMay}
 use Rattle.traces.specs.Event.{Event, call, step, DuringList}
 use Rattle.traces.specs.Bytes.{called, number, isRefused}
 use Rattle.traces.specs.Areas.{FrameBytes, AreBytes, Holds, worldIn, worldSaid, Shows}
-use Rattle.traces.specs.Driven.{Lending, left, isTaken, eventsOf, Drive, leftDriven, turnsDriven, unrolled, AllFair, AllFairDrive}
+use Rattle.traces.specs.Driven.{Lending, left, Drive, leftDriven, unrolled, AllFair}
 use Rattle.closure.specs.Sound.{Sound}
 use Rattle.closure.specs.Refusals.{When, Seen, Untouched}
 use Rattle.closure.specs.Carried.{Again}

@@ -11,7 +11,6 @@ use lib.ListN.{length, drop}
 use Rattle.device.specs.Answers.{isHeld}
 use Rattle.device.specs.Limits.{header}
 use Rattle.device.specs.State.{heldIn}
-use Rattle.device.specs.declared.Device.{Device}
 use Rattle.device.specs.declared.Fate.{Fate}
 use Rattle.device.specs.declared.Fate.the-variants as fate
 use Rattle.device.specs.declared.Frame.{Frame}

@@ -35,7 +35,7 @@ use Rattle.chip.specs.Turn.{concluded, commandTurn, receiveTurn, turnOf}
 use Rattle.chip.specs.World.{World, worldOf, resetOf}
 use Rattle.progress.specs.Trace.{run}
 use Rattle.traces.specs.Event.{call, host}
-use Rattle.frames.specs.Fates.{Deed, event, alter, opening, Noted, noted, numbersOf, Way, by-call, by-altering, Ended, heldAs, still, endedAs, namesOf}
+use Rattle.frames.specs.Fates.{Deed, event, alter, opening, noted, numbersOf, Way, by-call, by-altering, Ended, heldAs, still, endedAs, namesOf}
 use Rattle.frames.specs.Fates.{advance, beginnings, endings}
 
 -- SCB at 64, a ring of one frame descriptor at 0; no minimum length

@@ -1,6 +1,6 @@
 -- The turn that gives a held frame its fate is the one that ends its storing, and leaves what is said of such a turn. Assumes nothing.
 use mathlib.Core.Path.{_≡_, refl, sym, ap, ap₂, _∙_}
-use mathlib.Core.Bool.{Bool, true, false, _&&_, _||_, true≢false}
+use mathlib.Core.Bool.{Bool, true, false, _&&_, _||_}
 use mathlib.Core.List.{List, [], _∷_, nil≢cons}
 use Prim.Native.Nat.{ℕ}
 use Rattle.device.specs.State.{isGood}

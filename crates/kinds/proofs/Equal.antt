@@ -3,21 +3,9 @@ use mathlib.Core.Path.{_≡_, refl, sym, _∙_}
 use mathlib.Core.List.{List}
 use Prim.Native.Nat.{ℕ}
 use Rattle.chip.specs.Call.{Call, reset, attention, arrive, turn}
-use Rattle.calls.specs.Calls.{Areas, areasOf, Called, Calls, Renewed, Renews, attentionCall, arrivalCall, turnCall}
+use Rattle.calls.specs.Calls.{Areas, areasOf, Called, attentionCall, arrivalCall, turnCall}
 use Rattle.traces.specs.Bytes.{called}
 use Rattle.kinds.specs.Chips.{Chip, ours, Handed, Renewing, Says, Permits, Meets}
-
--- ---- of a promise as it stands in the code
-
--- attention, arrival, turn: answer, memory, holding area, outgoing area, record
-pub calls-equal : (said : Called) (a a′ : ℕ) (m m′ h h′ out out′ r r′ : List ℕ) → Calls said a m h out r → Calls said a′ m′ h′ out′ r′
-    → (a ≡ a′) × (m ≡ m′) × (h ≡ h′) × (out ≡ out′) × (r ≡ r′)
-calls-equal said a a′ m m′ h h′ out out′ r r′ p q =
-    (p .answer ∙ sym (q .answer), p .memory ∙ sym (q .memory), p .holding ∙ sym (q .holding), p .outgoing ∙ sym (q .outgoing), p .kept ∙ sym (q .kept))
-
--- reset: answer, record
-pub renews-equal : (said : Renewed) (a a′ : ℕ) (r r′ : List ℕ) → Renews said a r → Renews said a′ r′ → (a ≡ a′) × (r ≡ r′)
-renews-equal said a a′ r r′ p q = (p .answer ∙ sym (q .answer), p .kept ∙ sym (q .kept))
 
 -- ---- of any call: what it permits is what the definitions give, and nothing else
 

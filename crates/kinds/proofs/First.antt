@@ -3,7 +3,7 @@
 use mathlib.Core.Path.{_≡_, refl, sym, ap, ap₂, _∙_, subst}
 use mathlib.Core.Bool.{Bool, true, false, not, cond, _&&_}
 use mathlib.Core.List.{List, [], _∷_}
-use Prim.Native.Nat.{ℕ, _≤_, _<_, _^_}
+use Prim.Native.Nat.{ℕ, _<_, _^_}
 use native.Mathlib.Omega.{arith}
 use lib.ListN.{length}
 use Rattle.memory.specs.Address.{place}
@@ -32,7 +32,6 @@ use Rattle.chip.specs.Call.{Call, reset, attention, arrive, turn}
 use Rattle.calls.specs.Calls.{Areas, Called}
 use Rattle.traces.specs.Areas.{shown, unitsIn}
 use Rattle.traces.specs.Bytes.{called, isRefused}
-use Rattle.progress.specs.Trace.{run}
 use Rattle.traces.specs.Event.{call, step}
 use Rattle.kinds.specs.Chips.{Given, Handed, chipRun}
 use Rattle.kinds.specs.Closed.{Right}
@@ -152,35 +151,35 @@ same-then : (base : RealAddress) (m q x : List ℕ) (cs : List Offset) → Same 
 same-then base m q x [] f g = tt
 same-then base m q x (c ∷ cs) f g = (f .0 ∙ g .0, same-then base m q x cs (f .1) (g .1))
 
-module _ (n : ℕ) (tdr : Offset → Type 0) (whole : List Offset) (room : 8 ≤ n) (b : Offset) (bs : List Offset) where
+module _ (n : ℕ) (tdr : Offset → Type 0) (b : Offset) (bs : List Offset) where
   -- the command is still in work, or this was its end turn; no frame is held, and no later block's status is another
   record Onward (w v : World) : Type 0 where
-    pub here : isEnd (w .device .units .cu) ≡ false → Here n tdr whole room v [] b bs
+    pub here : isEnd (w .device .units .cu) ≡ false → Here n tdr v b bs
     pub free : ruWorks (v .device .units .ru) ≡ false
     pub base : v .device .units .base ≡ w .device .units .base
     pub statuses : Same (w .device .units .base) (v .memory) (w .memory) bs
 
-  command-onward : (w : World) (r : ℕ) → ruWorks (w .device .units .ru) ≡ false → Here n tdr whole room w [] b bs → Onward w (afterwards (commandTurn w r))
+  command-onward : (w : World) (r : ℕ) → ruWorks (w .device .units .ru) ≡ false → Here n tdr w b bs → Onward w (afterwards (commandTurn w r))
   unfolding commandTurn concluded
   command-onward w r h at =
       record {
-        here = λ e. turn-stays n tdr whole room w r [] b bs e at;
+        here = λ e. turn-stays n tdr w r b bs e at;
         free = h;
         base = refl;
-        statuses = turn-leaves n tdr whole room w r [] b bs at;
+        statuses = turn-leaves n tdr w r b bs at;
       }
 
-  works : (w : World) → Here n tdr whole room w [] b bs → cuWorks (w .device .units .cu) ≡ true
+  works : (w : World) → Here n tdr w b bs → cuWorks (w .device .units .cu) ≡ true
   works w at = at-active tdr (w .device .units .base) (w .memory) (w .device .units .cu) b (at .unit)
 
-  onward : (w : World) (r : ℕ) → ruWorks (w .device .units .ru) ≡ false → Here n tdr whole room w [] b bs → Onward w (afterwards (turnOf w r))
+  onward : (w : World) (r : ℕ) → ruWorks (w .device .units .ru) ≡ false → Here n tdr w b bs → Onward w (afterwards (turnOf w r))
   onward w r h at = subst (λ (x : Ran). Onward w (afterwards x)) (sym (busy-turn w r (works w at) h)) (command-onward w r h at)
 
   -- ---- a run: as the definitions go, to the end turn of the first command and no further
 
   AsFar : List ℕ → Type 0
   AsFar rs =
-      AllReports rs → (w : World) → Right w → ruWorks (w .device .units .ru) ≡ false → Here n tdr whole room w [] b bs
+      AllReports rs → (w : World) → Right w → ruWorks (w .device .units .ru) ≡ false → Here n tdr w b bs
       → chipRun servingFirst false (turnsOf rs) (shown w) ≡ shown (untilEnd rs w)
 
   as-far-by : (rs : List ℕ) → AsFar rs → AllReports rs → (x : Bool) (w v : World) → isEnd (w .device .units .cu) ≡ x → Right v → Onward w v
@@ -201,7 +200,7 @@ module _ (n : ℕ) (tdr : Offset → Type 0) (whole : List Offset) (room : 8 ≤
   -- so the status of every later block stays
   Stays : List ℕ → Type 0
   Stays rs =
-      (w : World) → ruWorks (w .device .units .ru) ≡ false → Here n tdr whole room w [] b bs
+      (w : World) → ruWorks (w .device .units .ru) ≡ false → Here n tdr w b bs
       → Same (w .device .units .base) (untilEnd rs w .memory) (w .memory) bs
 
   stays-by : (rs : List ℕ) → Stays rs → (x : Bool) (w v : World) → isEnd (w .device .units .cu) ≡ x → Onward w v
@@ -234,23 +233,20 @@ module _ (d : Device) (m h out : List ℕ) (b : Offset) (bs : List Offset) (repo
   begins : Begins (worldOf d m h out) b bs start after
   begins = list-begins (worldOf d m h out) b bs start
 
-  room : 8 ≤ length m
-  room = omega (arith, k .size .least)
-
   -- whatever the list: all bytes are as the definitions leave them, to the end turn of the first command, and stay so
   pub serving-first-serves-the-first : AllReports reports → (s : Bool)
       → started servingFirst s (turnsOf reports) (lentOf d m h out) ≡ shown (untilEnd reports after)
   unfolding AsFar
   serving-first-serves-the-first p s =
       next-run reports false false _ (shown after) refl (ap (λ (x : Called). x .areas) (accepted-call d m h out attention k))
-      ∙ as-far (length m) (isTdr (d .units .base) m) (b ∷ bs) room b bs reports p after after-right (begins .free) (begins .at)
+      ∙ as-far (length m) (isTdr (d .units .base) m) b bs reports p after after-right (begins .free) (begins .at)
 
   later-stay : Same (d .units .base) (untilEnd reports after .memory) m bs
   unfolding Stays
   later-stay =
       same-then (d .units .base) (untilEnd reports after .memory) (after .memory) m bs
       (subst (λ (base : RealAddress). Same base (untilEnd reports after .memory) (after .memory) bs) (begins .base)
-      (stays (length m) (isTdr (d .units .base) m) (b ∷ bs) room b bs reports after (begins .free) (begins .at)))
+      (stays (length m) (isTdr (d .units .base) m) b bs reports after (begins .free) (begins .at)))
       (begins .statuses)
 
 pub serving-first-is-of-its-kind : FirstOnly servingFirst

@@ -1,8 +1,8 @@
--- The starting attention: the command unit is before the first block, the list stands as it stood, and no frame is held. Assumes nothing.
+-- The starting attention: the command unit is before the first block, every later block's status is as it was, and no frame is held. Assumes nothing.
 use mathlib.Core.Path.{_≡_, refl, sym, ap, _∙_, subst}
 use mathlib.Core.Bool.{Bool, true, false}
 use mathlib.Core.List.{List, [], _∷_, _++_}
-use Prim.Native.Nat.{ℕ, _+_, _*_, _≤_}
+use Prim.Native.Nat.{ℕ, _+_, _≤_}
 use native.Mathlib.Omega.{arith}
 use lib.ListN.{length}
 use Rattle.memory.specs.Address.{place, offsetAt}
@@ -14,8 +14,6 @@ use Rattle.memory.proofs.Laws.{length-apply}
 use Rattle.scb.specs.Control.{Code, codeOf, start, resume, suspend, abort, other}
 use Rattle.scb.specs.Words.{ruc, resets, scbCommandAt, cblAt}
 use Rattle.device.specs.State.{cuState, isActive, isHolding}
-use Rattle.device.specs.Numbers.{actionNumber}
-use Rattle.device.specs.declared.Action.the-variants as action
 use Rattle.device.specs.declared.Cu.{Cu}
 use Rattle.device.specs.declared.Cu.the-variants as cu
 use Rattle.device.specs.declared.Device.{Device}
@@ -29,10 +27,9 @@ use Rattle.attention.specs.Attention.{Attended, attentionBy, attention, attend,
 use Rattle.attention.specs.Status.{statusTo}
 use Rattle.chip.specs.World.{World, writing, afterwards}
 use Rattle.chip.specs.Attention.{attentionOf}
-use Rattle.kinds.specs.Lists.{Listed, All, isTdr, BlocksApart, Starting}
-use Rattle.kinds.proofs.Service.{word-kept, ScbApart, scb-word, apart-within, place-add}
-use Rattle.kinds.proofs.Step.{At, Stopped}
-use Rattle.kinds.proofs.Runs.{runs, progress}
+use Rattle.kinds.specs.Lists.{All, isTdr, BlocksApart, Starting}
+use Rattle.kinds.proofs.Service.{word-kept, ScbApart}
+use Rattle.kinds.proofs.Step.{At}
 
 never : _≡_ {A = Bool} true false → ⊥
 never e = let z : _≡_ {A = ℕ} 0 1 = cc in omega arith
@@ -117,59 +114,49 @@ attention-obeys d m i r =
 
 -- ---- what it writes: status and command of the SCB, four bytes
 
-settled-apart : (u : Units) (n : ℕ) (tdr : Offset → Type 0) (base : RealAddress) (c : Offset) (g : ℕ) → g + 2 ≤ 6 → ScbApart n tdr base (ofScb u 0) c
+place-add : (base : RealAddress) (b : Offset) (f : ℕ) → place base b 0 + f ≡ place base b f
+unfolding place
+place-add base b f = omega arith
+
+apart-within : (n a j b k x j′ y k′ : ℕ) → x + j′ ≤ j → y + k′ ≤ k → Apart n a j b k → Apart n (a + x) j′ (b + y) k′
+apart-within n a j b k x j′ y k′ p q h s hs t ht e =
+    let u : a + x + s ≡ a + (x + s) = omega arith in
+    let v : b + y + t ≡ b + (y + t) = omega arith in
+    h (x + s) (omega arith) (y + t) (omega arith) (rw (u, v) at e)
+
+settled-apart : (u : Units) (n : ℕ) (base : RealAddress) (c : Offset) (g : ℕ) → g + 2 ≤ 6 → ScbApart n base (ofScb u 0) c
     → AllApart n (settledWrites u) (place base c g) 2
 unfolding statusTo digits
-settled-apart u n tdr base c g q h =
+settled-apart u n base c g q h =
     let s = place (u .base) (u .scb) 0 in
-    let second : Apart n (s + 2) 2 (place base c 0 + g) 2 = apart-within n s 4 (place base c 0) 6 2 2 g 2 (omega arith) q h in
-    (scb-word n tdr base s c g q h, (rw (place-add (u .base) (u .scb) 2, place-add base c g) at second, tt))
+    let first : Apart n (s + 0) 2 (place base c 0 + g) 2 = apart-within n s 4 (place base c 0) 6 0 2 g 2 (omega arith) q h in
+    let second : Apart n (s + 2) 2 (place base c 0 + g) 2 = apart-within n s 4 (place base c 0) 6 2 2 g 2 (omega arith) q h in (
+      rw (place-add (u .base) (u .scb) 0, place-add base c g) at first,
+      (rw (place-add (u .base) (u .scb) 2, place-add base c g) at second, tt),
+    )
 
-module _ (tdr : Offset → Type 0) (base : RealAddress) (u : Units) (m : List ℕ) where
-  listed-stays : (cs : List Offset) → All (ScbApart (length m) tdr base (ofScb u 0)) cs → Listed base m cs → Listed base (apply (settledWrites u) m) cs
-  listed-stays [] p l = l
-  listed-stays (c ∷ []) p l = rw (word-kept (settledWrites u) m (place base c 2) (settled-apart u (length m) tdr base c 2 (omega arith) (p .0))) l
-  listed-stays (c ∷ d ∷ ds) p l =
-      let e = word-kept (settledWrites u) m (place base c 2) (settled-apart u (length m) tdr base c 2 (omega arith) (p .0)) in
-      let f = word-kept (settledWrites u) m (place base c 4) (settled-apart u (length m) tdr base c 4 (omega arith) (p .0)) in
-      (rw e (l .0), rw f (l .1), listed-stays (d ∷ ds) (p .1) (l .2))
+module _ (base : RealAddress) (u : Units) (m : List ℕ) where
+  -- a block's status and command stay
+  stays : (c : Offset) (g : ℕ) → g + 2 ≤ 6 → ScbApart (length m) base (ofScb u 0) c
+      → wordAt (apply (settledWrites u) m) (place base c g) ≡ wordAt m (place base c g)
+  stays c g q h = word-kept (settledWrites u) m (place base c g) (settled-apart u (length m) base c g q h)
 
-  kinds-stay : (k : ℕ) (cs : List Offset) → All (ScbApart (length m) tdr base (ofScb u 0)) cs
-      → All (λ c. cmd (wordAt (apply (settledWrites u) m) (place base c 2)) ≡ k → cmd (wordAt m (place base c 2)) ≡ k) cs
-  kinds-stay k [] p = tt
-  kinds-stay k (c ∷ cs) p =
-      let e = word-kept (settledWrites u) m (place base c 2) (settled-apart u (length m) tdr base c 2 (omega arith) (p .0)) in
-      (λ h. ap cmd (sym e) ∙ h, kinds-stay k cs (p .1))
-
-  statuses-stay : (cs : List Offset) → All (ScbApart (length m) tdr base (ofScb u 0)) cs
+  statuses-stay : (cs : List Offset) → All (ScbApart (length m) base (ofScb u 0)) cs
       → All (λ c. wordAt (apply (settledWrites u) m) (place base c 0) ≡ wordAt m (place base c 0)) cs
   statuses-stay [] p = tt
-  statuses-stay (c ∷ cs) p = (
-    word-kept (settledWrites u) m (place base c 0) (settled-apart u (length m) tdr base c 0 (omega arith) (p .0)),
-    statuses-stay cs (p .1),
-  )
-
-nothing-before : (bs : List Offset) → All (λ c. Unit {0}) bs
-nothing-before [] = tt
-nothing-before (b ∷ bs) = (tt, nothing-before bs)
+  statuses-stay (c ∷ cs) p = (stays c 0 (omega arith) (p .0), statuses-stay cs (p .1))
 
 -- the start, in plain terms
 start-at : (u : Units) (ws : List Write) (m : List ℕ) (b : Offset) (bs : List Offset) (c : Cu) → ws ≡ settledWrites u → c ≡ cu.Waiting b
-    → All (ScbApart (length m) (isTdr (u .base) m) (u .base) (ofScb u 0)) (b ∷ bs) → BlocksApart (length m) (u .base) (isTdr (u .base) m) (b ∷ bs)
-    → Listed (u .base) m (b ∷ bs) → At (length m) (isTdr (u .base) m) (u .base) (ofScb u 0) (b ∷ bs) (apply ws m) c [] b bs
-start-at u ws m b bs c e f p q l =
+    → All (ScbApart (length m) (u .base) (ofScb u 0)) (b ∷ bs) → BlocksApart (length m) (u .base) (isTdr (u .base) m) (b ∷ bs)
+    → At (length m) (isTdr (u .base) m) (u .base) (ofScb u 0) (apply ws m) c b bs
+start-at u ws m b bs c e f p q =
     rw (e, f)
     (record {
       size = length-apply (settledWrites u) m;
-      unit = refl;
-      listed = listed-stays (isTdr (u .base) m) (u .base) u m (b ∷ bs) p l;
-      done = tt;
-      scb-done = tt;
-      scb-rest = p;
-      kinds = kinds-stay (isTdr (u .base) m) (u .base) u m (actionNumber action.Tdr) (b ∷ bs) p;
-      blocks = q;
-      before = nothing-before (b ∷ bs);
-      all = refl;
+      unit = (refl, λ h. ap cmd (sym (stays (u .base) u m b 2 (omega arith) (p .0))) ∙ h);
+      scb-apart = p .1;
+      blocks-apart = q .0;
     })
 
 -- ---- obeyed
@@ -202,12 +189,12 @@ module _ (d : Device) (m : List ℕ) (b : Offset) (bs : List Offset) (s : Starti
       ∙ ap (λ (ws : List Write). ws ++ settledWrites (obeyed .outcome .device .units))
       (free-writes (codeOf (ruc command)) (d .units .base) (d .units .ru) (s .free))
 
-  obeyed-at : At (length m) (isTdr (d .units .base) m) (d .units .base) (ofScb (d .units) 0) (b ∷ bs) (apply (obeyed .writes) m)
-      (obeyed .outcome .device .units .cu) [] b bs
+  obeyed-at : At (length m) (isTdr (d .units .base) m) (d .units .base) (ofScb (d .units) 0) (apply (obeyed .writes) m)
+      (obeyed .outcome .device .units .cu) b bs
   unfolding attendBy
   obeyed-at =
       let u = obeyed .outcome .device .units in
-      start-at u (obeyed .writes) m b bs (u .cu) obeyed-writes obeyed-unit (s .scb-apart) (s .blocks-apart) (s .listed)
+      start-at u (obeyed .writes) m b bs (u .cu) obeyed-writes obeyed-unit (s .scb-apart) (s .blocks-apart)
 
 -- ---- the world that it leaves
 
@@ -219,16 +206,10 @@ module _ (w : World) (b : Offset) (bs : List Offset) (s : Starting (w .device) (
   abbrev worldAfter : Attended → World
   worldAfter a = afterwards (writing w (a .writes) (a .outcome))
 
-  -- after the turns rs all blocks are done, and the SCB's status says where the unit went
-  abbrev pub Ends : List ℕ → World → Type 0
-  Ends rs v =
-      Stopped (length (w .memory)) (isTdr (w .device .units .base) (w .memory)) (w .device .units .base) (ofScb (w .device .units) 0) (b ∷ bs)
-      (runs rs v .memory) (runs rs v .device .units .cu)
-
   -- at once: the unit is at the first block, no frame is held, and the status of every block is as it was
   pub record Begins (v : World) : Type 0 where
-    pub at : At (length (w .memory)) (isTdr (w .device .units .base) (w .memory)) (v .device .units .base) (ofScb (v .device .units) 0) (b ∷ bs)
-        (v .memory) (v .device .units .cu) [] b bs
+    pub at : At (length (w .memory)) (isTdr (w .device .units .base) (w .memory)) (v .device .units .base) (ofScb (v .device .units) 0)
+        (v .memory) (v .device .units .cu) b bs
     pub free : isHolding (v .device .units .ru) ≡ false
     pub base : v .device .units .base ≡ w .device .units .base
     pub statuses : All (λ c. wordAt (v .memory) (place (w .device .units .base) c 0) ≡ wordAt (w .memory) (place (w .device .units .base) c 0)) bs
@@ -243,22 +224,9 @@ module _ (w : World) (b : Offset) (bs : List Offset) (s : Starting (w .device) (
         base = refl;
         statuses =
             rw (obeyed-writes (w .device) (w .memory) b bs s)
-            (statuses-stay (isTdr (w .device .units .base) (w .memory)) (w .device .units .base) u (w .memory) bs (s .scb-apart .1));
+            (statuses-stay (w .device .units .base) u (w .memory) bs (s .scb-apart .1));
       }
 
   pub list-begins : Begins (afterwards (attentionOf w))
   unfolding attentionOf
   list-begins = subst (λ (a : Attended). Begins (worldAfter a)) (sym attended) obeyed-begins
-
-  obeyed-ends : (rs : List ℕ) → 8 ≤ length (w .memory) → 66 + 66 * length bs ≤ length rs
-      → Ends rs (worldAfter (attendBy false (w .device) (command (w .device) (w .memory) b bs s) (w .memory)))
-  unfolding attendBy
-  obeyed-ends rs room l =
-      let v = worldAfter (attendBy false (w .device) (command (w .device) (w .memory) b bs s) (w .memory)) in
-      progress (length (w .memory)) (isTdr (w .device .units .base) (w .memory)) (b ∷ bs) room rs v [] b bs
-      (obeyed-free (w .device) (w .memory) b bs s) (obeyed-at (w .device) (w .memory) b bs s)
-      (rw (obeyed-unit (w .device) (w .memory) b bs s) l)
-
-  pub list-ends : (rs : List ℕ) → 8 ≤ length (w .memory) → 66 + 66 * length bs ≤ length rs → Ends rs (afterwards (attentionOf w))
-  unfolding attentionOf
-  list-ends rs room l = subst (λ (a : Attended). Ends rs (worldAfter a)) (sym attended) (obeyed-ends rs room l)

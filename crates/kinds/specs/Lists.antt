@@ -10,7 +10,7 @@ use Rattle.memory.specs.declared.Offset.{Offset}
 use Rattle.memory.specs.declared.RealAddress.{RealAddress}
 use Rattle.memory.proofs.Fields.{Apart}
 use Rattle.scb.specs.Words as scb
-use Rattle.scb.specs.Words.{bit, cuc, resets}
+use Rattle.scb.specs.Words.{cuc, resets}
 use Rattle.device.specs.Numbers.{actionNumber}
 use Rattle.device.specs.State.{cuState, isActive, isHolding}
 use Rattle.device.specs.declared.Action.the-variants as action
@@ -74,7 +74,3 @@ AllReports (r ∷ rs) = (r < 2 ^ 16) × AllReports rs
 
 abbrev pub started : (chip : Chip) → chip .Inner → List Act → Areas → Areas
 started chip s acts a = chipRun chip s (does (call attention) ∷ acts) a
-
--- a block has C
-abbrev pub isDone : RealAddress → List ℕ → Offset → Type 0
-isDone base m b = bit (wordAt m (place base b blockStatusAt)) 15 ≡ true

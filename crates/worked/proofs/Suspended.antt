@@ -16,7 +16,7 @@ use Rattle.chip.specs.Cases.{Word, _is_, put, startOn}
 use Rattle.chip.specs.Call.{attention, arrive, turn}
 use Rattle.chip.specs.World.{World}
 use Rattle.traces.specs.Event.{Event, call, host, step, DuringList}
-use Rattle.progress.specs.Trace.{run, AllMay, turns}
+use Rattle.progress.specs.Trace.{run, turns}
 use Rattle.progress.specs.Machine.{Undisturbed, log}
 use Rattle.progress.proofs.Trace.{may-append}
 use Rattle.lists.specs.Unit.{machine, began, ended}
