@@ -7,32 +7,22 @@ use Prim.Native.Nat.{ℕ, _<_, _^_}
 use native.Mathlib.Omega.{arith}
 use lib.ListN.{length}
 use Rattle.memory.specs.Address.{place}
-use Rattle.memory.specs.Memory.{byteAt, putByte, bytesAt, putBytes, value, digits, fieldAt, wordAt}
+use Rattle.memory.specs.Memory.{wordAt}
 use Rattle.memory.specs.declared.Offset.{Offset}
 use Rattle.memory.specs.declared.RealAddress.{RealAddress}
 use Rattle.memory.proofs.Bytes.{bytes-nil}
-use Rattle.scb.specs.Control.{codeOf}
-use Rattle.scb.specs.Words.{bitsAt, joined, acknowledged, anyOf, eventBits, statusWord}
-use Rattle.device.specs.Numbers.{actionOf}
 use Rattle.device.specs.State.{cuWorks, ruWorks}
 use Rattle.device.specs.declared.Device.{Device}
 use Rattle.image.specs.Image.{imageOf}
-use Rattle.actions.specs.Actions.{act}
 use Rattle.actions.specs.Block.{blockStatusAt}
-use Rattle.command.specs.Begin.{begunBy, begin}
-use Rattle.command.specs.End.{nextAfter, end}
-use Rattle.command.specs.Service.{service}
-use Rattle.control.specs.Obey.{obeyCuc, obeyRuc}
-use Rattle.attention.specs.Attention as attentions
-use Rattle.attention.specs.Status.{statusTo}
 use Rattle.chip.specs.World.{World, Ran, worldOf, afterwards}
-use Rattle.chip.specs.Attention.{attentionOf}
 use Rattle.chip.specs.Turn.{servedBy, isCommand, concluded, commandTurn, turnOf}
 use Rattle.chip.specs.Call.{Call, reset, attention, arrive, turn}
 use Rattle.calls.specs.Calls.{Areas, Called}
 use Rattle.traces.specs.Areas.{shown, unitsIn}
 use Rattle.traces.specs.Bytes.{called, isRefused}
 use Rattle.traces.specs.Event.{call, step}
+use Rattle.lists.proofs.Tests.{keptb, idle-turn}
 use Rattle.kinds.specs.Chips.{Given, Handed, chipRun}
 use Rattle.kinds.specs.Closed.{Right}
 use Rattle.kinds.specs.Demands.{Acceptable, lentOf}
@@ -42,7 +32,7 @@ use Rattle.kinds.specs.Spoiled.{Piece, pieceOf, AsOursBut, isEnd, toComm
 use Rattle.kinds.proofs.Accepted.{accepted-call}
 use Rattle.kinds.proofs.Witness.{heldArea, sentArea, attending}
 use Rattle.kinds.proofs.Two.{zero-reports, two, one, other, idle, two-size, two-bytes, acceptable-two, handed-two, idle-wide, idle-range, starting}
-use Rattle.kinds.proofs.Runs.{idle-turn, busy-turn, at-active, Here, turn-stays, turn-leaves}
+use Rattle.kinds.proofs.Runs.{busy-turn, at-active, Here, turn-stays, turn-leaves}
 use Rattle.kinds.proofs.Start.{Begins, list-begins}
 use Rattle.kinds.proofs.Closing.{closing}
 use Rattle.kinds.proofs.Spoiled.{chosen}
@@ -261,7 +251,7 @@ serving-first-is-of-its-kind =
 -- of two NOPs the first is done, by the second turn
 first-done : wordAt (untilEnd (0 ∷ 0 ∷ []) (step (call attention) (worldOf idle two heldArea sentArea)) .memory) (place (record { 0 = 0 }) one blockStatusAt)
     ≡ 0xA000
-unfolding byteAt putByte bytesAt putBytes value digits fieldAt place bitsAt joined acknowledged anyOf eventBits statusWord codeOf obeyCuc obeyRuc statusTo attentions.attendBy attentions.attend attentions.attention attentionOf actionOf begunBy begin act nextAfter end service concluded commandTurn turnOf
+unfolding keptb
 first-done = refl
 
 pub first-of-two-done : (s : Bool)

@@ -8,13 +8,13 @@ use lib.Dec.{eqb}
 use lib.ListN.{length, take, drop}
 use lib.Seq.{sets, sets-eq, length-take-le}
 use Rattle.memory.specs.Address.{place}
-use Rattle.memory.specs.Memory.{byteAt, putByte, bytesAt, putBytes, value, digits, fieldAt, wordAt, apply}
+use Rattle.memory.specs.Memory.{digits, wordAt, apply}
 use Rattle.memory.specs.declared.Offset.{Offset}
 use Rattle.memory.specs.declared.RealAddress.{RealAddress}
 use Rattle.memory.proofs.Bytes.{Bytes, bytes-nil, field-bound}
 use Rattle.memory.proofs.Fields.{word-same, word-other}
 use Rattle.memory.proofs.Places.{place-down}
-use Rattle.scb.specs.Words.{bitsAt, bit, joined, anyOf, eventBits, statusWord}
+use Rattle.scb.specs.Words.{bit}
 use Rattle.device.specs.declared.Action.the-variants as action
 use Rattle.device.specs.declared.Begun.{Begun}
 use Rattle.device.specs.declared.Cu.{Cu}
@@ -28,19 +28,15 @@ use Rattle.image.specs.Image.{imageOf}
 use Rattle.image.specs.Ranges.{inRange, Wide}
 use Rattle.image.proofs.Exact.{decode-image}
 use Rattle.image.proofs.Steps.{length-image}
-use Rattle.actions.specs.Actions.{act}
 use Rattle.actions.specs.Block.{blockStatusAt, argumentAt}
-use Rattle.command.specs.End.{nextAfter, end}
-use Rattle.command.specs.Service.{service}
-use Rattle.attention.specs.Status.{statusTo}
 use Rattle.chip.specs.World.{worldOf}
-use Rattle.chip.specs.Turn.{concluded, commandTurn, turnOf}
 use Rattle.chip.specs.Call.{turn, ran}
 use Rattle.calls.specs.Calls.{Areas, Called}
 use Rattle.traces.specs.Areas.{unitsBy, unitsIn}
 use Rattle.traces.specs.Bytes.{called, number, sentLength, isRefused}
 use Rattle.closure.proofs.Refusals.{gives-none}
 use Rattle.closure.proofs.Carried.{areas-as-long}
+use Rattle.lists.proofs.Tests.{keptb}
 use Rattle.kinds.specs.Chips.{Given, Handed}
 use Rattle.kinds.specs.Demands.{Acceptable, lentOf}
 use Rattle.kinds.specs.Kinds.{InWork, Completes, setupIn, SetsNothing, MeasuresNothing, SendsNothing, MarksOnly, wordUndone, MarksSome}
@@ -263,11 +259,11 @@ pub sevenths : Given (turn 7)
 sevenths = record { frame = bytes-nil; numbers = omega arith }
 
 seven-done : bit (wordAt (ran (turn 7) (worldOf (withUnit measuring) zeros heldArea sentArea) .memory) (place (record { 0 = 0 }) block 0)) 15 ≡ true
-unfolding byteAt putByte bytesAt putBytes value digits fieldAt place bitsAt joined anyOf eventBits statusWord act nextAfter end service statusTo concluded commandTurn turnOf
+unfolding keptb
 seven-done = refl
 
 seven-measured : wordAt (ran (turn 7) (worldOf (withUnit measuring) zeros heldArea sentArea) .memory) (place (record { 0 = 0 }) block 6) ≡ 0x8000
-unfolding byteAt putByte bytesAt putBytes value digits fieldAt place bitsAt joined anyOf eventBits statusWord act nextAfter end service statusTo concluded commandTurn turnOf
+unfolding keptb
 seven-measured = refl
 
 pub marking-at-seven-is-of-its-kind : MarksSome markingAtSeven

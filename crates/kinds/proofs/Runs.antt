@@ -25,21 +25,11 @@ use Rattle.kinds.proofs.Step.{AtBlock, At, service-stays, service-own}
 
 -- ---- whose turn it is
 
--- no frame is held: with the command unit Active a turn is its, else it changes nothing
-idle-by : (x y z : Bool) (w : World) (r : ℕ) → x ≡ false → y ≡ false → afterwards (turnBy (servedBy x y z) w r) ≡ w
-idle-by true y z w r a h = absurd (let e : _≡_ {A = ℕ} 0 1 = cc in omega arith)
-idle-by false true z w r a h = absurd (let e : _≡_ {A = ℕ} 0 1 = cc in omega arith)
-idle-by false false z w r a h = refl
-
+-- no frame is held: with the command unit Active a turn is its
 busy-by : (x y z : Bool) (w : World) (r : ℕ) → x ≡ true → y ≡ false → turnBy (servedBy x y z) w r ≡ commandTurn w r
 busy-by false y z w r a h = absurd (let e : _≡_ {A = ℕ} 0 1 = cc in omega arith)
 busy-by true true z w r a h = absurd (let e : _≡_ {A = ℕ} 0 1 = cc in omega arith)
 busy-by true false z w r a h = refl
-
-pub idle-turn : (w : World) (r : ℕ) → cuWorks (w .device .units .cu) ≡ false → ruWorks (w .device .units .ru) ≡ false
-    → afterwards (turnOf w r) ≡ w
-unfolding turnOf
-idle-turn w r a h = idle-by (cuWorks (w .device .units .cu)) (ruWorks (w .device .units .ru)) (w .device .units .rulast) w r a h
 
 pub busy-turn : (w : World) (r : ℕ) → cuWorks (w .device .units .cu) ≡ true → ruWorks (w .device .units .ru) ≡ false
     → turnOf w r ≡ commandTurn w r

@@ -1,22 +1,18 @@
 -- A list of two NOPs: a chip that serves the first command only lacks demand 3. Assumes nothing.
-use mathlib.Core.Path.{_≡_, refl, sym, ap, _∙_, subst}
-use mathlib.Core.Bool.{Bool, true, false, not, _&&_}
+use mathlib.Core.Path.{_≡_, refl, ap, _∙_}
+use mathlib.Core.Bool.{true, false}
 use mathlib.Core.List.{List, [], _∷_}
-use mathlib.Core.Logic.{_≢_}
-use Prim.Native.Nat.{ℕ, zero, suc, _+_, _^_, _%_, _≤_, _<_}
+use Prim.Native.Nat.{ℕ, zero, suc, _+_, _^_, _≤_, _<_}
 use native.Mathlib.Omega.{arith}
-use lib.Dec.{T, eqb, eqb→eq, eqb-refl, T-not, lit≤}
+use lib.Dec.{lit≤}
 use lib.ListN.{length, replicate, length-replicate}
 use Rattle.memory.specs.Address.{place}
-use Rattle.memory.specs.Memory.{byteAt, putByte, bytesAt, putBytes, value, digits, fieldAt, wordAt, Write, apply, wordTo}
+use Rattle.memory.specs.Memory.{wordAt, Write, apply, wordTo}
 use Rattle.memory.specs.declared.Offset.{Offset}
 use Rattle.memory.proofs.Bytes.{Bytes, bytes-nil, apply-bytes, digits-bytes}
 use Rattle.memory.proofs.Fields.{Apart, up, down}
 use Rattle.memory.proofs.Laws.{length-apply}
-use Rattle.scb.specs.Control.{codeOf}
-use Rattle.scb.specs.Words.{bitsAt, joined, acknowledged, anyOf, eventBits, statusWord}
 use Rattle.device.specs.Limits.{holdingSize, outgoingSize}
-use Rattle.device.specs.Numbers.{actionOf}
 use Rattle.device.specs.State.{cuWorks, ruWorks}
 use Rattle.device.specs.declared.Action.the-variants as action
 use Rattle.device.specs.declared.Cu.{Cu}
@@ -26,28 +22,18 @@ use Rattle.phases.specs.Phases.{cuWord}
 use Rattle.image.specs.Image.{imageOf}
 use Rattle.image.specs.Ranges.{cuFits, inRange, Wide}
 use Rattle.image.proofs.Exact.{image-bytes}
-use Rattle.actions.specs.Actions.{act}
-use Rattle.command.specs.Begin.{begunBy, begin}
-use Rattle.command.specs.End.{nextAfter, end}
-use Rattle.command.specs.Service.{service}
-use Rattle.control.specs.Obey.{obeyCuc, obeyRuc}
-use Rattle.attention.specs.Attention as attentions
-use Rattle.attention.specs.Status.{statusTo}
+use Rattle.actions.specs.Setup.{setupOf}
 use Rattle.chip.specs.World.{World, worldOf}
-use Rattle.chip.specs.Attention.{attentionOf}
-use Rattle.chip.specs.Turn.{servedOf, isCommand, concluded, commandTurn, turnOf}
 use Rattle.chip.specs.Call.{Call, attention, turn, ran}
 use Rattle.calls.specs.Calls.{Areas}
-use Rattle.progress.specs.Same.{In, here, there, range, Same}
-use Rattle.progress.specs.Trace.{run, AllMay}
-use Rattle.progress.specs.Machine.{Undisturbed, own}
-use Rattle.progress.proofs.Same.{each-nil, same-refl}
-use Rattle.traces.specs.Event.{Event, call, step, DuringList}
-use Rattle.lists.specs.Uses.{Listed, marked, uses, setupAfter, resultBytes}
+use Rattle.progress.specs.Trace.{run}
+use Rattle.progress.specs.Machine.{Undisturbed}
+use Rattle.traces.specs.Event.{Event, call, step}
+use Rattle.lists.specs.Uses.{Listed}
 use Rattle.lists.specs.Unit.{machine}
 use Rattle.lists.specs.Done.{Starts, enough}
 use Rattle.lists.specs.Done as lists
-use Rattle.held.proofs.Exact.{and-left, and-right}
+use Rattle.lists.proofs.Tests.{keptb, kept-ok, clash-ok, calls-ok, idle-turn, idle-kept}
 use Rattle.closure.specs.Refusals.{FrameRight}
 use Rattle.kinds.specs.Chips.{Chip, Given, Handed, Meets, Act, does, eventsIn, chipRun}
 use Rattle.kinds.specs.Demands.{Acceptable, lentOf, Demand2}
@@ -57,7 +43,6 @@ use Rattle.kinds.specs.Third.{AllAcceptable, AllRefused, ListRun, Demand
 use Rattle.kinds.specs.Kinds.{FirstOnly}
 use Rattle.kinds.proofs.Equal.{all-areas}
 use Rattle.kinds.proofs.Ours.{has-demand2}
-use Rattle.kinds.proofs.Runs.{idle-turn}
 use Rattle.kinds.proofs.Third.{said-left}
 use Rattle.kinds.proofs.Witness.{zeros, heldArea, sentArea, zero-bytes, smallest, attending, turning, withUnit, wide-with, range-with}
 
@@ -122,7 +107,7 @@ apart-down : (a j b k : ℕ) → b + k ≤ a → a + j ≤ b + 8192 → Apart (l
 apart-down a j b k p q = rw two-size (down 8192 a j b k p q)
 
 pub starting : Starting idle two one (other ∷ [])
-unfolding byteAt putByte bytesAt putBytes value digits fieldAt place bitsAt
+unfolding keptb
 starting =
     record {
       initialised = refl;
@@ -146,7 +131,7 @@ starting =
     }
 
 pub other-clear : wordAt two (place (record { 0 = 0 }) other 0) ≡ 0
-unfolding byteAt putByte bytesAt putBytes value digits fieldAt place
+unfolding keptb
 other-clear = refl
 
 -- ---- what demand 3 asks of it: the list, 264 turns
@@ -196,66 +181,11 @@ refused-turns : (rs : List ℕ) → AllRefused (turnsOf rs)
 refused-turns [] = tt
 refused-turns (r ∷ rs) = refused-turns rs
 
-may-turns : (rs : List ℕ) (w : World) → AllMay DuringList step (turns-of rs) w
-may-turns [] w = tt
-may-turns (r ∷ rs) w = ((refl, tt), may-turns rs (step (call (turn r)) w))
-
 -- turns without work
-module _ (w : World) (a : cuWorks (w .device .units .cu) ≡ false) (b : ruWorks (w .device .units .ru) ≡ false) where
-  idle-run : (rs : List ℕ) → run step (turns-of rs) w ≡ w
-  idle-run [] = refl
-  idle-run (r ∷ rs) = ap (run step (turns-of rs)) (idle-turn w r a b) ∙ idle-run rs
-
-  idle-next : isCommand (servedOf (w .device .units)) ≡ false
-  idle-next = rw (a, b)
-
-  idle-same : (L : List ℕ) (r : ℕ) → Same L (w .memory) (apply (own machine (call (turn r)) w) (w .memory))
-  idle-same L r = rw idle-next (same-refl L (w .memory))
-
-  idle-kept : (L rs : List ℕ) → Undisturbed machine L (turns-of rs) w
-  idle-kept L [] = tt
-  idle-kept L (r ∷ rs) =
-      subst (λ (v : World). Same L (v .memory) (apply (own machine (call (turn r)) w) (w .memory)) × Undisturbed machine L (turns-of rs) v)
-      (sym (idle-turn w r a b)) (idle-same L r, idle-kept L rs)
-
-not-eq : (a b : ℕ) → T (not (eqb a b)) → a ≢ b
-not-eq a b t e = T-not (eqb a b) t (subst (λ (x : ℕ). T (eqb a x)) e (eqb-refl a))
-
--- a test of every address
-abbrev allb : (ℕ → Bool) → List ℕ → Bool
-allb p [] = true
-allb p (a ∷ L) = p a && allb p L
-
-all-ok : (p : ℕ → Bool) (L : List ℕ) → T (allb p L) → (a : ℕ) → In a L → T (p a)
-all-ok p (b ∷ L) t a here = and-left (p b) (allb p L) t
-all-ok p (b ∷ L) t a (there i) = all-ok p L (and-right (p b) (allb p L) t) a i
-
-abbrev sameb : List ℕ → List ℕ → List ℕ → Bool
-sameb L m q = eqb (length m) (length q) && allb (λ a. eqb (byteAt m a) (byteAt q a)) L
-
-same-ok : (L m q : List ℕ) → T (sameb L m q) → Same L m q
-same-ok L m q t =
-    let p : ℕ → Bool = λ x. eqb (byteAt m x) (byteAt q x) in
-    record {
-      size = eqb→eq (length m) (length q) (and-left (eqb (length m) (length q)) (allb p L) t);
-      bytes = λ a i. eqb→eq (byteAt m a) (byteAt q a) (all-ok p L (and-right (eqb (length m) (length q)) (allb p L) t) a i);
-    }
-
--- who unfolds this unfolds all definitions that these calls run through
-unfoldable keptb : List ℕ → List Event → World → Bool
-unfolding byteAt putByte bytesAt putBytes value digits fieldAt place bitsAt joined acknowledged anyOf eventBits statusWord codeOf actionOf obeyCuc obeyRuc statusTo attentions.attendBy attentions.attend attentions.attention attentionOf begunBy begin act nextAfter end service concluded commandTurn turnOf range uses setupAfter resultBytes marked
-keptb L [] w = true
-keptb L (e ∷ es) w = sameb L (step e w .memory) (apply (own machine e w) (w .memory)) && keptb L es (step e w)
-
-kept-ok : (L : List ℕ) (es : List Event) (w : World) → T (keptb L es w) → Undisturbed machine L es w
-unfolding keptb
-kept-ok L [] w t = tt
-kept-ok L (e ∷ es) w t =
-    let m : List ℕ = step e w .memory in
-    let q : List ℕ = apply (own machine e w) (w .memory) in (
-      same-ok L m q (and-left (sameb L m q) (keptb L es (step e w)) t),
-      kept-ok L es (step e w) (and-right (sameb L m q) (keptb L es (step e w)) t),
-    )
+idle-run : (w : World) → cuWorks (w .device .units .cu) ≡ false → ruWorks (w .device .units .ru) ≡ false → (rs : List ℕ)
+    → run step (turns-of rs) w ≡ w
+idle-run w a b [] = refl
+idle-run w a b (r ∷ rs) = ap (run step (turns-of rs)) (idle-turn w r a b) ∙ idle-run w a b rs
 
 begins-at : Starts waits
 unfolding keptb
@@ -272,14 +202,7 @@ begun-size = refl
 -- no result of the first is a byte of the second
 two-apart : lists.Apart pair begun
 unfolding keptb
-two-apart =
-    let n : ℕ = length (begun .memory) in
-    let apart : ℕ → ℕ → Bool = λ x y. not (eqb (x % n) (y % n)) in
-    let own : List ℕ = 0x40 ∷ 0x41 ∷ [] in
-    let later : List ℕ = 0x50 ∷ 0x51 ∷ 0x52 ∷ 0x53 ∷ 0x54 ∷ 0x55 ∷ [] in (
-      (λ x y i j. not-eq (x % n) (y % n) (all-ok (apart x) own (all-ok (λ z. allb (apart z) own) later tt x i) y j)),
-      ((λ x y i j. each-nil (λ z. z % n ≢ y % n) x i), tt),
-    )
+two-apart = clash-ok (length (begun .memory)) (begun .device .units .base) (setupOf (begun .device)) (begun .memory) pair tt
 
 four-kept : (r : ℕ) → Undisturbed machine (lists.bytesOf begun pair) (turns-of (r ∷ 0 ∷ 0 ∷ 0 ∷ [])) begun
 unfolding keptb
@@ -298,10 +221,10 @@ unfolding keptb
 over-done r = refl
 
 pub two-run : (r : ℕ) → r < 2 ^ 16 → ListRun enough pair (turnsOf (r ∷ replicate 263 0)) waits
-unfolding byteAt bytesAt value fieldAt putByte putBytes digits place
+unfolding keptb
 two-run r p =
     let kept = four-kept r in
-    let idle-then = idle-kept (over r) (over-idle r) (over-free r) (lists.bytesOf begun pair) (replicate 260 0) in
+    let idle-then = idle-kept 260 0 (lists.bytesOf begun pair) (over r) (over-idle r) (over-free r) in
     record {
       right = right-two;
       starts = begins-at;
@@ -313,7 +236,7 @@ two-run r p =
           record {
             size = omega (arith, begun-size);
             apart = two-apart;
-            events = may-turns (r ∷ replicate 263 0) begun;
+            events = calls-ok (turns-of (r ∷ replicate 263 0)) begun tt;
             intact = (kept .0, (kept .1 .0, (kept .1 .1 .0, (kept .1 .1 .1 .0, idle-then))));
             turns = lit≤ tt;
           };
@@ -361,23 +284,23 @@ record Goes (c : Call) (d : Device) (m : List ℕ) (d′ : Device) (m′ : List 
   pub outgoing : ran c (worldOf d m heldArea sentArea) .outgoing ≡ sentArea
 
 starts : Goes attention idle two (withUnit (cu.Waiting one)) m1
-unfolding byteAt putByte bytesAt putBytes value digits fieldAt place bitsAt joined acknowledged anyOf eventBits statusWord codeOf obeyCuc obeyRuc statusTo attentions.attendBy attentions.attend attentions.attention attentionOf
+unfolding keptb
 starts = record { device = refl; memory = refl; holding = refl; outgoing = refl }
 
 begins : Goes (turn 0) (withUnit (cu.Waiting one)) m1 (withUnit nop) m2
-unfolding byteAt putByte bytesAt putBytes value digits fieldAt place bitsAt anyOf actionOf begunBy begin service concluded commandTurn turnOf
+unfolding keptb
 begins = record { device = refl; memory = refl; holding = refl; outgoing = refl }
 
 ends : Goes (turn 0) (withUnit nop) m2 (withUnit (cu.Waiting other)) m3
-unfolding byteAt putByte bytesAt putBytes value digits fieldAt place bitsAt anyOf act nextAfter end service concluded commandTurn turnOf
+unfolding keptb
 ends = record { device = refl; memory = refl; holding = refl; outgoing = refl }
 
 goes-on : ran (turn 0) (worldOf (withUnit (cu.Waiting other)) m3 heldArea sentArea) .memory ≡ m4
-unfolding byteAt putByte bytesAt putBytes value digits fieldAt place bitsAt anyOf actionOf begunBy begin service concluded commandTurn turnOf
+unfolding keptb
 goes-on = refl
 
 begun-other : wordAt m4 (place (record { 0 = 0 }) other 0) ≡ 0x4000
-unfolding byteAt putByte bytesAt putBytes value digits fieldAt place
+unfolding keptb
 begun-other = refl
 
 waiting-wide : (o : Offset) → o .0 < 65536 → Wide (withUnit (cu.Waiting o))

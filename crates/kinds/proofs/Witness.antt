@@ -5,12 +5,12 @@ use mathlib.Core.List.{List}
 use Prim.Native.Nat.{ℕ, zero, suc, _<_}
 use native.Mathlib.Omega.{arith}
 use lib.ListN.{length, getD, replicate, length-replicate}
-use Rattle.memory.specs.Address.{place, beyond}
-use Rattle.memory.specs.Memory.{byteAt, putByte, bytesAt, putBytes, value, digits, fieldAt, wordAt}
+use Rattle.memory.specs.Address.{place}
+use Rattle.memory.specs.Memory.{wordAt}
 use Rattle.memory.specs.Size.{Allowed}
 use Rattle.memory.specs.declared.Offset.{Offset}
 use Rattle.memory.proofs.Bytes.{Bytes, bytes-nil}
-use Rattle.scb.specs.Words.{bitsAt, joined, anyOf, eventBits, statusWord, bit, noEvents}
+use Rattle.scb.specs.Words.{bit, noEvents}
 use Rattle.device.specs.Limits.{holdingSize, outgoingSize}
 use Rattle.device.specs.State.{fresh, freshSettings}
 use Rattle.device.specs.declared.Action.the-variants as action
@@ -27,18 +27,12 @@ use Rattle.packed.specs.Packed.{packedOf}
 use Rattle.packed.specs.SetUp.{setupBytes}
 use Rattle.image.specs.Image.{front, unitBytes, imageOf}
 use Rattle.image.proofs.Exact.{fresh-wide, image-bytes}
-use Rattle.actions.specs.Actions.{act, reported, isSent, sent}
-use Rattle.command.specs.End.{nextAfter, end}
-use Rattle.command.specs.Service.{service}
-use Rattle.attention.specs.Status.{statusTo}
-use Rattle.attention.specs.Attention as attentions
 use Rattle.chip.specs.World.{Ran, worldOf}
-use Rattle.chip.specs.Attention.{attentionOf}
-use Rattle.chip.specs.Turn.{concluded, commandTurn, turnOf}
 use Rattle.chip.specs.Call.{Call, attention, turn, ran}
 use Rattle.calls.specs.Calls.{answerNumber}
 use Rattle.traces.specs.Bytes.{sentLength}
 use Rattle.closure.specs.Refusals.{FrameRight}
+use Rattle.lists.proofs.Tests.{keptb}
 use Rattle.kinds.specs.Chips.{Given, Handed}
 use Rattle.kinds.specs.Demands.{Acceptable, lentOf}
 use Rattle.kinds.specs.Kinds.{setupIn}
@@ -104,19 +98,19 @@ abbrev pub idly : Ran
 idly = ran (turn 0) (worldOf fresh zeros heldArea sentArea)
 
 pub first-answer : answerNumber (firstly .outcome .answer) ≡ 4294967296
-unfolding answerNumber attentionOf attentions.attention attentions.initialise
+unfolding keptb answerNumber
 first-answer = refl
 
 pub idle-answer : answerNumber (idly .outcome .answer) ≡ 0
-unfolding answerNumber turnOf
+unfolding keptb answerNumber
 idle-answer = refl
 
 pub first-status : wordAt (firstly .memory) 0 ≡ 0xA000
-unfolding attentionOf attentions.attention attentions.initialise attentions.iscpOf byteAt putByte bytesAt putBytes value digits fieldAt place beyond
+unfolding keptb
 first-status = refl
 
 pub zero-status : wordAt zeros 0 ≡ 0
-unfolding byteAt bytesAt value fieldAt
+unfolding keptb
 zero-status = refl
 
 -- ---- a begun command at 40h that ends the list, its end turn next; the SCB at 30h, memory all zero
@@ -177,15 +171,15 @@ unfolding cuFits
 setting-range = range-with settingUp refl
 
 pub setting-done : bit (wordAt (turned settingUp .memory) (place (record { 0 = 0 }) block 0)) 15 ≡ true
-unfolding byteAt putByte bytesAt putBytes value digits fieldAt place bitsAt joined anyOf eventBits statusWord act nextAfter end service statusTo concluded commandTurn turnOf
+unfolding keptb
 setting-done = refl
 
 pub was-set : getD (setupIn (imageOf (withUnit settingUp))) 2 0 ≡ 255
-unfolding imageOf unitBytes front setupBytes packedOf digits eventBits joined numberOf cuWord ruWord ruRest bytesFrom
+unfolding keptb imageOf unitBytes front setupBytes packedOf numberOf cuWord ruWord ruRest bytesFrom
 was-set = refl
 
 pub is-set : getD (setupIn (imageOf (turned settingUp .outcome .device))) 2 0 ≡ 0
-unfolding imageOf unitBytes front setupBytes packedOf digits eventBits joined numberOf cuWord ruWord ruRest bytesFrom byteAt putByte bytesAt putBytes value fieldAt place bitsAt anyOf statusWord act nextAfter end service statusTo concluded commandTurn turnOf
+unfolding keptb imageOf unitBytes front setupBytes packedOf numberOf cuWord ruWord ruRest bytesFrom
 is-set = refl
 
 -- TDR's word becomes 8000h
@@ -201,11 +195,11 @@ unfolding cuFits
 measuring-range = range-with measuring refl
 
 pub measuring-done : bit (wordAt (turned measuring .memory) (place (record { 0 = 0 }) block 0)) 15 ≡ true
-unfolding byteAt putByte bytesAt putBytes value digits fieldAt place bitsAt joined anyOf eventBits statusWord act nextAfter end service statusTo concluded commandTurn turnOf
+unfolding keptb
 measuring-done = refl
 
 pub measured : wordAt (turned measuring .memory) (place (record { 0 = 0 }) block 6) ≡ 0x8000
-unfolding byteAt putByte bytesAt putBytes value digits fieldAt place bitsAt joined anyOf eventBits statusWord act nextAfter end service statusTo concluded commandTurn turnOf
+unfolding keptb
 measured = refl
 
 -- a Transmit without data sends its 14 bytes
@@ -221,18 +215,18 @@ unfolding cuFits
 sending-range = range-with sending refl
 
 pub sending-done : bit (wordAt (turned sending .memory) (place (record { 0 = 0 }) block 0)) 15 ≡ true
-unfolding byteAt putByte bytesAt putBytes value digits fieldAt place bitsAt joined anyOf eventBits statusWord reported isSent sent nextAfter end service statusTo concluded commandTurn turnOf
+unfolding keptb
 sending-done = refl
 
 pub sent-length : sentLength (answerNumber (turned sending .outcome .answer)) ≡ 14
-unfolding byteAt putByte bytesAt putBytes value digits fieldAt place bitsAt joined anyOf eventBits statusWord reported isSent sent nextAfter end service statusTo concluded commandTurn turnOf answerNumber
+unfolding keptb answerNumber
 sent-length = refl
 
 -- before the turn all words are zero
 pub not-done : bit (wordAt zeros (place (record { 0 = 0 }) block 0)) 15 ≡ false
-unfolding byteAt bytesAt value fieldAt place bitsAt
+unfolding keptb
 not-done = refl
 
 pub not-measured : wordAt zeros (place (record { 0 = 0 }) block 6) ≡ 0
-unfolding byteAt bytesAt value fieldAt place
+unfolding keptb
 not-measured = refl

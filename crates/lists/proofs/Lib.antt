@@ -1,4 +1,5 @@
--- A command list is done: the laws of taking turns, the starting attention, and list order service by service; the same on bytes.
+-- A command list is done: the laws of taking turns, the starting attention, and list order service by service; the same on bytes; the premises as
+-- tests that compute (Tests).
 pub mod Laws
 pub mod Seen
 pub mod Start
@@ -14,3 +15,4 @@ pub mod Whole
 pub mod Bytes
 pub mod Lift
 pub mod Accepted
+pub mod Tests

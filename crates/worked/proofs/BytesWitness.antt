@@ -24,7 +24,7 @@ use Rattle.traces.specs.Areas.{Shows}
 use Rattle.traces.specs.Driven.{Lending, refusedAt}
 use Rattle.lists.specs.Done.{enough}
 use Rattle.lists.specs.OnBytes.{PremisesOnBytes, DoneOnBytes}
-use Rattle.worked.proofs.Tests.{keptb, and-l, and-r}
+use Rattle.lists.proofs.Tests.{keptb, and-l, and-r}
 use Rattle.worked.proofs.Witness.{cold, before, starts, begun, three, is-started, frame, early, writes, late, middle, busy, trace, premises}
 use Rattle.lists.proofs.Bytes.{start-shows, areas-list-done}
 use Rattle.lists.proofs.Lift.{lendings, lifted, refused-anywhere}

@@ -21,7 +21,7 @@ use Rattle.lists.specs.Unit.{machine, began, ended}
 use Rattle.lists.specs.Done.{Starts, enough, Premises, Done, bytesOf}
 use Rattle.lists.proofs.Start.{cblOf}
 use Rattle.lists.proofs.Whole.{attention-list-done}
-use Rattle.worked.proofs.Tests.{cnaAlone, keptb, kept-ok, kept-sub, sub-ok, clash-ok, calls-ok}
+use Rattle.lists.proofs.Tests.{cnaAlone, keptb, kept-ok, kept-sub, sub-ok, clash-ok, calls-ok}
 
 -- ---- the statement, with another number of turns for n commands
 

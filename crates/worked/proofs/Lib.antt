@@ -1,6 +1,5 @@
--- Tests that compute the premises (Tests); a list that meets them (Witness), on lent bytes (BytesWitness) and by runs (RunsWitness), one at an unruly
--- start (Suspended) and one that is resumed (Resumed); that 132 turns a command are exact (Exact).
-pub mod Tests
+-- A list that meets the premises (Witness), on lent bytes (BytesWitness) and by runs (RunsWitness), one at an unruly start (Suspended) and one that is
+-- resumed (Resumed); that 132 turns a command are exact (Exact).
 pub mod Witness
 pub mod Suspended
 pub mod Resumed

@@ -16,7 +16,7 @@ use Rattle.progress.specs.Machine.{log}
 use Rattle.lists.specs.Unit.{machine, began, ended}
 use Rattle.lists.specs.Done.{Resumes, enough, Premises, Done, bytesOf}
 use Rattle.lists.proofs.Whole.{resumed-list-done}
-use Rattle.worked.proofs.Tests.{cnaAlone, keptb, kept-ok, clash-ok, calls-ok, kept-append, idle-kept}
+use Rattle.lists.proofs.Tests.{cnaAlone, keptb, kept-ok, clash-ok, calls-ok, kept-append, idle-kept}
 
 -- ISCP at 0, SCB at 8, base 0; a NOP with S at 18h, a NOP with EL at 20h
 abbrev cold : World

@@ -21,7 +21,7 @@ use Rattle.lists.specs.Unit.{machine}
 use Rattle.lists.specs.Done.{enough, bytesOf}
 use Rattle.lists.specs.OnBytes.{PremisesByRuns, DoneByRuns}
 use Rattle.lists.proofs.Bytes.{list-turns, runs-list-done}
-use Rattle.worked.proofs.Tests.{keptb}
+use Rattle.lists.proofs.Tests.{keptb}
 use Rattle.worked.proofs.Witness.{before, starts, begun, three, is-started}
 use Rattle.worked.proofs.BytesWitness.{first, right-first, not-refused, worked, bytes-premises}
 

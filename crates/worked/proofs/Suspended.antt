@@ -22,7 +22,7 @@ use Rattle.progress.proofs.Trace.{may-append}
 use Rattle.lists.specs.Unit.{machine, began, ended}
 use Rattle.lists.specs.Done.{Starts, due, Premises, enough, Done, bytesOf}
 use Rattle.lists.proofs.Whole.{attention-list-done}
-use Rattle.worked.proofs.Tests.{keptb, kept-ok, clash-ok, calls-ok, kept-append, idle-kept}
+use Rattle.lists.proofs.Tests.{keptb, kept-ok, clash-ok, calls-ok, kept-append, idle-kept}
 use Rattle.worked.proofs.Witness.{frame}
 
 -- ---- the board: ISCP at 0, SCB at 8, base 0

@@ -22,7 +22,7 @@ use Rattle.lists.specs.Done.{Starts, Started, enough, Premises, Done, bytesOf}
 use Rattle.lists.proofs.Laws.{list-laws}
 use Rattle.lists.proofs.Start.{begins, started}
 use Rattle.lists.proofs.Order.{listDone}
-use Rattle.worked.proofs.Tests.{cxAlone, cnaAlone, keptb, kept-ok, clash-ok, calls-ok, kept-append, idle-kept}
+use Rattle.lists.proofs.Tests.{cxAlone, cnaAlone, keptb, kept-ok, clash-ok, calls-ok, kept-append, idle-kept}
 
 -- ---- the board: ISCP at 0, SCB at 8, base 0
 
