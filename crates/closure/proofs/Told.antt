@@ -3,10 +3,10 @@
 use mathlib.Core.Path.{_≡_, refl, sym, ap, ap₂, _∙_, subst}
 use mathlib.Core.Bool.{Bool, true, false, cond}
 use mathlib.Core.List.{List, [], _∷_, _++_, append-nil, append-assoc}
-use Prim.Native.Nat.{ℕ, zero, suc, _<_}
+use Prim.Native.Nat.{ℕ, zero, suc, _+_, _<_}
 use native.Mathlib.Omega.{arith}
 use lib.Dec.{eqb}
-use Rattle.scb.specs.Words.{bitsAt}
+use Rattle.scb.specs.Words.{bitsAt, one}
 use Rattle.device.specs.Answers.{answered}
 use Rattle.device.specs.Numbers.{refusalNumber}
 use Rattle.device.specs.declared.Refusal.{Refusal}
@@ -21,12 +21,12 @@ use Rattle.calls.specs.Answer.{turnsTaken, withTurns, withoutTurns}
 use Rattle.calls.specs.Calls.{Areas, Called, refusalOf, refusedAnswer, refused, onBytes, decodedOn, runOnBytes, turnCall, runCall}
 use Rattle.calls.proofs.Answer.{told, told-alone}
 use Rattle.progress.specs.Trace.{run}
-use Rattle.traces.specs.Bytes.{called, sentLength}
+use Rattle.traces.specs.Bytes.{called, sentLength, edge}
 use Rattle.traces.specs.Event.{Event, call, step}
 use Rattle.traces.specs.Areas.{FrameBytes, AreBytes, Shows}
 use Rattle.traces.specs.Driven.{Lending, refusedAt, leftBy, left, hostOf, eventsBy, eventsOf, Drive, calls, runs, takenIn, leftDriven, turnsFrom, unrolled, Fair, AllFair, AllFairDrive}
-use Rattle.traces.specs.Told.{frameOf, framesAlong, frameTold, framesTold, framesDriven, Said, AllSaid}
-use Rattle.closure.specs.Turns.{turnsOn, lastAnswer, sent, AsTurns}
+use Rattle.traces.specs.Told.{frameOf, framesAlong, frameTold, framesTold, framesDriven, edgesAlong, edgesTold, edgesDriven, Said, AllSaid}
+use Rattle.closure.specs.Turns.{turnsOn, lastAnswer, sent, edged, AsTurns}
 use Rattle.closure.proofs.Refusals.{untouched}
 use Rattle.closure.proofs.Carried.{carry, answer-parts, shows-world}
 use Rattle.closure.proofs.Turns.{run-is-turns, run-accepted, taken-accepted}
@@ -39,6 +39,13 @@ pub said-shown : (l : Lending) (w : World) → AreBytes (l .lent) → Shows (l .
 said-shown l w b s e f =
     carry (l .made) (l .lent) (w .device) f b (s .kept) e .same
     ∙ ap (λ (v : World). onBytes (ran (l .made) v)) (shows-world (l .lent) w s)
+
+-- the edge that its caller reads off is the definitions'
+edge-shown : (l : Lending) (w : World) → AreBytes (l .lent) → Shows (l .lent) w → refusedAt l ≡ false
+    → edge (called (l .made) (l .lent) .answer) ≡ one (ran (l .made) w .outcome .answer .edge)
+edge-shown l w b s e =
+    answer-parts (l .made) (l .lent) (w .device) b (s .kept) e .edge
+    ∙ ap (λ (v : World). one (ran (l .made) v .outcome .answer .edge)) (shows-world (l .lent) w s)
 
 -- the frame that its caller reads off is the one that the definitions send
 told-shown : (l : Lending) (w : World) → AreBytes (l .lent) → Shows (l .lent) w → refusedAt l ≡ false → FrameBytes (l .made)
@@ -88,14 +95,41 @@ module _ (May : Event → World → Type 0) where
   told-along [] a w m s = refl
   told-along (l ∷ ls) a w m s = told-by (refusedAt l) l ls a w refl (m .0) s (m .1) (told-along ls)
 
--- ---- runs of turns: a frame is told by the run's answer exactly if its last turn sent it
+  -- edges, the same
+  edges-by : (x : Bool) (l : Lending) (ls : List Lending) (a : Areas) (w : World) → refusedAt l ≡ x → Fair May l a → Shows a w
+      → AllFair May ls (leftBy x l a)
+      → ((b : Areas) (v : World) → AllFair May ls b → Shows b v → edgesTold ls ≡ edgesAlong (eventsOf ls) v)
+      → edge (called (l .made) (l .lent) .answer) + edgesTold ls ≡ edgesAlong (eventsBy x l (eventsOf ls)) w
+  edges-by true l ls a w e k s m f =
+      let z : edge (called (l .made) (l .lent) .answer) ≡ 0 = untouched (l .made) (l .lent) e .edge in
+      let rest : edgesTold ls ≡ edgesAlong (eventsOf ls) w = f a w m s in
+      omega (arith, z, rest)
+  edges-by false l ls a w e k s m f =
+      let h = k e in
+      let v : World = step (hostOf (l .lent)) w in
+      ap₂ (λ (x y : ℕ). x + y) (edge-shown l v (h .bytes) (lent-shows May l a w h s) e)
+      (f (called (l .made) (l .lent) .areas) (step (call (l .made)) v) m (next-shows May l a w e h s))
 
--- the length stands below the turns
+  pub edges-along : (ls : List Lending) (a : Areas) (w : World) → AllFair May ls a → Shows a w → edgesTold ls ≡ edgesAlong (eventsOf ls) w
+  edges-along [] a w m s = refl
+  edges-along (l ∷ ls) a w m s = edges-by (refusedAt l) l ls a w refl (m .0) s (m .1) (edges-along ls)
+
+-- ---- runs of turns: a frame, or an edge, is told by the run's answer exactly if its last turn told it
+
+-- length and edge stand below the turns
 length-below : (n : ℕ) → sentLength (withoutTurns n) ≡ sentLength n
 unfolding bitsAt
 length-below n = omega arith
 
--- a run that took no turn sent nothing
+edge-below : (n : ℕ) → edge (withoutTurns n) ≡ edge n
+unfolding bitsAt
+edge-below n = omega arith
+
+-- an answer that tells neither
+abbrev Silent : ℕ → Type 0
+Silent n = (sentLength n ≡ 0) × (edge n ≡ 0)
+
+-- a run that took no turn tells neither
 some-taken : (x t : ℕ) → 0 < t → turnsTaken (withTurns x t) ≡ 0 → ⊥
 some-taken x t l e = omega (arith, l, e)
 
@@ -103,30 +137,30 @@ takes-by : (s : Bool) (r : Ran) (rest : Run) → 0 < continued s r rest .taken
 takes-by true r rest = omega arith
 takes-by false r rest = omega arith
 
-idle-run : (n : ℕ) (w : World) (report : ℕ) → turnsTaken (runOnBytes (runOf n w report) .answer) ≡ 0 → sentLength (runOnBytes (runOf n w report) .answer) ≡ 0
+idle-run : (n : ℕ) (w : World) (report : ℕ) → turnsTaken (runOnBytes (runOf n w report) .answer) ≡ 0 → Silent (runOnBytes (runOf n w report) .answer)
 unfolding runOf
-idle-run zero w report e = told (answered 0 false) 0 (omega arith) .sent
+idle-run zero w report e = let t = told (answered 0 false) 0 (omega arith) in (t .sent, t .edged)
 idle-run (suc n) w report e =
     absurd (some-taken _ _ (takes-by (stopsAt w report) (turnOf w report) (runOf n (afterwards (turnOf w report)) report)) e)
 
-refused-sent : (r : Refusal) (a : Areas) → sentLength (refused r a .answer) ≡ 0
-refused-sent r a = told-alone (refusedAnswer r) (omega arith) .sent
+refused-silent : (r : Refusal) (a : Areas) → Silent (refused r a .answer)
+refused-silent r a = let t = told-alone (refusedAnswer r) (omega arith) in (t .sent, t .edged)
 
 module _ (a : Areas) (report budget : ℕ) where
   idle-on : (x : Found) → turnsTaken (decodedOn (λ w. runOnBytes (runOf budget w report)) a x .answer) ≡ 0
-      → sentLength (decodedOn (λ w. runOnBytes (runOf budget w report)) a x .answer) ≡ 0
+      → Silent (decodedOn (λ w. runOnBytes (runOf budget w report)) a x .answer)
   idle-on (is.Units u) e = idle-run budget (worldOf (deviceAt (a .kept) u) (a .memory) (a .holding) (a .outgoing)) report e
-  idle-on is.Foreign e = refused-sent _ a
+  idle-on is.Foreign e = refused-silent _ a
 
   idle-by : (x : Bool) (r : Refusal)
       → turnsTaken (cond x (decodedOn (λ w. runOnBytes (runOf budget w report)) a (decodeOf (a .kept))) (refused r a) .answer) ≡ 0
-      → sentLength (cond x (decodedOn (λ w. runOnBytes (runOf budget w report)) a (decodeOf (a .kept))) (refused r a) .answer) ≡ 0
+      → Silent (cond x (decodedOn (λ w. runOnBytes (runOf budget w report)) a (decodeOf (a .kept))) (refused r a) .answer)
   idle-by true r e = idle-on (decodeOf (a .kept)) e
-  idle-by false r e = refused-sent r a
+  idle-by false r e = refused-silent r a
 
-  idle-sent : takenIn a report budget ≡ 0 → sentLength (runCall a report budget .answer) ≡ 0
+  idle-silent : takenIn a report budget ≡ 0 → Silent (runCall a report budget .answer)
   unfolding runCall
-  idle-sent e = idle-by (eqb (refusalNumber (refusalOf a [])) 0) (refusalOf a []) e
+  idle-silent e = idle-by (eqb (refusalNumber (refusalOf a [])) 0) (refusalOf a []) e
 
 -- turns in a row of which none but the last sends
 quiet-turn : (n : ℕ) (out : List ℕ) → ((n ≡ 0 → ⊥) → ⊥) → frameOf n out ≡ []
@@ -152,7 +186,7 @@ turns-last (suc k) a report = turns-last k (turnCall a report .areas) report
 -- the turns that a run took tell what it tells
 run-told : (k : ℕ) (a : Areas) (report budget : ℕ) → takenIn a report budget ≡ k → (0 < k → AreBytes a)
     → frameTold (runCall a report budget) ≡ framesTold (turnsFrom k a report)
-run-told zero a report budget t b = ap (λ (n : ℕ). frameOf n (runCall a report budget .areas .outgoing)) (idle-sent a report budget t)
+run-told zero a report budget t b = ap (λ (n : ℕ). frameOf n (runCall a report budget .areas .outgoing)) (idle-silent a report budget t .0)
 run-told (suc k) a report budget t b =
     let s : AsTurns a report budget (runCall a report budget) =
     run-is-turns a report budget (b (omega arith)) (run-accepted a report budget (taken-accepted a report budget k t)) in
@@ -178,3 +212,49 @@ driven-told May (runs lent report budget ∷ ds) a p =
     ap₂ (λ (fs gs : List (List ℕ)). fs ++ gs) (run-told (takenIn lent report budget) lent report budget refl (λ z. p .0 z .bytes))
     (driven-told May ds (leftDriven (runs lent report budget) a) (p .1))
     ∙ sym (told-append (turnsFrom (takenIn lent report budget) lent report) (unrolled ds))
+
+-- ---- edges, the same
+
+no-edge : (x : ℕ) → x < 2 → (x ≡ 1 → ⊥) → x ≡ 0
+no-edge zero l h = refl
+no-edge (suc zero) l h = absurd (h refl)
+no-edge (suc (suc x)) l h = absurd (omega (arith, l))
+
+one-bit : (n : ℕ) → edge n < 2
+unfolding bitsAt
+one-bit n = omega arith
+
+abbrev Smooth : Areas → ℕ → ℕ → Type 0
+Smooth a report k = (j : ℕ) → suc j < suc k → edge (turnCall (turnsOn j a report) report .answer) ≡ 1 → ⊥
+
+last-edge : (k : ℕ) (a : Areas) (report : ℕ) → Smooth a report k
+    → edgesTold (turnsFrom (suc k) a report) ≡ edge (turnCall (turnsOn k a report) report .answer)
+last-edge zero a report q = omega arith
+last-edge (suc k) a report q =
+    let z : edge (turnCall a report .answer) ≡ 0 = no-edge _ (one-bit (turnCall a report .answer)) (q 0 (omega arith)) in
+    let rest = last-edge k (turnCall a report .areas) report (λ j l h. q (suc j) (omega (arith, l)) h) in
+    omega (arith, z, rest)
+
+run-edge : (k : ℕ) (a : Areas) (report budget : ℕ) → takenIn a report budget ≡ k → (0 < k → AreBytes a)
+    → edge (runCall a report budget .answer) ≡ edgesTold (turnsFrom k a report)
+run-edge zero a report budget t b = idle-silent a report budget t .1
+run-edge (suc k) a report budget t b =
+    let s : AsTurns a report budget (runCall a report budget) =
+    run-is-turns a report budget (b (omega arith)) (run-accepted a report budget (taken-accepted a report budget k t)) in
+    sym (edge-below _) ∙ ap edge (s .answer ∙ ap (λ (j : ℕ). lastAnswer j a report) t)
+    ∙ sym (last-edge k a report (λ j l h. s .going j (subst (λ (i : ℕ). suc j < i) (sym t) l) (edged h)))
+
+edges-append : (xs ys : List Lending) → edgesTold (xs ++ ys) ≡ edgesTold xs + edgesTold ys
+edges-append [] ys = omega arith
+edges-append (x ∷ xs) ys =
+    let rest = edges-append xs ys in
+    omega (arith, rest)
+
+pub driven-edges : (May : Event → World → Type 0) (ds : List Drive) (a : Areas) → AllFairDrive May ds a → edgesDriven ds ≡ edgesTold (unrolled ds)
+driven-edges May [] a p = refl
+driven-edges May (calls l ∷ ds) a p =
+    ap (λ (n : ℕ). edge (called (l .made) (l .lent) .answer) + n) (driven-edges May ds (left l a) (p .1))
+driven-edges May (runs lent report budget ∷ ds) a p =
+    ap₂ (λ (x y : ℕ). x + y) (run-edge (takenIn lent report budget) lent report budget refl (λ z. p .0 z .bytes))
+    (driven-edges May ds (leftDriven (runs lent report budget) a) (p .1))
+    ∙ sym (edges-append (turnsFrom (takenIn lent report budget) lent report) (unrolled ds))

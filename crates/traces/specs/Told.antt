@@ -1,15 +1,16 @@
--- What the caller is told: the frames that were sent, and that every call answers and leaves what the definitions say. 01, "Calls, lent areas,
+-- What the caller is told: the frames that were sent, the edges, and that every call answers and leaves what the definitions say. 01, "Calls, lent areas,
 -- refusals": an answer is the number, the length sent (0 if none) and the edge. Assumes nothing.
 use mathlib.Core.Path.{_≡_}
 use mathlib.Core.Bool.{Bool, true, false}
 use mathlib.Core.List.{List, [], _∷_, _++_}
-use Prim.Native.Nat.{ℕ, zero, suc}
+use Prim.Native.Nat.{ℕ, zero, suc, _+_}
 use lib.ListN.{take}
+use Rattle.scb.specs.Words.{one}
 use Rattle.chip.specs.World.{World}
 use Rattle.chip.specs.Call.{ran}
 use Rattle.calls.specs.Calls.{Called, onBytes, runCall}
 use Rattle.progress.specs.Trace.{run}
-use Rattle.traces.specs.Bytes.{called, sentLength}
+use Rattle.traces.specs.Bytes.{called, sentLength, edge}
 use Rattle.traces.specs.Event.{Event, call, host, step}
 use Rattle.traces.specs.Driven.{Lending, refusedAt, hostOf, eventsBy, Drive, calls, runs}
 
@@ -41,6 +42,27 @@ frameDriven (runs lent report budget) = frameTold (runCall lent report budget)
 abbrev pub framesDriven : List Drive → List (List ℕ)
 framesDriven [] = []
 framesDriven (d ∷ ds) = frameDriven d ++ framesDriven ds
+
+-- ---- the edges that were reported: how many
+
+-- by the calls of a trace
+abbrev pub edgesAlong : List Event → World → ℕ
+edgesAlong [] w = 0
+edgesAlong (call c ∷ es) w = one (ran c w .outcome .answer .edge) + edgesAlong es (step (call c) w)
+edgesAlong (host m h out ∷ es) w = edgesAlong es (step (host m h out) w)
+
+-- on bytes, in calls and in runs
+abbrev pub edgesTold : List Lending → ℕ
+edgesTold [] = 0
+edgesTold (l ∷ ls) = edge (called (l .made) (l .lent) .answer) + edgesTold ls
+
+abbrev pub edgeDriven : Drive → ℕ
+edgeDriven (calls l) = edge (called (l .made) (l .lent) .answer)
+edgeDriven (runs lent report budget) = edge (runCall lent report budget .answer)
+
+abbrev pub edgesDriven : List Drive → ℕ
+edgesDriven [] = 0
+edgesDriven (d ∷ ds) = edgeDriven d + edgesDriven ds
 
 -- ---- every answer and every lent byte: of a call that is not refused what the definitions say in the world in which it comes; a refused one has its
 -- number by the table of refusals and leaves all as it was lent
