@@ -23,6 +23,10 @@ use Rattle.device.specs.declared.Frame.{Frame}
 use Rattle.device.specs.declared.Refusal.{Refusal}
 use Rattle.device.specs.declared.Ru.the-variants as ru
 use Rattle.device.specs.declared.Verdict.the-variants as verdict
+use Rattle.numerals.specs.Places.{field}
+use Rattle.packed.specs.Packed.{ruTagIn}
+use Rattle.packed.specs.Record.{ruAt, restAt}
+use Rattle.image.specs.Image.{packedAt}
 use Rattle.image.specs.Ranges.{inRange}
 use Rattle.control.specs.Obey.{ofScb}
 use Rattle.chip.specs.World.{World, afterwards}
@@ -45,6 +49,7 @@ use Rattle.closure.proofs.Refusals as refusals
 use Rattle.closure.proofs.Witness as rows-seen
 use Rattle.closure.proofs.Closed as closure
 use Rattle.closure.proofs.Carried as carried
+use Rattle.closure.proofs.Outside as outside
 use Rattle.closure.proofs.Turns as run-of-turns
 use Rattle.frames.specs.Arrival as arrival
 use Rattle.frames.specs.Held.{ends, heldFates, FatesOfHeld, GoodFate, BadFate}
@@ -119,10 +124,14 @@ every-state-left-is-in-range = closure.closed
 pub a-record-left-is-accepted : (c : Call) (a : Areas) → FrameBytes c → AreBytes a → isRefused (called c a) ≡ false → Again c a
 a-record-left-is-accepted = carried.accepted-again
 
--- and "no held frame outside Ready"
-pub no-held-frame-outside-ready : (r : List ℕ) (d : Device) (f : Frame) (fs : List Frame) → Holds r d → heldIn (d .units .ru) ≡ f ∷ fs
+-- and "no held frame outside Ready": a record whose phase, byte 7, is none of those that hold a frame, which are all in Ready, has nothing of a frame
+-- in bytes 26 to 39, or is refused; and a state that a record holds, and that holds a frame, is in Ready
+pub no-held-frame-outside-ready : (r : List ℕ) (d : Device) → Holds r d → ruTagIn (packedAt r) < 4 → (field r ruAt 8 < 2 ^ 16) × (field r restAt 8 ≡ 0)
+no-held-frame-outside-ready = outside.holds-outside
+
+pub a-held-frame-is-in-ready : (r : List ℕ) (d : Device) (f : Frame) (fs : List Frame) → Holds r d → heldIn (d .units .ru) ≡ f ∷ fs
     → ruState (d .units .ru) ≡ rus.Ready
-no-held-frame-outside-ready = carried.holds-ready
+a-held-frame-is-in-ready = carried.holds-ready
 
 -- a run of turns gives the number that a turn gives there, whatever its budget; a refused one is a refused turn, no turn taken and nothing changed
 pub a-run-is-refused-as-a-turn : (a : Areas) (report budget : ℕ) → number (runCall a report budget .answer) ≡ number (turnCall a report .answer)
