@@ -43,6 +43,7 @@ use Rattle.chip.specs.Turn.{servedBy, isReceive, raisedIn, changes, statusBy, r
 use Rattle.chip.specs.World.{World, Ran, writing, resetOf}
 use Rattle.chip.proofs.Status.{receive-due}
 use Rattle.filter.specs.Match.{matches}
+use Rattle.traces.specs.Event.{call, isCalm}
 use Rattle.frames.specs.Arrival.{inScb, unitOf, settingsOf}
 use Rattle.frames.specs.Held.{ofHeld, chosen, heldFates, forEach, commandOf, loses, endIsNext, isServed, ends, StaysHeld, begunTo, begunUnit, dataTo, filledTo, filledUnit, OnlyWrites, Serves, Waits, untouched, suspends, Meanwhile, served, unserved, Lost, by-reset, by-resetting, by-abort, GoodFate, BadFate}
 use Rattle.frames.specs.Held as held
@@ -526,12 +527,19 @@ reset-lost w = by-reset refl refl
 pub turn-fate : (w : World) (f : Frame) (report : ℕ) → heldIn (unitOf w) ≡ f ∷ [] → HeldFate f (turn report) w
 turn-fate w f report h = at-turn (cuWorks (w .device .units .cu)) (w .device .units .rulast) w f report h refl refl
 
+-- an arrival or a turn, likewise
+pub calm-fate : (c : Call) (w : World) (f : Frame) → isCalm (call c) ≡ true → heldIn (unitOf w) ≡ f ∷ [] → HeldFate f c w
+calm-fate reset w f i h = absurd (false≢true i)
+calm-fate attention w f i h = absurd (false≢true i)
+calm-fate (arrive bs v) w f i h =
+    stays refl refl (at-arrival w f bs v h) (unserved refl (untouched (arrive bs v) (arrival-untouched w f bs v h)))
+calm-fate (turn report) w f i h = turn-fate w f report h
+
 pub held-fate : (c : Call) (w : World) (f : Frame) → w .device .units .initialised ≡ true → heldIn (unitOf w) ≡ f ∷ [] → HeldFate f c w
 held-fate reset w f i h = lost refl (reset-lost w)
 held-fate attention w f i h = at-attention (resets (commandOf w)) (eqb (ruc (commandOf w)) 4) w f h i refl refl
-held-fate (arrive bs v) w f i h =
-    stays refl refl (at-arrival w f bs v h) (unserved refl (untouched (arrive bs v) (arrival-untouched w f bs v h)))
-held-fate (turn report) w f i h = turn-fate w f report h
+held-fate (arrive bs v) w f i h = calm-fate (arrive bs v) w f refl h
+held-fate (turn report) w f i h = calm-fate (turn report) w f refl h
 
 -- ---- a good one
 
