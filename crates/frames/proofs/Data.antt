@@ -35,7 +35,7 @@ use Rattle.receive.specs.Begin.{begunBy, toFirst, isBare}
 use Rattle.receive.specs.Buffer.{count, past, isDone, afterBuffer}
 use Rattle.control.specs.Control.{ruSuspend}
 use Rattle.chip.specs.Arrival.{arrivalOf}
-use Rattle.chip.specs.Call.{Call, attention, arrive, turn, ran}
+use Rattle.chip.specs.Call.{Call, arrive, turn, ran}
 use Rattle.chip.specs.World.{World, Ran, afterwards}
 use Rattle.calls.specs.Calls.{Areas, onBytes}
 use Rattle.progress.specs.Trace.{run, AllMay}
@@ -201,8 +201,8 @@ serves-on c w f got v h (held.buffer s k e q o) =
 
 waits-on : (c : Call) (w : World) (f : Frame) (got : List ℕ) → isServed c w ≡ false → Sofar f (w .holding) got (unitOf w) → Waits w c → On f got c w
 unfolding On
-waits-on c w f got v h (untouched d e) = rw (v, append-nil, e) h
-waits-on attention w f got v h (suspends r e) = rw (append-nil, e) (sofar-suspended f (w .holding) got (unitOf w) h)
+waits-on c w f got v h (untouched r e) = rw (v, append-nil, e) h
+waits-on c w f got v h (suspends r e) = rw (v, append-nil, e) (sofar-suspended f (w .holding) got (unitOf w) h)
 
 meanwhile-on : (c : Call) (w : World) (f : Frame) (got : List ℕ) → Sofar f (w .holding) got (unitOf w) → Meanwhile f c w → On f got c w
 meanwhile-on c w f got h (served v x) = serves-on c w f got v h x

@@ -43,8 +43,9 @@ use Rattle.chip.specs.Turn.{servedBy, isReceive, raisedIn, changes, statusBy, r
 use Rattle.chip.specs.World.{World, Ran, writing, resetOf}
 use Rattle.chip.proofs.Status.{receive-due}
 use Rattle.filter.specs.Match.{matches}
+use Rattle.traces.specs.Event.{call, isCalm}
 use Rattle.frames.specs.Arrival.{inScb, unitOf, settingsOf}
-use Rattle.frames.specs.Held.{ofHeld, chosen, heldFates, forEach, commandOf, loses, endIsNext, isServed, ends, StaysHeld, begunTo, begunUnit, dataTo, filledTo, filledUnit, OnlyWrites, Serves, Waits, untouched, suspends, Meanwhile, served, unserved, Lost, by-reset, by-resetting, by-abort, GoodFate, BadFate}
+use Rattle.frames.specs.Held.{ofHeld, chosen, heldFates, forEach, commandOf, loses, endIsNext, isServed, ends, StaysHeld, begunTo, begunUnit, dataTo, filledTo, filledUnit, OnlyWrites, Serves, suspendsAt, Waits, untouched, suspends, Meanwhile, served, unserved, Lost, by-reset, by-resetting, by-abort, GoodFate, BadFate}
 use Rattle.frames.specs.Held as held
 use Rattle.frames.proofs.End.{part, turned, Closed, closed, Both, both, OnlyCounted, only-counted, Kept, kept}
 
@@ -337,24 +338,29 @@ isSuspend suspend = true
 isSuspend abort = false
 isSuspend other = false
 
-three-by : (a b c d : Bool) → isSuspend (cond a start (cond b resume (cond c suspend (cond d abort other)))) ≡ true → c ≡ true
-three-by true b c d h = absurd (false≢true h)
-three-by false true c d h = absurd (false≢true h)
-three-by false false true d h = refl
-three-by false false false true h = absurd (false≢true h)
-three-by false false false false h = absurd (false≢true h)
+three-by : (a b c d : Bool) → c ≡ false → isSuspend (cond a start (cond b resume (cond c suspend (cond d abort other)))) ≡ false
+three-by true b c d e = refl
+three-by false true c d e = refl
+three-by false false true d e = absurd (true≢false e)
+three-by false false false true e = refl
+three-by false false false false e = refl
 
-is-three : (n : ℕ) → codeOf n ≡ suspend → n ≡ 3
+is-three : (b : Bool) (n : ℕ) → eqb n 3 ≡ b → isSuspend (codeOf n) ≡ b
 unfolding codeOf
-is-three n h = eqb-true n 3 (three-by (eqb n 1) (eqb n 2) (eqb n 3) (eqb n 4) (ap isSuspend h))
+is-three true n e = ap (λ (k : ℕ). isSuspend (codeOf k)) (eqb-true n 3 e)
+is-three false n e = three-by (eqb n 1) (eqb n 2) (eqb n 3) (eqb n 4) e
+
+-- a SUSPEND comes to wait exactly by its code
+waits-by : (code : Code) (w : World) → codeOf (ruc (commandOf w)) ≡ code → suspendsAt attention w ≡ isSuspend code
+waits-by code w c = sym (is-three (suspendsAt attention w) (ruc (commandOf w)) refl) ∙ ap isSuspend c
 
 unit-waits : (code : Code) (rfa : Offset) (w : World) → codeOf (ruc (commandOf w)) ≡ code → isHolding (unitOf w) ≡ true → isAbort code ≡ false
     → attentionOf w .outcome .device .units .ru ≡ ruBy code rfa (unitOf w) → Waits w attention
-unit-waits start rfa w c h a e = untouched attention (e ∙ start-waits rfa (unitOf w) h)
-unit-waits resume rfa w c h a e = untouched attention (e ∙ resume-waits (unitOf w) h)
-unit-waits suspend rfa w c h a e = suspends (is-three (ruc (commandOf w)) c) e
+unit-waits start rfa w c h a e = untouched (waits-by start w c) (e ∙ start-waits rfa (unitOf w) h)
+unit-waits resume rfa w c h a e = untouched (waits-by resume w c) (e ∙ resume-waits (unitOf w) h)
+unit-waits suspend rfa w c h a e = suspends (waits-by suspend w c) e
 unit-waits abort rfa w c h a e = absurd (true≢false a)
-unit-waits other rfa w c h a e = untouched attention e
+unit-waits other rfa w c h a e = untouched (waits-by other w c) e
 
 obeyed-unit : (w : World) → obeyed w .outcome .device .units .ru ≡ obeyedRuc w .unit
 unfolding attended attentions.attendBy
@@ -504,7 +510,7 @@ at-turn true true w f report h a b =
     let to = served-as true true true w report a k b in
     stays refl (ends-as true true true w report a k b) (subst (StaysHeld f w) to (command-keeps w f report h))
     (unserved (served-is true true true w report a k b)
-    (untouched (turn report) (subst (λ (r : Ran). r .outcome .device .units .ru ≡ unitOf w) to (command-untouched w report))))
+    (untouched refl (subst (λ (r : Ran). r .outcome .device .units .ru ≡ unitOf w) to (command-untouched w report))))
 at-turn true false w f report h a b =
     let k = holds (unitOf w) f h in
     at-service (unitOf w) w f (turn report) refl h (to-turned w (unitOf w) refl ∙ served-as true true false w report a k b) refl
@@ -526,12 +532,19 @@ reset-lost w = by-reset refl refl
 pub turn-fate : (w : World) (f : Frame) (report : ℕ) → heldIn (unitOf w) ≡ f ∷ [] → HeldFate f (turn report) w
 turn-fate w f report h = at-turn (cuWorks (w .device .units .cu)) (w .device .units .rulast) w f report h refl refl
 
+-- an arrival or a turn, likewise
+pub calm-fate : (c : Call) (w : World) (f : Frame) → isCalm (call c) ≡ true → heldIn (unitOf w) ≡ f ∷ [] → HeldFate f c w
+calm-fate reset w f i h = absurd (false≢true i)
+calm-fate attention w f i h = absurd (false≢true i)
+calm-fate (arrive bs v) w f i h =
+    stays refl refl (at-arrival w f bs v h) (unserved refl (untouched refl (arrival-untouched w f bs v h)))
+calm-fate (turn report) w f i h = turn-fate w f report h
+
 pub held-fate : (c : Call) (w : World) (f : Frame) → w .device .units .initialised ≡ true → heldIn (unitOf w) ≡ f ∷ [] → HeldFate f c w
 held-fate reset w f i h = lost refl (reset-lost w)
 held-fate attention w f i h = at-attention (resets (commandOf w)) (eqb (ruc (commandOf w)) 4) w f h i refl refl
-held-fate (arrive bs v) w f i h =
-    stays refl refl (at-arrival w f bs v h) (unserved refl (untouched (arrive bs v) (arrival-untouched w f bs v h)))
-held-fate (turn report) w f i h = turn-fate w f report h
+held-fate (arrive bs v) w f i h = calm-fate (arrive bs v) w f refl h
+held-fate (turn report) w f i h = calm-fate (turn report) w f refl h
 
 -- ---- a good one
 

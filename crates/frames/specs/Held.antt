@@ -151,10 +151,18 @@ pub data Serves (f : Frame) (w : World) (r : Ran) : Type 0 where
       → OnlyWrites (filledUnit w s k) (dataTo w s k ∷ filledTo w s k ∷ []) w r
       → Serves f w r
 
--- any other call leaves how far storing has come; by an attention with RUC 3 a SUSPEND comes to wait
-pub data Waits (w : World) : Call → Type 0 where
-  untouched : (c : Call) → ran c w .outcome .device .units .ru ≡ unitOf w → Waits w c
-  suspends : ruc (commandOf w) ≡ 3 → ran attention w .outcome .device .units .ru ≡ ruSuspend (unitOf w) → Waits w attention
+-- by this call a SUSPEND comes to wait: an attention with RUC 3. The first attention after reset obeys no command word; it finds no frame held, as a
+-- state in range that is not initialised holds none
+abbrev pub suspendsAt : Call → World → Bool
+suspendsAt reset w = false
+suspendsAt attention w = eqb (ruc (commandOf w)) 3
+suspendsAt (arrive f v) w = false
+suspendsAt (turn report) w = false
+
+-- any other call leaves how far storing has come; a SUSPEND comes to wait exactly by such a call
+pub data Waits (w : World) (c : Call) : Type 0 where
+  untouched : suspendsAt c w ≡ false → ran c w .outcome .device .units .ru ≡ unitOf w → Waits w c
+  suspends : suspendsAt c w ≡ true → ran c w .outcome .device .units .ru ≡ ruSuspend (unitOf w) → Waits w c
 
 -- what a call that leaves it held does with it
 pub data Meanwhile (f : Frame) (c : Call) (w : World) : Type 0 where
