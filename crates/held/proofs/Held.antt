@@ -11,16 +11,17 @@ use Rattle.device.specs.declared.Frame.{Frame}
 use Rattle.chip.specs.World.{World, afterwards}
 use Rattle.chip.specs.Call.{reset, attention, arrive, turn}
 use Rattle.chip.specs.Turn.{turnOf}
-use Rattle.progress.specs.Trace.{run, turns}
+use Rattle.progress.specs.Trace.{run, AllMay, turns}
 use Rattle.progress.specs.Holder.{Holder, Went, ended, goes, Stays, Ends}
 use Rattle.progress.specs.Holder as ending
 use Rattle.traces.specs.Event.{Event, call, host, step, isTurn, WhileHeld}
 use Rattle.held.specs.Held.{framesIn, isToHold, isSettled, fatesAt, HeldAlong, Settled, Within}
+use Rattle.progress.proofs.Trace.{may-before}
 use Rattle.progress.proofs.Holder.{ends-within}
 use Rattle.held.proofs.Service as service
 use Rattle.held.proofs.Service.{leftOf, left-positive, left-most, Serving}
 use Rattle.held.proofs.Turn.{receives, receive-last, isReceiving, holding, turn-received, turn-commanded, passing, arrival-unit, arrival-last}
-use Rattle.held.proofs.Ending.{ending}
+use Rattle.held.proofs.Ending.{ending, all-meanwhile}
 
 -- ---- what is noted of held frames: each fate, with the frames that were held then
 
@@ -144,12 +145,12 @@ end-turn w report f φ e t g = end-by (isReceiving (w .device .units)) w report 
 
 -- the event at its end is a turn
 settle : (n : ℕ) (f : Frame) (es : List Event) (w : World) (before : List Event) (e : Event) (after : List Event)
-    → isToHold f ≡ true → es ≡ before ++ (e ∷ after) → turns isTurn before < n → HeldAlong f before w → isTurn e ≡ true
+    → AllMay WhileHeld step es w → isToHold f ≡ true → es ≡ before ++ (e ∷ after) → turns isTurn before < n → HeldAlong f before w → isTurn e ≡ true
     → (φ : Fate) → fatesAt e (run step before w) ≡ φ ∷ [] → Settled n f es w
-settle n f es w before (call reset) after t s l h i φ g = absurd (false≢true i)
-settle n f es w before (call attention) after t s l h i φ g = absurd (false≢true i)
-settle n f es w before (call (arrive b v)) after t s l h i φ g = absurd (false≢true i)
-settle n f es w before (call (turn report)) after t s l h i φ g =
+settle n f es w before (call reset) after y t s l h i φ g = absurd (false≢true i)
+settle n f es w before (call attention) after y t s l h i φ g = absurd (false≢true i)
+settle n f es w before (call (arrive b v)) after y t s l h i φ g = absurd (false≢true i)
+settle n f es w before (call (turn report)) after y t s l h i φ g =
     let r = end-turn (run step before w) report f φ (held-last f before w h) t g in
     record {
       before = before;
@@ -158,24 +159,25 @@ settle n f es w before (call (turn report)) after t s l h i φ g =
       split = s;
       soon = l;
       holds = h;
+      meanwhile = all-meanwhile f before w (may-before WhileHeld step before (call (turn report) ∷ after) w (rw s at y)) h;
       fate = φ;
       given = g;
       settled = r .0;
       ending = ending (run step before w) report f φ (held-last f before w h) t g;
       free = r .1;
     }
-settle n f es w before (host m b out) after t s l h i φ g = absurd (false≢true i)
+settle n f es w before (host m b out) after y t s l h i φ g = absurd (false≢true i)
 
-settled : (n : ℕ) (f : Frame) (es : List Event) (w : World) → isToHold f ≡ true → Ends holder n (f ∷ []) es w → Settled n f es w
-settled n f es w t r =
+settled : (n : ℕ) (f : Frame) (es : List Event) (w : World) → AllMay WhileHeld step es w → isToHold f ≡ true → Ends holder n (f ∷ []) es w → Settled n f es w
+settled n f es w y t r =
     let at = run step (r .before) w in
-    settle n f es w (r .before) (r .event) (r .after) t (r .split) (r .soon)
+    settle n f es w (r .before) (r .event) (r .after) y t (r .split) (r .soon)
     (all-along f (r .before) w (r .holds)) (r .turned) (r .note .fate) (a-note (fatesAt (r .event) at) (framesIn at) (r .note) (r .noted))
 
 -- twice the services that a held frame can take are enough
 pub within : (n : ℕ) → 132 ≤ n → Within n
 within n m w f es e t c l =
-    settled n f es w t
+    settled n f es w c t
     (rw e at (ends-within holder WhileHeld laws n es w c (holding (w .device .units .ru) f e)
     (omega (arith, m, left-most (w .device .units .ru))) l))
 

@@ -41,11 +41,12 @@ use Rattle.traces.specs.Areas.{FrameBytes, AreBytes, unitsBy, unitsIn, worldSai
 use Rattle.traces.specs.Driven.{Lending, lending, refusedAt, leftBy, left, isTaken, Lends, Fair, AllFair}
 use Rattle.held.specs.Held.{framesIn, isToHold}
 use Rattle.held.specs.Held as held
-use Rattle.held.specs.OnRecords.{framesKept, fatesBy, fatesAt, HeldAlong, Settled, Within}
+use Rattle.held.specs.OnRecords.{framesKept, fatesBy, fatesAt, HeldAlong, MeanwhileBy, AllMeanwhile, Settled, Within}
+use Rattle.progress.proofs.Trace.{may-before}
 use Rattle.progress.proofs.Holder.{ends-within}
 use Rattle.held.proofs.Service.{leftOf, left-positive, left-most}
 use Rattle.held.proofs.Turn.{isReceiving, holding}
-use Rattle.held.proofs.Ending.{ending}
+use Rattle.held.proofs.Ending.{ending, meanwhile}
 use Rattle.held.proofs.Held as states
 use Rattle.held.proofs.Held.{Note, notes, a-note, no-note, holder}
 
@@ -290,6 +291,22 @@ pub kept-last : (f : Frame) (ls : List Lending) (a : Areas) → HeldAlong f ls a
 kept-last f [] a h = h
 kept-last f (l ∷ ls) a h = kept-last f ls (left l a) (h .2)
 
+-- what is said of each call until then
+meanwhile-by : (x : Bool) (f : Frame) (l : Lending) (a : Areas) → refusedAt l ≡ x → Fair WhileHeld l a → framesKept (a .kept) ≡ f ∷ [] → fatesAt l ≡ []
+    → MeanwhileBy x f l
+meanwhile-by true f l a e y h g = tt
+meanwhile-by false f l a e y h g =
+    let z = y e in
+    let t = taken (l .made) (l .lent) e (z .may) in
+    let now : framesIn (worldSaid (l .lent)) ≡ f ∷ [] = ap (λ (u : Units). heldIn (u .ru)) (units-in (l .lent)) ∙ ap framesKept (z .kept) ∙ h in
+    let none = sym (ap (λ (q : Bool). fatesBy q (l .made) (worldSaid (l .lent))) e) ∙ g in
+    (t .leaves, meanwhile (l .made) (worldSaid (l .lent)) f (z .may) now none)
+
+all-meanwhile : (f : Frame) (ls : List Lending) (a : Areas) → AllFair WhileHeld ls a → HeldAlong f ls a → AllMeanwhile f ls
+all-meanwhile f [] a y h = tt
+all-meanwhile f (l ∷ ls) a y h =
+    (meanwhile-by (refusedAt l) f l a refl (y .0) (h .0) (h .1), all-meanwhile f ls (left l a) (y .1) (h .2))
+
 settle : Closed → (n : ℕ) (f : Frame) (ls : List Lending) (a : Areas) (before : List Lending) (c : Call) (x : Areas) (after : List Lending)
     → AllFair WhileHeld ls a → ls ≡ before ++ (lending c x ∷ after) → turns isTaken before < n → HeldAlong f before a
     → refusedAt (lending c x) ≡ false → isTurn (call c) ≡ true → (φ : Fate) → fatesAt (lending c x) ≡ φ ∷ [] → Settled n f ls a
@@ -314,6 +331,7 @@ settle k n f ls a before (turn report) x after y s l h e i φ g =
       split = s;
       soon = l;
       holds = h;
+      meanwhile = all-meanwhile f before a (may-before (Fair WhileHeld) left before (t ∷ after) a (rw s at y)) h;
       accepted = e;
       kept = z .kept;
       leaves = u .leaves;

@@ -13,6 +13,7 @@ use Rattle.chip.specs.Turn.{turnOf}
 use Rattle.progress.specs.Trace.{run, AllMay, turns}
 use Rattle.traces.specs.Event.{Event, call, host, step, isTurn, WhileHeld}
 use Rattle.frames.specs.Held.{ends, GoodFate, BadFate}
+use Rattle.frames.specs.Data.{AllMeanwhile}
 
 -- ---- the held frame
 
@@ -60,6 +61,8 @@ pub record Settled (n : ℕ) (f : Frame) (es : List Event) (w : World) : Type 0 
   pub split : es ≡ before ++ (call (turn report) ∷ after)
   pub soon : turns isTurn before < n
   pub holds : HeldAlong f before w
+  -- until then its own turns write what is said of begin and buffers, and every other call leaves how far storing has come
+  pub meanwhile : AllMeanwhile f before w
   pub fate : Fate
   pub given : turnOf (run step before w) report .outcome .fates ≡ fate ∷ []
   pub settled : isSettled fate ≡ true

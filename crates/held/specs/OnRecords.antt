@@ -7,13 +7,15 @@ use Rattle.device.specs.State.{heldIn}
 use Rattle.device.specs.declared.Fate.{Fate}
 use Rattle.device.specs.declared.Frame.{Frame}
 use Rattle.chip.specs.World.{World}
-use Rattle.chip.specs.Call.{Call, turn}
+use Rattle.chip.specs.Call.{Call, turn, ran}
 use Rattle.chip.specs.Turn.{turnOf}
 use Rattle.calls.specs.Calls.{Areas, onBytes, turnCall}
 use Rattle.progress.specs.Trace.{run, turns}
+use Rattle.traces.specs.Bytes.{called}
 use Rattle.traces.specs.Event.{call, WhileHeld}
 use Rattle.traces.specs.Areas.{unitsIn, worldSaid}
 use Rattle.traces.specs.Driven.{Lending, lending, refusedAt, left, isTaken, Drive, turnsDriven, unrolled, AllFair, AllFairDrive}
+use Rattle.frames.specs.Held.{Meanwhile}
 use Rattle.held.specs.Held.{isSettled, Ending}
 use Rattle.held.specs.Held as held
 
@@ -35,6 +37,16 @@ abbrev pub HeldAlong : Frame → List Lending → Areas → Type 0
 HeldAlong f [] a = framesKept (a .kept) ≡ f ∷ []
 HeldAlong f (l ∷ ls) a = (framesKept (a .kept) ≡ f ∷ []) × (fatesAt l ≡ []) × HeldAlong f ls (left l a)
 
+-- at each call that is not refused: it leaves what the definitions leave, and of the frame is said what is said of one that stays held
+abbrev pub MeanwhileBy : (refused : Bool) → Frame → Lending → Type 0
+MeanwhileBy true f l = Unit {0}
+MeanwhileBy false f l =
+    (called (l .made) (l .lent) ≡ onBytes (ran (l .made) (worldSaid (l .lent)))) × Meanwhile f (l .made) (worldSaid (l .lent))
+
+abbrev pub AllMeanwhile : Frame → List Lending → Type 0
+AllMeanwhile f [] = Unit {0}
+AllMeanwhile f (l ∷ ls) = MeanwhileBy (refusedAt l) f l × AllMeanwhile f ls
+
 -- ---- the statement
 
 -- one of the first n turns that are not refused settles the frame f, which is held until then and no longer: this call leaves what the turn
@@ -47,6 +59,7 @@ pub record Settled (n : ℕ) (f : Frame) (ls : List Lending) (a : Areas) : Type 
   pub split : ls ≡ before ++ (lending (turn report) areas ∷ after)
   pub soon : turns isTaken before < n
   pub holds : HeldAlong f before a
+  pub meanwhile : AllMeanwhile f before
   pub accepted : refusedAt (lending (turn report) areas) ≡ false
   pub kept : areas .kept ≡ run left before a .kept
   pub leaves : turnCall areas report ≡ onBytes (turnOf (worldSaid areas) report)
