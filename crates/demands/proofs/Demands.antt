@@ -325,7 +325,8 @@ a-run-of-no-turn = run-of-turns.run-none
 -- ---- demand 3, first half
 
 -- "Let a channel attention start a command list .. within 132 times n turns all n are done as in 2, once each, in list order". Done as in 2: each
--- with its status, its frame, the events that it raises, and at each turn the edge in the answer and the SCB's status word
+-- with its status, which has C and stands in its block, its frame, the events that it raises, and at each of the command unit's turns the edge in the
+-- answer and the SCB's status word
 pub a-list-is-done : (bs : List ℕ) (es : List Event) (w : World) → Starts w
     → firstOf bs ≡ wordAt (w .memory) (ofScb (w .device .units) cblAt)
     → Listed (step (call attention) w .device .units .base) (step (call attention) w .memory) bs
@@ -340,20 +341,22 @@ pub a-resumed-list-is-done : (bs : List ℕ) (es : List Event) (w : World) → R
     → Done bs es (step (call attention) w)
 a-resumed-list-is-done = whole.resumed-list-done
 
--- the same over the calls on the areas that the host lends, refused calls among them: every answer and byte is the definitions', and the frames that
--- the caller is told are those that are sent
+-- the same over the calls on the areas that the host lends, refused calls among them: every answer and byte is the definitions', from the attention on,
+-- and the frames that the caller is told are those that are sent
 pub a-list-is-done-on-bytes : (bs : List ℕ) (ls : List Lending) (a : Areas) (d : Device) → AreBytes a → Holds (a .kept) d
     → isRefused (called attention a) ≡ false → Starts (worldIn d a) → firstOf bs ≡ wordAt (a .memory) (ofScb (d .units) cblAt)
     → Listed (d .units .base) (step (call attention) (worldIn d a) .memory) bs
     → PremisesOnBytes DuringList enough bs ls (called attention a .areas) (step (call attention) (worldIn d a))
-    → DoneOnBytes bs ls (called attention a .areas) (step (call attention) (worldIn d a))
+    → (called attention a ≡ onBytes (ran attention (worldIn d a)))
+    × DoneOnBytes bs ls (called attention a .areas) (step (call attention) (worldIn d a))
 a-list-is-done-on-bytes = list-bytes.areas-list-done
 
 pub a-resumed-list-is-done-on-bytes : (bs : List ℕ) (ls : List Lending) (a : Areas) (d : Device) → AreBytes a → Holds (a .kept) d
     → isRefused (called attention a) ≡ false → Resumes (firstOf bs) (worldIn d a)
     → Listed (d .units .base) (step (call attention) (worldIn d a) .memory) bs
     → PremisesOnBytes DuringList enough bs ls (called attention a .areas) (step (call attention) (worldIn d a))
-    → DoneOnBytes bs ls (called attention a .areas) (step (call attention) (worldIn d a))
+    → (called attention a ≡ onBytes (ran attention (worldIn d a)))
+    × DoneOnBytes bs ls (called attention a .areas) (step (call attention) (worldIn d a))
 a-resumed-list-is-done-on-bytes = list-bytes.areas-resumed-done
 
 -- the same where runs of turns are among the calls: a run is as many turns as its answer says, and `unrolled` has those turns in its place
@@ -361,14 +364,16 @@ pub a-list-is-done-by-runs : (bs : List ℕ) (ds : List Drive) (a : Areas) (d : 
     → isRefused (called attention a) ≡ false → Starts (worldIn d a) → firstOf bs ≡ wordAt (a .memory) (ofScb (d .units) cblAt)
     → Listed (d .units .base) (step (call attention) (worldIn d a) .memory) bs
     → PremisesByRuns DuringList enough bs ds (called attention a .areas) (step (call attention) (worldIn d a))
-    → DoneByRuns bs ds (called attention a .areas) (step (call attention) (worldIn d a))
+    → (called attention a ≡ onBytes (ran attention (worldIn d a)))
+    × DoneByRuns bs ds (called attention a .areas) (step (call attention) (worldIn d a))
 a-list-is-done-by-runs = list-bytes.runs-list-done
 
 pub a-resumed-list-is-done-by-runs : (bs : List ℕ) (ds : List Drive) (a : Areas) (d : Device) → AreBytes a → Holds (a .kept) d
     → isRefused (called attention a) ≡ false → Resumes (firstOf bs) (worldIn d a)
     → Listed (d .units .base) (step (call attention) (worldIn d a) .memory) bs
     → PremisesByRuns DuringList enough bs ds (called attention a .areas) (step (call attention) (worldIn d a))
-    → DoneByRuns bs ds (called attention a .areas) (step (call attention) (worldIn d a))
+    → (called attention a ≡ onBytes (ran attention (worldIn d a)))
+    × DoneByRuns bs ds (called attention a .areas) (step (call attention) (worldIn d a))
 a-resumed-list-is-done-by-runs = list-bytes.runs-resumed-done
 
 -- 132 is exact: with 131 for one command, or 263 for two, the statement is false

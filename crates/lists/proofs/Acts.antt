@@ -29,7 +29,7 @@ use Rattle.lists.specs.Unit.{endReads, readsBy}
 use Rattle.lists.proofs.Laws.{act-local}
 use Rattle.lists.proofs.Blocks.{sub-append, range-first, link-in, own-in, marked-same}
 use Rattle.lists.proofs.Stands.{Begins, Lies, Leads, partWith}
-use Rattle.lists.proofs.Ends.{acted-writes, at-end}
+use Rattle.lists.proofs.Ends.{acted-writes, end-in, at-end}
 
 module _ (base : RealAddress) (m₀ : List ℕ) (big : 8192 ≤ length m₀) where
   -- ---- what an action reads: what its kind and its count make it read
@@ -109,6 +109,9 @@ module _ (base : RealAddress) (m₀ : List ℕ) (big : 8192 ≤ length m₀) whe
         setup = g .setup;
         noted = g .noted;
         fewer = g .rank;
+        writes = end-in base m₀ big s c cs (a .writes) (a .status) (acted-writes (cmd (wordOf base m₀ c)) base s c q);
+        words = g .words;
+        missed = g .missed;
       }
 
   ending : (s : Setup) (out : List ℕ) (c : ℕ) (cs q : List ℕ) (r filled : ℕ) → eqb (cmd (wordOf base m₀ c)) transmit ≡ true
@@ -125,6 +128,9 @@ module _ (base : RealAddress) (m₀ : List ℕ) (big : 8192 ≤ length m₀) whe
         setup = g .setup;
         noted = g .noted;
         fewer = g .rank;
+        writes = end-in base m₀ big s c cs (a .writes) (a .status) (sub-nil _);
+        words = g .words;
+        missed = g .missed;
       }
 
   failing : (s : Setup) (out : List ℕ) (c : ℕ) (cs q : List ℕ) (r : ℕ) → eqb (cmd (wordOf base m₀ c)) transmit ≡ true
@@ -141,6 +147,9 @@ module _ (base : RealAddress) (m₀ : List ℕ) (big : 8192 ≤ length m₀) whe
         setup = g .setup;
         noted = g .noted;
         fewer = g .rank;
+        writes = end-in base m₀ big s c cs (a .writes) (a .status) (sub-nil _);
+        words = g .words;
+        missed = g .missed;
       }
 
   pub at-acting : (s : Setup) (out : List ℕ) (c : ℕ) (cs q : List ℕ) (r : ℕ) (b : Begun) (a : Action) → Begins base m₀ false s b c q

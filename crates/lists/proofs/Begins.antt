@@ -25,8 +25,8 @@ use Rattle.progress.proofs.Same.{Sub, sub-nil, in-left, in-right, same-apply, s
 use Rattle.lists.specs.Uses.{block, from, wordOf, addressLengthOf, headerBytes, headerLengthOf, marked, uses, chainBytes, firstBytes, listSetup, listBytes}
 use Rattle.lists.specs.Unit.{Tag, begun, beginReads, readsBy}
 use Rattle.lists.proofs.Laws.{begun-setup, begun-base}
-use Rattle.lists.proofs.Blocks.{sub-refl, sub-append, command-in, own-in, word-targets, status-result, later}
-use Rattle.lists.proofs.Stands.{begunTodo, todo, rank, Begins, Now, Lies, Leads, partWith}
+use Rattle.lists.proofs.Blocks.{sub-refl, sub-append, status-in, command-in, own-in, word-targets, status-result, later}
+use Rattle.lists.proofs.Stands.{begunTodo, todo, rank, misses-nil, Begins, Now, Lies, Leads, partWith}
 
 -- ---- the unit that a begin leaves
 
@@ -133,6 +133,9 @@ module _ (base : RealAddress) (m₀ : List ℕ) where
         setup = ap (λ (x : Setup). listSetup base x m₀ (c ∷ cs)) (begun-setup t p b w q);
         noted = ap (λ (x : List Tag). begun c ∷ x) (begun-todo t p b w q c cs);
         fewer = begun-rank t p b w q (length cs);
+        writes = λ a i. in-left _ (status-in base s m₀ c a (word-targets (place base (block c) blockStatusAt) 0x4000 a i));
+        words = sub-nil (listBytes base s m₀ (c ∷ cs));
+        missed = misses-nil (length m₀) (listBytes base (toBegun t p b w q .setup) m₀ (c ∷ cs));
       }
 
   -- and it reads bytes of its command alone

@@ -1,24 +1,25 @@
 -- The bytes of a block and of what its command uses: where they lie, and what the command's own results leave alone. Assumes nothing.
-use mathlib.Core.Path.{_≡_, sym}
+use mathlib.Core.Path.{_≡_, refl, sym, subst}
 use mathlib.Core.Logic.{_≢_}
 use mathlib.Core.Bool.{Bool, true, false}
 use mathlib.Core.List.{List, [], _∷_, _++_}
 use Prim.Native.Nat.{ℕ, zero, suc, _+_, _-_, _%_, _≤_, _<_}
 use native.Mathlib.Omega.{arith}
+use borrow.Author.Tests.{eqb-true}
 use lib.Dec.{eqb}
 use lib.ListN.{length}
 use Rattle.memory.specs.Memory.{Write, wordTo, apply, digits}
 use Rattle.memory.specs.Address.{place}
 use Rattle.memory.specs.declared.RealAddress.{RealAddress}
 use Rattle.memory.proofs.Laws.{apart, length-apply}
-use Rattle.device.specs.Numbers.{transmit, actionNumber}
+use Rattle.device.specs.Numbers.{transmit, actionOf, actionNumber}
 use Rattle.device.specs.declared.Action.the-variants as action
 use Rattle.actions.specs.Block.{blockStatusAt, blockCommandAt, blockLinkAt, argumentAt}
 use Rattle.actions.specs.Setup.{Setup}
 use Rattle.command.specs.Begin.{cmd}
 use Rattle.progress.specs.Same.{In, here, there, range, targets, Same}
 use Rattle.progress.proofs.Same.{Sub, sub-nil, each-nil, each-cons, in-left, in-right, same-trans, apart-writes}
-use Rattle.lists.specs.Uses.{block, from, wordOf, marked, uses, ownBytes, resultBytes, tdrBytes, setupAfter, listBytes, NoClash}
+use Rattle.lists.specs.Uses.{block, from, wordOf, marked, uses, argumentBytes, ownBytes, resultBytes, tdrBytes, setupAfter, listBytes, NoClash}
 
 -- ---- parts of lists
 
@@ -72,7 +73,12 @@ fields-apart n big base c f k g l h t x y i j e =
     let s : y + (x - y) ≡ x = omega (arith, p .0, r .1) in
     apart y (x - y) n (omega (arith, p .0, r .1)) (omega (arith, p .1, r .0)) (rw s e)
 
--- what a command uses besides its status word
+-- what a command uses: its status word
+pub status-in : (base : RealAddress) (s : Setup) (m : List ℕ) (c : ℕ) → Sub (from base c blockStatusAt 2) (uses base s m c)
+unfolding uses range
+status-in base s m c a i = in-left _ i
+
+-- and besides
 pub command-in : (base : RealAddress) (s : Setup) (m : List ℕ) (c : ℕ) → Sub (from base c blockCommandAt 2) (uses base s m c)
 unfolding uses range
 command-in base s m c a i = in-right (from base c blockStatusAt 2) (in-left _ i)
@@ -96,6 +102,21 @@ pub tdr-result : (base : RealAddress) (m : List ℕ) (c : ℕ)
     → Sub (tdrBytes (eqb (cmd (wordOf base m c)) (actionNumber action.Tdr)) base c) (resultBytes base m c)
 unfolding resultBytes
 tdr-result base m c a i = in-right (from base c blockStatusAt 2) i
+
+-- and results are among the bytes that the command uses
+tdr-in : (t : Bool) (base : RealAddress) (s : Setup) (m : List ℕ) (c : ℕ) → eqb (cmd (wordOf base m c)) (actionNumber action.Tdr) ≡ t
+    → Sub (tdrBytes t base c) (uses base s m c)
+unfolding actionOf
+tdr-in true base s m c e =
+    let n : cmd (wordOf base m c) ≡ actionNumber action.Tdr = eqb-true _ _ e in
+    let k : eqb (cmd (wordOf base m c)) transmit ≡ false = rw n in
+    subst (λ (x : ℕ). Sub (argumentBytes (actionOf x) base s m c) (uses base s m c)) n (own-in base s m c false k)
+tdr-in false base s m c e = sub-nil (uses base s m c)
+
+pub result-in : (base : RealAddress) (s : Setup) (m : List ℕ) (c : ℕ) → Sub (resultBytes base m c) (uses base s m c)
+unfolding resultBytes
+result-in base s m c =
+    sub-append (from base c blockStatusAt 2) (status-in base s m c) (tdr-in (eqb (cmd (wordOf base m c)) (actionNumber action.Tdr)) base s m c refl)
 
 -- ---- what a command's own results leave alone
 

@@ -13,7 +13,7 @@ use Rattle.scb.specs.Words.{cblAt}
 use Rattle.device.specs.declared.Device.{Device}
 use Rattle.command.specs.Part.{Part}
 use Rattle.control.specs.Obey.{ofScb}
-use Rattle.chip.specs.Call.{attention}
+use Rattle.chip.specs.Call.{attention, ran}
 use Rattle.chip.specs.Attention.{attentionOf}
 use Rattle.chip.specs.World.{World}
 use Rattle.calls.specs.Calls.{Areas, onBytes, attentionCall}
@@ -24,7 +24,7 @@ use Rattle.traces.specs.Bytes.{called, isRefused}
 use Rattle.traces.specs.Event.{Event, call, step, isTurn, DuringList}
 use Rattle.traces.specs.Areas.{AreBytes, Holds, worldIn, Shows}
 use Rattle.traces.specs.Driven.{Lending, eventsOf, Drive, unrolled}
-use Rattle.closure.proofs.Carried.{carry-shown}
+use Rattle.closure.proofs.Carried.{carry, carry-shown}
 use Rattle.closure.proofs.Driven.{turns-same, fair-along, LetsTurns, spread}
 use Rattle.closure.proofs.Told.{fair-said, told-along, driven-told}
 use Rattle.lists.specs.Uses.{block, Listed, firstOf}
@@ -48,6 +48,11 @@ pub start-shows : (a : Areas) (d : Device) → AreBytes a → Holds (a .kept) d 
     → Shows (called attention a .areas) (step (call attention) (worldIn d a))
 start-shows a d l h r =
     carry-shown attention a (worldIn d a) bytes-nil l (record { memory = refl; holding = refl; outgoing = refl; kept = h }) r .0
+
+-- and what it answers and leaves is what the definitions say
+start-said : (a : Areas) (d : Device) → AreBytes a → Holds (a .kept) d → isRefused (called attention a) ≡ false
+    → called attention a ≡ onBytes (ran attention (worldIn d a))
+start-said a d l h r = carry attention a d bytes-nil l h r .same
 
 -- whichever way it was started
 module _ (May : Event → World → Type 0) (K : Laws machine May) where
@@ -97,15 +102,16 @@ module _ (May : Event → World → Type 0) (K : Laws machine May) where
 -- The starting attention is not refused; a is what it is lent, and its record holds the state d. Then come calls, refused or not, each with what it
 -- is lent: one that is not refused is no attention and no reset, is lent bytes, and finds record and outgoing area as the last such call left them.
 -- Nothing writes into the list but each command's own results, of which none is a later command's byte, and N stays. Once 132 n turns have come
--- that are not refused, all n are done as the definitions say, once each, in list order, nothing else is begun, and what stands in the areas and
--- in the record is what the definitions leave
+-- that are not refused, all n are done as the definitions say, once each, in list order, nothing else is begun, and what the attention and every
+-- call after it answer and leave, up to what stands in the areas and in the record at the end, is what the definitions say
 pub areas-list-done : (bs : List ℕ) (ls : List Lending) (a : Areas) (d : Device) → AreBytes a → Holds (a .kept) d
     → isRefused (called attention a) ≡ false → Starts (worldIn d a) → firstOf bs ≡ wordAt (a .memory) (ofScb (d .units) cblAt)
     → Listed (d .units .base) (step (call attention) (worldIn d a) .memory) bs
     → PremisesOnBytes DuringList enough bs ls (called attention a .areas) (step (call attention) (worldIn d a))
-    → DoneOnBytes bs ls (called attention a .areas) (step (call attention) (worldIn d a))
+    → (called attention a ≡ onBytes (ran attention (worldIn d a)))
+    × DoneOnBytes bs ls (called attention a .areas) (step (call attention) (worldIn d a))
 areas-list-done bs ls a d l h r s first listed p =
-    begun-on-bytes DuringList list-laws bs ls a d l h r (begins bs (worldIn d a) s first) listed p
+    (start-said a d l h r, begun-on-bytes DuringList list-laws bs ls a d l h r (begins bs (worldIn d a) s first) listed p)
 
 pub list-turns : LetsTurns DuringList
 list-turns = record { still = λ a. (refl, refl); turns = λ report w. (refl, tt) }
@@ -116,9 +122,10 @@ pub runs-list-done : (bs : List ℕ) (ds : List Drive) (a : Areas) (d : Device) 
     → isRefused (called attention a) ≡ false → Starts (worldIn d a) → firstOf bs ≡ wordAt (a .memory) (ofScb (d .units) cblAt)
     → Listed (d .units .base) (step (call attention) (worldIn d a) .memory) bs
     → PremisesByRuns DuringList enough bs ds (called attention a .areas) (step (call attention) (worldIn d a))
-    → DoneByRuns bs ds (called attention a .areas) (step (call attention) (worldIn d a))
+    → (called attention a ≡ onBytes (ran attention (worldIn d a)))
+    × DoneByRuns bs ds (called attention a .areas) (step (call attention) (worldIn d a))
 runs-list-done bs ds a d l h r s first listed p =
-    begun-by-runs DuringList list-laws list-turns bs ds a d l h r (begins bs (worldIn d a) s first) listed p
+    (start-said a d l h r, begun-by-runs DuringList list-laws list-turns bs ds a d l h r (begins bs (worldIn d a) s first) listed p)
 
 -- ---- RESUME: the same, from the block on before which the unit was suspended
 
@@ -126,14 +133,16 @@ pub areas-resumed-done : (bs : List ℕ) (ls : List Lending) (a : Areas) (d : De
     → isRefused (called attention a) ≡ false → Resumes (firstOf bs) (worldIn d a)
     → Listed (d .units .base) (step (call attention) (worldIn d a) .memory) bs
     → PremisesOnBytes DuringList enough bs ls (called attention a .areas) (step (call attention) (worldIn d a))
-    → DoneOnBytes bs ls (called attention a .areas) (step (call attention) (worldIn d a))
+    → (called attention a ≡ onBytes (ran attention (worldIn d a)))
+    × DoneOnBytes bs ls (called attention a .areas) (step (call attention) (worldIn d a))
 areas-resumed-done bs ls a d l h r s listed p =
-    begun-on-bytes DuringList list-laws bs ls a d l h r (resumes (firstOf bs) (worldIn d a) s) listed p
+    (start-said a d l h r, begun-on-bytes DuringList list-laws bs ls a d l h r (resumes (firstOf bs) (worldIn d a) s) listed p)
 
 pub runs-resumed-done : (bs : List ℕ) (ds : List Drive) (a : Areas) (d : Device) → AreBytes a → Holds (a .kept) d
     → isRefused (called attention a) ≡ false → Resumes (firstOf bs) (worldIn d a)
     → Listed (d .units .base) (step (call attention) (worldIn d a) .memory) bs
     → PremisesByRuns DuringList enough bs ds (called attention a .areas) (step (call attention) (worldIn d a))
-    → DoneByRuns bs ds (called attention a .areas) (step (call attention) (worldIn d a))
+    → (called attention a ≡ onBytes (ran attention (worldIn d a)))
+    × DoneByRuns bs ds (called attention a .areas) (step (call attention) (worldIn d a))
 runs-resumed-done bs ds a d l h r s listed p =
-    begun-by-runs DuringList list-laws list-turns bs ds a d l h r (resumes (firstOf bs) (worldIn d a) s) listed p
+    (start-said a d l h r, begun-by-runs DuringList list-laws list-turns bs ds a d l h r (resumes (firstOf bs) (worldIn d a) s) listed p)

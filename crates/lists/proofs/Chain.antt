@@ -24,7 +24,7 @@ use Rattle.lists.specs.Uses.{marked, uses, descriptorBytes, behind, chai
 use Rattle.lists.specs.Unit.{dataReads, readsBy}
 use Rattle.lists.proofs.Laws.{descriptor-local}
 use Rattle.lists.proofs.Blocks.{sub-refl, sub-append}
-use Rattle.lists.proofs.Stands.{begunTodo, todo, rank, Begins, Walks, Now, Lies, Leads, partWith}
+use Rattle.lists.proofs.Stands.{begunTodo, todo, rank, misses-nil, Begins, Walks, Now, Lies, Leads, partWith}
 
 -- ---- the unit that a buffer leaves, by its tests
 
@@ -95,6 +95,9 @@ module _ (base : RealAddress) (m₀ : List ℕ) where
         setup = refl;
         noted = rw e (next-todo (fits d w) (d .eof) (isNone (d .next)) (isLast (w .used)) b (past d w) c cs);
         fewer = rw e (next-rank (fits d w) (d .eof) (isNone (d .next)) (isLast (w .used)) b (past d w) (w .used) (k .0) (length cs) refl (k .1));
+        writes = sub-nil (listBytes base s m₀ (c ∷ cs));
+        words = sub-nil (listBytes base s m₀ (c ∷ cs));
+        missed = misses-nil (length m₀) (listBytes base s m₀ (c ∷ cs));
       }
 
   -- and it reads bytes of its command alone

@@ -1,8 +1,9 @@
 -- An end of the command unit alone leads on in its list: to the next block, or out of Active after the last. Assumes nothing.
 use mathlib.Core.Path.{_≡_, refl, sym, ap, _∙_, subst}
+use mathlib.Core.Logic.{_≢_}
 use mathlib.Core.Bool.{Bool, true, false, cond, _||_, true≢false, false≢true}
 use mathlib.Core.List.{List, [], _∷_, _++_}
-use Prim.Native.Nat.{ℕ, _+_, _*_, _≤_, _<_}
+use Prim.Native.Nat.{ℕ, _+_, _*_, _%_, _≤_, _<_}
 use native.Mathlib.Omega.{arith}
 use lib.Dec.{eqb}
 use lib.ListN.{length}
@@ -22,11 +23,11 @@ use Rattle.actions.specs.Setup.{Setup}
 use Rattle.command.specs.Begin.{cmd, begunBy}
 use Rattle.command.specs.End.{afterEnd, raisedBy, nextAfter}
 use Rattle.progress.specs.Same.{targets, Same}
-use Rattle.progress.proofs.Same.{Sub, sub-nil, in-left, in-right, same-trans, same-part, same-field, apart-writes}
-use Rattle.lists.specs.Uses.{block, from, wordOf, marked, uses, resultBytes, tdrBytes, setupAfter, listSetup, listBytes, stops}
+use Rattle.progress.proofs.Same.{Sub, sub-nil, each-nil, in-left, in-right, same-trans, same-part, same-field, apart-writes}
+use Rattle.lists.specs.Uses.{block, from, wordOf, marked, uses, resultBytes, tdrBytes, setupAfter, listSetup, listBytes, NoClash, stops}
 use Rattle.lists.specs.Unit.{done}
-use Rattle.lists.proofs.Blocks.{sub-refl, word-targets, targets-append, link-in, status-result, tdr-result, link-apart, marked-same, marked-size, later, rest-in}
-use Rattle.lists.proofs.Stands.{begunTodo, todo, rank, Lies, Stands, partWith}
+use Rattle.lists.proofs.Blocks.{sub-refl, sub-append, each-append, word-targets, targets-append, status-in, link-in, status-result, tdr-result, result-in, link-apart, marked-same, marked-size, later, rest-in}
+use Rattle.lists.proofs.Stands.{begunTodo, todo, rank, Misses, Lies, Stands, partWith}
 
 -- ---- what an action writes besides the status: TDR its word, and no other anything
 
@@ -84,6 +85,10 @@ module _ (base : RealAddress) (m₀ : List ℕ) (big : 8192 ≤ length m₀) whe
       targets-append ws (wordTo (place base (block c) blockStatusAt) status ∷ []) (λ a i. tdr-result base m₀ c a (h a i))
       (λ a i. status-result base m₀ c a (word-targets (place base (block c) blockStatusAt) status a i))
 
+  pub end-in : (s : Setup) (c : ℕ) (cs : List ℕ) (ws : List Write) (status : ℕ) → Sub (targets ws) (tdrOf c)
+      → Sub (targets (ws ++ (wordTo (place base (block c) blockStatusAt) status ∷ []))) (listBytes base s m₀ (c ∷ cs))
+  end-in s c cs ws status h a i = in-left _ (result-in base s m₀ c a (end-writes c ws status h a i))
+
   -- the link, read after them, is that of the start
   end-link : (s : Setup) (c : ℕ) (ws : List Write) (status : ℕ) (q : List ℕ) → Sub (targets ws) (tdrOf c) → Same (uses base s m₀ c) q (marked base m₀ c)
       → wordAt (apply (ws ++ (wordTo (place base (block c) blockStatusAt) status ∷ [])) q) (place base (block c) blockLinkAt)
@@ -126,6 +131,20 @@ module _ (base : RealAddress) (m₀ : List ℕ) (big : 8192 ≤ length m₀) whe
     pub setup : listSetup base x m₀ cs ≡ listSetup base s m₀ (c ∷ cs)
     pub noted : done c (raisedBy (begunBy (block c) (wordOf base m₀ c)) unit) ∷ todo base m₀ unit cs ≡ begunTodo base m₀ c cs
     pub rank : rank unit (length cs) < 1 + 66 * length cs
+    pub words : Sub (from base c blockStatusAt 2 ++ []) (listBytes base s m₀ (c ∷ cs))
+    pub missed : Misses (length m₀) (listBytes base x m₀ cs) (from base c blockStatusAt 2 ++ [])
+
+  -- its status word is a byte of the list, and of no command behind it
+  status-listed : (s : Setup) (c : ℕ) (cs : List ℕ) → Sub (from base c blockStatusAt 2 ++ []) (listBytes base s m₀ (c ∷ cs))
+  status-listed s c cs =
+      sub-append (from base c blockStatusAt 2) (λ a i. in-left _ (status-in base s m₀ c a i)) (sub-nil (listBytes base s m₀ (c ∷ cs)))
+
+  status-missed : (s x : Setup) (c : ℕ) (cs : List ℕ) → x ≡ setupAfter base s m₀ c → NoClash (length m₀) base s m₀ (c ∷ cs)
+      → Misses (length m₀) (listBytes base x m₀ cs) (from base c blockStatusAt 2 ++ [])
+  status-missed s x c cs u nc =
+      rw u
+      (λ a b i. each-append (λ z. a % length m₀ ≢ z % length m₀) (from base c blockStatusAt 2)
+      (λ z j. nc .0 a z i (status-result base m₀ c z j)) (each-nil (λ z. a % length m₀ ≢ z % length m₀)) b)
 
   -- the next command, and those behind it, under the setup that c leaves
   next-stands : (s : Setup) (c d : ℕ) (ds q : List ℕ) (out : List ℕ) → Lies base m₀ s c (d ∷ ds) q
@@ -149,6 +168,8 @@ module _ (base : RealAddress) (m₀ : List ℕ) (big : 8192 ≤ length m₀) whe
         setup = u;
         noted = rw h;
         rank = rw (rank-out (unitAfter c a q) h) (omega arith);
+        words = status-listed s c [];
+        missed = status-missed s (a .setup) c [] u (l .apart);
       }
   at-end s c (d ∷ ds) a q u t k l =
       let e : unitAfter c a q ≡ cu.Waiting (block d) = end-next s c d a q (l .listed .0) (l .listed .1) t k in
@@ -169,4 +190,6 @@ module _ (base : RealAddress) (m₀ : List ℕ) (big : 8192 ≤ length m₀) whe
         setup = ap (λ (x : Setup). listSetup base x m₀ (d ∷ ds)) u;
         noted = rw e;
         rank = rw e (omega arith);
+        words = status-listed s c (d ∷ ds);
+        missed = status-missed s (a .setup) c (d ∷ ds) u (l .apart);
       }

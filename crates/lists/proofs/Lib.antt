@@ -10,6 +10,7 @@ pub mod Begins
 pub mod Chain
 pub mod Ends
 pub mod Acts
+pub mod Complete
 pub mod Order
 pub mod Whole
 pub mod Bytes

@@ -5,28 +5,33 @@ use mathlib.Core.List.{List, [], _∷_}
 use Prim.Native.Nat.{ℕ, suc, _*_, _≤_, _<_}
 use native.Mathlib.Omega.{arith}
 use lib.ListN.{length}
+use Rattle.memory.specs.Memory.{apply}
 use Rattle.memory.specs.declared.RealAddress.{RealAddress}
 use Rattle.memory.specs.declared.Offset.{Offset}
+use Rattle.memory.proofs.Laws.{length-apply}
 use Rattle.device.specs.State.{cuState, isActive}
 use Rattle.device.specs.declared.Cu.{Cu}
 use Rattle.device.specs.declared.Cu.the-variants as cu
 use Rattle.actions.specs.Setup.{Setup, setupOf}
 use Rattle.command.specs.Part.{Part, partOf}
+use Rattle.command.specs.Service.{service}
 use Rattle.chip.specs.World.{World}
 use Rattle.traces.specs.Event.{Event, step}
-use Rattle.progress.specs.Machine.{Laws, Listing, Covers, reports, part′, mem′, Finished}
+use Rattle.progress.specs.Machine.{Laws, Listing, Covers, Live, Alone, log, log′, reports, part′, mem′, Finished}
 use Rattle.progress.specs.Trace.{run}
-use Rattle.progress.proofs.Same.{Sub, in-left, same-refl}
+use Rattle.progress.specs.Same.{Same}
+use Rattle.progress.proofs.Same.{Sub, sub-nil, in-left, same-refl, same-trans, same-part, apart-writes}
 use Rattle.progress.proofs.Machine.{finish, ordered}
 use Rattle.lists.specs.Uses.{block, uses, setupAfter, listSetup, listBytes}
-use Rattle.lists.specs.Unit.{Tag, tag, readsBy, machine}
-use Rattle.lists.specs.Done.{Started, eachOnce, bytesOf, setupLeft, Apart, enough, Premises, Done}
+use Rattle.lists.specs.Unit.{Tag, tag, noteBy, readsBy, machine}
+use Rattle.lists.specs.Done.{Started, eachOnce, bytesOf, setupLeft, Apart, AllComplete, enough, Premises, Done}
 use Rattle.lists.proofs.Seen.{all-seen, frames-along}
-use Rattle.lists.proofs.Blocks.{sub-refl}
-use Rattle.lists.proofs.Stands.{todo, rank, Now, Lies, Stands, Leads, partWith}
+use Rattle.lists.proofs.Blocks.{sub-refl, sub-append}
+use Rattle.lists.proofs.Stands.{todo, rank, statusBytes, Misses, Now, Lies, Stands, Leads, partWith}
 use Rattle.lists.proofs.Begins.{at-begin, begin-reads}
 use Rattle.lists.proofs.Chain.{at-buffer, buffer-reads}
 use Rattle.lists.proofs.Acts.{at-acting, at-ending, at-failing, acting-reads, end-reads}
+use Rattle.lists.proofs.Complete.{service-complete, complete-append, complete-same, status-append}
 
 module _ (base : RealAddress) (m₀ : List ℕ) (big : 8192 ≤ length m₀) where
   -- ---- one service, whatever the unit is at
@@ -84,6 +89,52 @@ module _ (base : RealAddress) (m₀ : List ℕ) (big : 8192 ≤ length m₀) whe
       → listSetup base (p .setup) m₀ bs ≡ p .setup
   none-left [] p q i a = refl
   none-left (c ∷ cs) p q i a = absurd (false≢true (sym a ∙ busy (p .unit) (p .setup) c q (i .1)))
+
+  -- ---- what is done stays done
+
+  -- bytes that no block to do uses stay as they are
+  stays : (rs bs : List ℕ) (p : Part) (q F : List ℕ) → Stands base m₀ bs p q → Live machine rs p q → length q ≡ length m₀
+      → Misses (length m₀) (listBytes base (p .setup) m₀ bs) F → Same F (mem′ machine rs p q) q
+  stays [] bs p q F i l n h = same-refl F q
+  stays (r ∷ rs) bs p q F i l n h =
+      let k = next bs p q r i (l .0) in
+      let ws = service p q r .writes in
+      same-trans
+      (stays rs (k .left) (service p q r .part) (apply ws q) F (k .stands) (l .1) (length-apply ws q ∙ n) (λ x y j. h x y (k .part x j)))
+      (apart-writes F ws q (λ x y j t e. h y x (k .writes y t) j (rw n at (sym e))))
+
+  -- the status words of the commands done are bytes of the list
+  words-in : (rs bs : List ℕ) (p : Part) (q : List ℕ) → Stands base m₀ bs p q → Live machine rs p q
+      → Sub (statusBytes base (log′ machine rs p q)) (listBytes base (p .setup) m₀ bs)
+  words-in [] bs p q i l = sub-nil (listBytes base (p .setup) m₀ bs)
+  words-in (r ∷ rs) bs p q i l =
+      let k = next bs p q r i (l .0) in
+      let ns = noteBy (p .unit) p q r in
+      rw (status-append base ns (log′ machine rs (service p q r .part) (apply (service p q r .writes) q)))
+      (sub-append (statusBytes base ns) (k .words)
+      (λ x j. k .part x (words-in rs (k .left) (service p q r .part) (apply (service p q r .writes) q) (k .stands) (l .1) x j)))
+
+  -- a unit that has work is at this base
+  at-base : (bs : List ℕ) (p : Part) (q : List ℕ) → Stands base m₀ bs p q → isActive (cuState (p .unit)) ≡ true → p .base ≡ base
+  at-base [] p q i a = absurd (false≢true (sym i ∙ a))
+  at-base (c ∷ cs) p q i a = i .0
+
+  -- and each is complete at the end, when the unit alone has done them
+  complete-alone : (rs bs : List ℕ) (p : Part) (q : List ℕ) → Stands base m₀ bs p q → Live machine rs p q → length q ≡ length m₀
+      → AllComplete base (mem′ machine rs p q) (log′ machine rs p q)
+  complete-alone [] bs p q i l n = tt
+  complete-alone (r ∷ rs) bs p q i l n =
+      let k = next bs p q r i (l .0) in
+      let v = service p q r .part in
+      let q₁ = apply (service p q r .writes) q in
+      let n₁ : length q₁ ≡ length m₀ = length-apply (service p q r .writes) q ∙ n in
+      let ns = noteBy (p .unit) p q r in
+      let now : AllComplete base q₁ ns = rw (← at-base bs p q i (l .0)) (service-complete p q r (omega (arith, big, n))) in
+      complete-append base (mem′ machine rs v q₁) ns (log′ machine rs v q₁)
+      (complete-same base (mem′ machine rs v q₁) q₁ ns (stays rs (k .left) v q₁ (statusBytes base ns) (k .stands) (l .1) n₁ (k .missed)) now)
+      (complete-alone rs (k .left) v q₁ (k .stands) (l .1) n₁)
+
+  -- ---- what is read
 
   -- what a service reads is among the bytes of the command in work
   reads-at : (unit : Cu) (s : Setup) (out : List ℕ) (c : ℕ) (q : List ℕ) → Now base m₀ unit s c q
@@ -170,6 +221,20 @@ list-finished May laws bs es w st pr =
     finish machine (listing (w .device .units .base) (w .memory) (pr .size) L (setupLeft w bs)) May laws L bs es w (h, sub-refl L, refl)
     (covers-list bs w (pr .size) h) (pr .events) (pr .intact) (omega (arith, start-rank bs w st, pr .turns))
 
+-- what the unit alone has done is done so in the whole
+list-complete : (bs : List ℕ) (es : List Event) (w : World) → 8192 ≤ length (w .memory)
+    → Stands (w .device .units .base) (w .memory) bs (partOf (w .device) (w .outgoing)) (w .memory)
+    → Alone machine (bytesOf w bs) es w (partOf (w .device) (w .outgoing)) (w .memory)
+    → AllComplete (w .device .units .base) (run step es w .memory) (log machine es w)
+list-complete bs es w big st al =
+    let base = w .device .units .base in
+    let p = partOf (w .device) (w .outgoing) in
+    let rs = reports machine es w in
+    rw (al .notes)
+    (complete-same base (run step es w .memory) (mem′ machine rs p (w .memory)) (log′ machine rs p (w .memory))
+    (same-part (words-in base (w .memory) big rs bs p (w .memory) st (al .live)) (al .bytes))
+    (complete-alone base (w .memory) big rs bs p (w .memory) st (al .live) refl))
+
 -- Let a list of the blocks bs be started, the last the first that ends or suspends it; let no result be a byte of a later command; let the
 -- events of a trace be such as may occur, and nothing write into the list, as it stands at the start, but each command's own results. Once
 -- 132 times as many turns have come as there are blocks, all are done, once each, in list order, exactly as the command unit alone does them
@@ -181,6 +246,7 @@ listDone May laws bs es w st pr =
     record {
       order = f .order ∙ start-todo bs w st;
       notes = f .alone .notes;
+      complete = list-complete bs es w (pr .size) (stands-start bs w st (pr .apart)) (f .alone);
       told = frames-along es w;
       seen = all-seen es w;
       part = f .alone .part;

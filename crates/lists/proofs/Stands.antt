@@ -1,9 +1,10 @@
 -- The command unit alone at work on a list: what is known of it between two of its services, what is still to be noted, and at most how many
 -- services are left. Assumes nothing.
 use mathlib.Core.Path.{_≡_}
+use mathlib.Core.Logic.{_≢_}
 use mathlib.Core.Bool.{Bool, true, false}
 use mathlib.Core.List.{List, [], _∷_, _++_, map}
-use Prim.Native.Nat.{ℕ, suc, _+_, _-_, _*_, _<_, pred}
+use Prim.Native.Nat.{ℕ, suc, _+_, _-_, _*_, _%_, _<_, pred}
 use lib.Dec.{eqb}
 use lib.ListN.{length}
 use Rattle.memory.specs.Memory.{apply}
@@ -15,14 +16,15 @@ use Rattle.device.specs.State.{cuState, isActive}
 use Rattle.device.specs.declared.Begun.{Begun}
 use Rattle.device.specs.declared.Cu.{Cu}
 use Rattle.device.specs.declared.Cu.the-variants as cu
+use Rattle.actions.specs.Block.{blockStatusAt}
 use Rattle.actions.specs.Setup.{Setup}
 use Rattle.command.specs.Begin.{cmd, begunBy}
 use Rattle.command.specs.Part.{Part}
 use Rattle.command.specs.Service.{service}
-use Rattle.progress.specs.Same.{Same}
-use Rattle.progress.proofs.Same.{Sub}
-use Rattle.lists.specs.Uses.{block, wordOf, marked, uses, chainBytes, setupAfter, listSetup, listBytes, NoClash, Listed}
-use Rattle.lists.specs.Unit.{noteBy, Tag, done, tag}
+use Rattle.progress.specs.Same.{In, targets, Same}
+use Rattle.progress.proofs.Same.{Sub, each-nil}
+use Rattle.lists.specs.Uses.{block, from, wordOf, marked, uses, chainBytes, setupAfter, listSetup, listBytes, NoClash, Listed}
+use Rattle.lists.specs.Unit.{Note, began, ended, noteBy, Tag, done, tag}
 use Rattle.lists.specs.Done.{isLast, due, eachOnce}
 
 -- at most so many services are left, with n commands to do: a begin, a buffer for each of 64 descriptors, an end
@@ -34,6 +36,19 @@ rank (cu.Acting b a) n = 1 + 66 * pred n
 rank (cu.Sending b w) n = 65 - w .used + 66 * pred n
 rank (cu.Ending b filled) n = 1 + 66 * pred n
 rank (cu.Failing b) n = 1 + 66 * pred n
+
+-- the bytes of the status words of the commands that are noted as done
+abbrev pub statusBytes : RealAddress → List Note → List ℕ
+statusBytes base [] = []
+statusBytes base (began c ∷ ns) = statusBytes base ns
+statusBytes base (ended c status frames raised ∷ ns) = from base c blockStatusAt 2 ++ statusBytes base ns
+
+-- no byte of L is a byte of F, addresses taken modulo n
+abbrev pub Misses : ℕ → List ℕ → List ℕ → Type 0
+Misses n L F = (x y : ℕ) → In x L → In y F → x % n ≢ y % n
+
+pub misses-nil : (n : ℕ) (L : List ℕ) → Misses n L []
+misses-nil n L x y i j = each-nil (λ z. x % n ≢ z % n) y j
 
 module _ (base : RealAddress) (m₀ : List ℕ) where
   -- what is still to be noted, once the command at c is begun
@@ -85,7 +100,8 @@ module _ (base : RealAddress) (m₀ : List ℕ) where
   Stands (c ∷ cs) p q = (p .base ≡ base) × Now (p .unit) (p .setup) c q × Lies (p .setup) c cs q
 
   -- a service leads on: with the blocks left to do, whose bytes are among those before, and which leave the setup that was to be left; what it
-  -- notes was the next to be noted; fewer services are left
+  -- notes was the next to be noted; fewer services are left. What it writes are bytes of the list, and so are the status words that it notes, which
+  -- no command left to do uses
   pub record Leads (bs : List ℕ) (p : Part) (q : List ℕ) (r : ℕ) : Type 0 where
     pub left : List ℕ
     pub stands : Stands left (service p q r .part) (apply (service p q r .writes) q)
@@ -93,6 +109,9 @@ module _ (base : RealAddress) (m₀ : List ℕ) where
     pub setup : listSetup base (service p q r .part .setup) m₀ left ≡ listSetup base (p .setup) m₀ bs
     pub noted : map tag (noteBy (p .unit) p q r) ++ todo (service p q r .part .unit) left ≡ todo (p .unit) bs
     pub fewer : rank (service p q r .part .unit) (length left) < rank (p .unit) (length bs)
+    pub writes : Sub (targets (service p q r .writes)) (listBytes base (p .setup) m₀ bs)
+    pub words : Sub (statusBytes base (noteBy (p .unit) p q r)) (listBytes base (p .setup) m₀ bs)
+    pub missed : Misses (length m₀) (listBytes base (service p q r .part .setup) m₀ left) (statusBytes base (noteBy (p .unit) p q r))
 
 -- a part with its base and unit as said
 abbrev pub partWith : RealAddress → Cu → Setup → List ℕ → Part

@@ -4,12 +4,14 @@ use mathlib.Core.Bool.{Bool, true, false}
 use mathlib.Core.List.{List, [], _∷_, map}
 use Prim.Native.Nat.{ℕ, _*_, _≤_}
 use lib.ListN.{length}
+use Rattle.memory.specs.Address.{place}
 use Rattle.memory.specs.Memory.{wordAt}
 use Rattle.memory.specs.declared.RealAddress.{RealAddress}
 use Rattle.scb.specs.Words.{bit, scbCommandAt, cuc, resets}
 use Rattle.scb.specs.declared.Events.{Events}
 use Rattle.device.specs.State.{cuState, isActive}
 use Rattle.device.specs.declared.Cu.the-variants as cu
+use Rattle.actions.specs.Block.{blockStatusAt}
 use Rattle.actions.specs.Setup.{Setup, setupOf}
 use Rattle.command.specs.Part.{partOf}
 use Rattle.control.specs.Obey.{ofScb}
@@ -20,7 +22,7 @@ use Rattle.progress.specs.Trace.{run, AllMay, turns}
 use Rattle.progress.specs.Machine.{log, log′, reports, part′, mem′, Undisturbed}
 use Rattle.progress.specs.Same.{Same}
 use Rattle.lists.specs.Uses.{block, wordOf, listSetup, listBytes, NoClash, Listed, firstOf}
-use Rattle.lists.specs.Unit.{machine, Tag, begun, done, tag}
+use Rattle.lists.specs.Unit.{machine, Note, began, ended, Tag, begun, done, tag}
 use Rattle.lists.specs.Seen.{AllSeen, framesOf}
 
 -- ---- the start
@@ -72,11 +74,20 @@ setupLeft w bs = listSetup (w .device .units .base) (setupOf (w .device)) (w .me
 abbrev pub Apart : List ℕ → World → Type 0
 Apart bs w = NoClash (length (w .memory)) (w .device .units .base) (setupOf (w .device)) (w .memory) bs
 
+-- each command that is noted as done is complete in m: its status has C, and is the word that stands in its block
+abbrev pub AllComplete : RealAddress → List ℕ → List Note → Type 0
+AllComplete base m [] = Unit {0}
+AllComplete base m (began c ∷ ns) = AllComplete base m ns
+AllComplete base m (ended c status frames raised ∷ ns) =
+    (bit status 15 ≡ true) × (wordAt m (place base (block c) blockStatusAt) ≡ status) × AllComplete base m ns
+
 pub record Done (bs : List ℕ) (es : List Event) (w : World) : Type 0 where
   -- begun, and done with the events that are due, once each, in list order, and nothing else is begun
   pub order : map tag (log machine es w) ≡ eachOnce (w .device .units .base) (w .memory) bs
   -- each as the definitions say: status, frame sent, events raised
   pub notes : log machine es w ≡ log′ machine (reports machine es w) (partOf (w .device) (w .outgoing)) (w .memory)
+  -- its status, with C, is what the host then reads in its block
+  pub complete : AllComplete (w .device .units .base) (run step es w .memory) (log machine es w)
   -- and the host sees it: the frames in the answers are these; edge and SCB status at each of its turns are the events' and the units'
   pub told : framesAlong es w ≡ framesOf (log machine es w)
   pub seen : AllSeen es w

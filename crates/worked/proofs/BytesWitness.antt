@@ -143,4 +143,4 @@ pub bytes-done : DoneOnBytes three worked (called attention first .areas) begun
 unfolding keptb
 bytes-done =
     areas-list-done three worked first (before .device) (right-first .bytes) (right-first .holds)
-    not-refused starts refl (is-started .listed) bytes-premises
+    not-refused starts refl (is-started .listed) bytes-premises .1

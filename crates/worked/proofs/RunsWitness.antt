@@ -93,4 +93,4 @@ pub runs-done : DoneByRuns three (byRuns worked) (called attention first .areas)
 unfolding keptb
 runs-done =
     runs-list-done three (byRuns worked) first (before .device) (right-first .bytes) (right-first .holds) not-refused starts refl (is-started .listed)
-    runs-met
+    runs-met .1
