@@ -26,7 +26,7 @@ use Rattle.traces.specs.Areas.{AreBytes, Holds, worldIn, Shows}
 use Rattle.traces.specs.Driven.{Lending, eventsOf, Drive, unrolled}
 use Rattle.closure.proofs.Carried.{carry, carry-shown}
 use Rattle.closure.proofs.Driven.{turns-same, fair-along, LetsTurns, spread}
-use Rattle.closure.proofs.Told.{fair-said, told-along, driven-told}
+use Rattle.closure.proofs.Told.{fair-said, told-along, edges-along, driven-told, driven-edges}
 use Rattle.lists.specs.Uses.{block, Listed, firstOf}
 use Rattle.lists.specs.Unit.{machine}
 use Rattle.lists.specs.Done.{Starts, Resumes, enough, Done}
@@ -77,6 +77,7 @@ module _ (May : Event → World → Type 0) (K : Laws machine May) where
         said = fair-said May ls (called attention a .areas) v (p .fair) s;
         shows = along .0;
         told = told-along May ls (called attention a .areas) v (p .fair) s ∙ done .told;
+        edges = edges-along May ls (called attention a .areas) v (p .fair) s;
       }
 
   -- with runs of turns among the calls
@@ -95,6 +96,7 @@ module _ (May : Event → World → Type 0) (K : Laws machine May) where
         said = x .said;
         shows = subst (λ (y : Areas). Shows y (run step (eventsOf (unrolled ds)) v)) (s .leaves) (x .shows);
         told = driven-told May ds (called attention a .areas) (p .fair) ∙ x .told;
+        edges = driven-edges May ds (called attention a .areas) (p .fair) ∙ x .edges;
       }
 
 -- ---- START

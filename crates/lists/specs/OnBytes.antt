@@ -8,7 +8,7 @@ use Rattle.calls.specs.Calls.{Areas}
 use Rattle.traces.specs.Event.{Event, step}
 use Rattle.traces.specs.Areas.{Shows}
 use Rattle.traces.specs.Driven.{Lending, left, isTaken, eventsOf, Drive, leftDriven, turnsDriven, unrolled, AllFair, AllFairDrive}
-use Rattle.traces.specs.Told.{framesTold, framesDriven, AllSaid}
+use Rattle.traces.specs.Told.{framesTold, framesDriven, edgesAlong, edgesTold, edgesDriven, AllSaid}
 use Rattle.progress.specs.Trace.{run, turns}
 use Rattle.progress.specs.Machine.{log, Undisturbed}
 use Rattle.lists.specs.Unit.{machine}
@@ -35,6 +35,8 @@ pub record DoneOnBytes (bs : List ℕ) (ls : List Lending) (a : Areas) (v : Worl
   pub shows : Shows (run left ls a) (run step (eventsOf ls) v)
   -- the frames that the caller reads off the answers and the outgoing area are those that are noted as sent
   pub told : framesTold ls ≡ framesOf (log machine (eventsOf ls) v)
+  -- and as many edges are reported to it as the definitions report
+  pub edges : edgesTold ls ≡ edgesAlong (eventsOf ls) v
 
 -- ---- runs of turns among the calls: a run is as many turns as its answer says, and `unrolled` has those turns in its place
 
@@ -49,5 +51,6 @@ pub record DoneByRuns (bs : List ℕ) (ds : List Drive) (a : Areas) (v : World) 
   pub done : Done bs (eventsOf (unrolled ds)) v
   pub said : AllSaid (unrolled ds) v
   pub shows : Shows (run leftDriven ds a) (run step (eventsOf (unrolled ds)) v)
-  -- the frames that the caller reads off, in calls and in runs
+  -- the frames that the caller reads off, in calls and in runs, and the edges
   pub told : framesDriven ds ≡ framesOf (log machine (eventsOf (unrolled ds)) v)
+  pub edges : edgesDriven ds ≡ edgesAlong (eventsOf (unrolled ds)) v
