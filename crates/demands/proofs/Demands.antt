@@ -55,10 +55,11 @@ use Rattle.frames.specs.Arrival as arrival
 use Rattle.frames.specs.Held.{ends, heldFates, FatesOfHeld, GoodFate, BadFate}
 use Rattle.frames.specs.Fates.{Deed, alter, Scene, namesOf, opening, still, advance, beginnings, endings, times, timesFated, timesAltered, AllFates}
 use Rattle.frames.specs.Fates.{by-call, by-altering, isUnaltered, AllProper}
-use Rattle.frames.specs.OnBytes.{altering, deedsOf, AllGiven, AllGivenDrive, AllKept, AllSaidOf, worldAt, heldOf, endedOf, stillOf}
+use Rattle.frames.specs.OnBytes.{ArrivedOn, altering, deedsOf, AllGiven, AllGivenDrive, AllKept, AllSaidOf, worldAt, heldOf, endedOf, stillOf}
 use Rattle.frames.specs.Stands.{NoOverlap, pieces, GoodExit}
 use Rattle.frames.specs.Data.{Staying, dataOf, Delivered, ArrivedDelivered, EndLent, upTo}
 use Rattle.frames.proofs.Arrival as arrivals
+use Rattle.frames.proofs.Arrived as arrived
 use Rattle.frames.proofs.Held as holdings
 use Rattle.frames.proofs.Stands as exits
 use Rattle.frames.proofs.Data as stored
@@ -170,6 +171,11 @@ or-is-counted = arrivals.overrun
 -- the same exactness for every other arrival
 pub every-arrival : (w : World) (f : List ℕ) (v : ℕ) → arrival.RightLengths w f → arrival.ArrivalFate w f v (arrivalOf w f v)
 every-arrival = arrivals.arrival-fate
+
+-- and on the areas that the host lends, at every arrival that is not refused
+pub every-arrival-on-bytes : (a : Areas) (d : Device) (f : List ℕ) (v : ℕ) → AreBytes a → Bytes f → Holds (a .kept) d
+    → isRefused (called (arrive f v) a) ≡ false → ArrivedOn a d f v
+every-arrival-on-bytes = arrived.arrived-on
 
 -- a held good frame stays held, is stored, or is counted, "both, if kept with too few buffers", or is lost by an abort or a reset. While it stays held
 -- its own turns write 4000h at begin, and a buffer with its F, count and EOF, and nothing else: no counter, no event

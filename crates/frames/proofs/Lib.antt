@@ -2,7 +2,7 @@
 -- `Held.good-held`, `Held.bad-held`; as facts about memory at exit `Stands.good-exit`, `Stands.bad-exit`, and when their premise is met, `Clear`.
 -- What the buffers get, put together: `Data.delivered`, `Data.arrived`, on bytes `Data.delivered-on-bytes`, `Data.arrived-on-bytes`; `DataWitness`.
 -- Over whole traces: `Fates.conserved`, `Fates.exactly-one`, `Fates.all-fates`; a run: `Witness`.
--- Over calls on the areas that are lent: `OnBytes`; a list of them: `BytesWitness`.
+-- Over calls on the areas that are lent: an arrival, `Arrived`; all, `OnBytes`; a list of them: `BytesWitness`.
 -- That calls that are not refused meet the premises: `Accepted`.
 pub mod Arrival
 pub mod End
@@ -13,6 +13,7 @@ pub mod Clear
 pub mod Data
 pub mod DataWitness
 pub mod Fates
+pub mod Arrived
 pub mod OnBytes
 pub mod Accepted
 pub mod Witness

@@ -10,14 +10,25 @@ use Rattle.image.specs.Found.{Found}
 use Rattle.image.specs.Found as is
 use Rattle.image.specs.Image.{decodeOf, deviceAt}
 use Rattle.image.specs.Ranges.{inRange}
+use Rattle.chip.specs.Arrival.{arrivalOf}
+use Rattle.chip.specs.Call.{arrive}
 use Rattle.chip.specs.World.{World}
-use Rattle.calls.specs.Calls.{Areas}
+use Rattle.calls.specs.Calls.{Areas, onBytes}
 use Rattle.progress.specs.Trace.{run, AllMay}
 use Rattle.traces.specs.Areas.{FrameBytes, AreBytes, worldIn}
+use Rattle.traces.specs.Bytes.{called}
 use Rattle.traces.specs.Driven.{Lending, refusedAt, left, hostOf, Drive, calls, runs, takenIn}
 use Rattle.traces.specs.Event.{call}
 use Rattle.traces.specs.Told.{Said}
+use Rattle.frames.specs.Arrival.{ArrivalFate}
 use Rattle.frames.specs.Fates.{Deed, event, alter, worldAfter, Noted, Ended, opening, still, advance, beginnings, endings}
+
+-- ---- an arrival, on the areas a with the record of the state d: it answers and leaves what the definitions do, and these do with the frame what is said
+-- of its class: held, or one more in one counter, or dropped
+
+pub record ArrivedOn (a : Areas) (d : Device) (f : List ℕ) (v : ℕ) : Type 0 where
+  pub said : called (arrive f v) a ≡ onBytes (arrivalOf (worldIn d a) f v)
+  pub fate : ArrivalFate (worldIn d a) f v (arrivalOf (worldIn d a) f v)
 
 -- ---- the calls as deeds
 
