@@ -15,16 +15,20 @@ use Rattle.device.specs.declared.Action.{Action}
 use Rattle.device.specs.declared.Action.the-variants as action
 use Rattle.device.specs.declared.Cu.{Cu}
 use Rattle.device.specs.declared.Cu.the-variants as cu
+use Rattle.device.specs.declared.Device.{Device}
 use Rattle.packed.specs.Record.{setupAt}
 use Rattle.packed.specs.SetUp.{setupSize}
 use Rattle.actions.specs.Block.{argumentAt}
 use Rattle.chip.specs.Call.{Call, reset, attention, arrive, turn}
 use Rattle.chip.specs.Turn.{servedOf, isCommand, turnOf}
-use Rattle.chip.specs.World.{World, afterwards}
+use Rattle.chip.specs.World.{World, worldOf, afterwards}
 use Rattle.calls.specs.Calls.{Areas, areasOf, Called}
-use Rattle.traces.specs.Areas.{unitsIn}
+use Rattle.traces.specs.Areas.{shown, unitsIn}
 use Rattle.traces.specs.Bytes.{called, number, sentLength, isRefused}
+use Rattle.traces.specs.Event.{call, step}
 use Rattle.kinds.specs.Chips.{Chip, Handed}
+use Rattle.kinds.specs.Demands.{Acceptable, lentOf}
+use Rattle.kinds.specs.Lists.{Starting, turnsOf, AllReports, started}
 use Rattle.kinds.specs.Kinds.{setupIn, fromEdge}
 
 -- ---- all that a call leaves, piece by piece: three of the answer, and each byte of each area by its index
@@ -51,9 +55,12 @@ pieceOf (holdingByte i) r = byteIn i (r .areas .holding)
 pieceOf (outgoingByte i) r = byteIn i (r .areas .outgoing)
 pieceOf (recordByte i) r = byteIn i (r .areas .kept)
 
--- whatever the inner state, the call and what is lent: every piece but those that are said to be spoilt is what the definitions leave
-pub record AsOursBut (chip : Chip) (spoilt : chip .Inner → Call → Areas → Piece → Type 0) : Type 0 where
-  pub each : (s : chip .Inner) (c : Call) (a : Areas) (p : Piece) → Handed c a → (spoilt s c a p → ⊥)
+-- whatever the inner state, the call and what is lent: the pieces that are said to be spoilt are those of what is left instead, and every other piece is
+-- what the definitions leave. Instead: made of what is lent and what the definitions leave
+pub record AsOursBut (chip : Chip) (spoilt : chip .Inner → Call → Areas → Piece → Type 0) (instead : Areas → Called → Called) : Type 0 where
+  pub those : (s : chip .Inner) (c : Call) (a : Areas) (p : Piece) → Handed c a → spoilt s c a p
+      → pieceOf p (chip .calls s c a) ≡ pieceOf p (instead a (called c a))
+  pub others : (s : chip .Inner) (c : Call) (a : Areas) (p : Piece) → Handed c a → (spoilt s c a p → ⊥)
       → pieceOf p (chip .calls s c a) ≡ pieceOf p (called c a)
 
 -- ---- chips without inner state
@@ -61,9 +68,13 @@ pub record AsOursBut (chip : Chip) (spoilt : chip .Inner → Call → Areas → 
 abbrev pub plain : (Call → Areas → Called) → Chip
 plain does = record { Inner = Unit {0}; first = tt; calls = λ s c a. does c a; next = λ s c a. tt }
 
+-- all is as lent, and n is answered
+abbrev pub asLent : ℕ → Areas → Called
+asLent n a = record { answer = n; areas = a }
+
 -- it refuses every call: with document 01's number where there is one, else with 1
 abbrev pub refusing : Chip
-refusing = plain (λ c a. cond (isRefused (called c a)) (called c a) (record { answer = 1; areas = a }))
+refusing = plain (λ c a. cond (isRefused (called c a)) (called c a) (asLent 1 a))
 
 -- it answers n
 abbrev pub withAnswer : ℕ → Called → Called
@@ -109,11 +120,11 @@ spoiling at spoil (arrive f v) a = called (arrive f v) a
 spoiling at spoil (turn report) a = spoiledBy (at report) (spoil a) (called (turn report) a)
 
 -- such a turn
-abbrev pub SpoiltTurn : (ℕ → Bool) → Call → Type 0
-SpoiltTurn at reset = ⊥
-SpoiltTurn at attention = ⊥
-SpoiltTurn at (arrive f v) = ⊥
-SpoiltTurn at (turn report) = at report ≡ true
+abbrev pub SpoiltTurn : (ℕ → Bool) → Call → Areas → Type 0
+SpoiltTurn at reset a = ⊥
+SpoiltTurn at attention a = ⊥
+SpoiltTurn at (arrive f v) a = ⊥
+SpoiltTurn at (turn report) a = (at report ≡ true) × (isRefused (called (turn report) a) ≡ false)
 
 -- at every report, or at 7 alone
 abbrev pub always : ℕ → Bool
@@ -237,7 +248,7 @@ firstCalls completed reset a = called reset a
 firstCalls completed attention a = called attention a
 firstCalls completed (arrive f v) a = called (arrive f v) a
 firstCalls completed (turn report) a =
-    spoiledBy (completed && toCommand a) (λ r. record { answer = 0; areas = a }) (called (turn report) a)
+    spoiledBy (completed && toCommand a) (λ r. asLent 0 a) (called (turn report) a)
 
 abbrev pub firstNext : Bool → Call → Areas → Bool
 firstNext completed reset a = false
@@ -253,9 +264,15 @@ abbrev pub AfterFirst : Bool → Call → Areas → Type 0
 AfterFirst completed reset a = ⊥
 AfterFirst completed attention a = ⊥
 AfterFirst completed (arrive f v) a = ⊥
-AfterFirst completed (turn report) a = (completed ≡ true) × (toCommand a ≡ true)
+AfterFirst completed (turn report) a = (completed ≡ true) × (toCommand a ≡ true) × (isRefused (called (turn report) a) ≡ false)
 
 -- turns, as the definitions go, to the end turn of the command that is in work
 abbrev pub untilEnd : List ℕ → World → World
 untilEnd [] w = w
 untilEnd (r ∷ rs) w = cond (isEnd (w .device .units .cu)) (afterwards (turnOf w r)) (untilEnd rs (afterwards (turnOf w r)))
+
+-- it serves the first command as ours does, whatever the list: all bytes are as the definitions leave them, to the end turn of that command, and stay so
+pub record ServesFirst (chip : Chip) : Type 0 where
+  pub each : (s : chip .Inner) (d : Device) (m h out : List ℕ) (b : Offset) (bs : List Offset) (reports : List ℕ)
+      → Acceptable attention d m h out → Handed attention (lentOf d m h out) → Starting d m b bs → AllReports reports
+      → started chip s (turnsOf reports) (lentOf d m h out) ≡ shown (untilEnd reports (step (call attention) (worldOf d m h out)))
