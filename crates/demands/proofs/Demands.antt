@@ -84,10 +84,11 @@ use Rattle.kinds.specs.Lists.{turnsOf}
 use Rattle.kinds.specs.Third.{ListRun, HeldRun, Demand3By, Demand3}
 use Rattle.kinds.specs.Kinds.{Wrong, LacksNamed, RefusesAll, OneAnswer, MemoryAsLent, SetsNothing, MeasuresNothing, SendsNothing, MarksOnly, MarksSome}
 use Rattle.kinds.specs.Kinds.{FirstOnly, Invents, InventsAlong, InventsInTrace}
-use Rattle.kinds.specs.Spoiled.{AsOursBut, theLength, theEdge, OfAnswer, OfMemory, OfSetup, OfWord, OfAction, SpoiltTurn, always, atSeven, AfterFirst}
-use Rattle.kinds.specs.Spoiled.{asLent, withAnswer, withMemory, unset, unmeasured, unsent, unacted, turnedOver, ServesFirst}
+use Rattle.kinds.specs.Spoiled.{AsOursBut, SpoiltTurn, always, atSeven, AfterFirst, ServesFirst}
+use Rattle.kinds.specs.Spoiled.{theLength, theEdge, OfAnswer, OfMemory, OfSetup, OfWord, OfAction, OfOverruns}
+use Rattle.kinds.specs.Spoiled.{asLent, withAnswer, withMemory, unset, unmeasured, unsent, unacted, turnedOver, countedOn}
 use Rattle.kinds.specs.Spoiled.{refusing, answering, leaving, markingOnly, markingAtSeven, settingNothing, measuringNothing, sendingNothing}
-use Rattle.kinds.specs.Spoiled.{servingFirst, inventing}
+use Rattle.kinds.specs.Spoiled.{servingFirst, inventing, counting}
 use Rattle.kinds.proofs.Equal as equal
 use Rattle.kinds.proofs.Ours as demanded
 use Rattle.kinds.proofs.Inspected as inspected
@@ -481,6 +482,18 @@ a-chip-that-invents-an-edge = (
   invented.inventing-in-trace,
   invented.inventing-along,
   spoiled.inventing-is-no-worse,
+)
+
+-- that invents a counter, the same: it counts an overrun more
+pub a-chip-that-invents-a-counter : Invents counting
+    × InventsInTrace counting
+    × InventsAlong counting
+    × AsOursBut counting (λ s c a p. SpoiltTurn atSeven c a × OfOverruns a p) countedOn
+a-chip-that-invents-a-counter = (
+  invented.counting-is-of-its-kind,
+  invented.counting-in-trace,
+  invented.counting-along,
+  spoiled.counting-is-no-worse,
 )
 
 -- ---- document 01's cases, and its fields

@@ -29,7 +29,7 @@ use Rattle.closure.proofs.Carried.{areas-as-long}
 use Rattle.kinds.specs.Chips.{Handed}
 use Rattle.kinds.specs.Demands.{lentOf}
 use Rattle.kinds.specs.Kinds.{setupIn, fromEdge, RefusesAll, OneAnswer, MemoryAsLent}
-use Rattle.kinds.specs.Spoiled.{Piece, theNumber, theLength, theEdge, memoryByte, holdingByte, outgoingByte, recordByte, byteIn, pieceOf, AsOursBut, plain, asLent, refusing, withAnswer, answering, OfAnswer, withMemory, leaving, OfMemory, spoiling, SpoiltTurn, always, atSeven, unset, OfSetup, measuredIn, wordsBack, unmeasured, ByteOfWord, OfWord, unsent, unacted, OfAction, turnedOver, settingNothing, measuringNothing, sendingNothing, markingOnly, markingAtSeven, inventing}
+use Rattle.kinds.specs.Spoiled.{Piece, theNumber, theLength, theEdge, memoryByte, holdingByte, outgoingByte, recordByte, byteIn, pieceOf, AsOursBut, plain, asLent, refusing, withAnswer, answering, OfAnswer, withMemory, leaving, OfMemory, spoiling, SpoiltTurn, always, atSeven, unset, OfSetup, measuredIn, wordsBack, unmeasured, ByteOfWord, ByteOfWords, OfWord, unsent, unacted, OfAction, turnedOver, overrunsIn, countedOn, OfOverruns, settingNothing, measuringNothing, sendingNothing, markingOnly, markingAtSeven, inventing, counting}
 
 -- ---- the pieces are all: what has the same pieces is the same
 
@@ -186,24 +186,23 @@ unset-rest a r (recordByte i) h =
     (sets-other s k setupAt i (λ q. h (q .0, omega (arith, q .1, length-from (a .kept) setupAt setupSize))))
 
 -- TDR's word
-word-elsewhere : (m : List ℕ) (at w i : ℕ) → (i ≡ at % length m → ⊥) → (i ≡ (at + 1) % length m → ⊥)
-    → getD (putBytes m at (digits 2 w)) i 0 ≡ getD m i 0
+word-elsewhere : (m : List ℕ) (at w i : ℕ) → (ByteOfWord (length m) at i → ⊥) → getD (putBytes m at (digits 2 w)) i 0 ≡ getD m i 0
 unfolding putBytes putByte digits
-word-elsewhere m at w i p q =
+word-elsewhere m at w i h =
     let x = set m (at % length m) (w % 256) in
     let n : length x ≡ length m = length-set m (at % length m) (w % 256) in
     let one : suc at ≡ at + 1 = omega arith in
-    getD-set-other x (suc at % length x) i (w / 256 % 256) 0 (λ e. q (rw (n, one) at e)) ∙ getD-set-other m (at % length m) i (w % 256) 0 p
+    getD-set-other x (suc at % length x) i (w / 256 % 256) 0 (λ e. h (inr (rw (n, one) at e))) ∙ getD-set-other m (at % length m) i (w % 256) 0 (λ e. h (inl e))
 
-words-elsewhere : (base : RealAddress) (was : List ℕ) (os : List Offset) (m : List ℕ) (i : ℕ) → (ByteOfWord (length m) base os i → ⊥)
+words-elsewhere : (base : RealAddress) (was : List ℕ) (os : List Offset) (m : List ℕ) (i : ℕ) → (ByteOfWords (length m) base os i → ⊥)
     → getD (apply (wordsBack base was os) m) i 0 ≡ getD m i 0
 words-elsewhere base was [] m i h = refl
 words-elsewhere base was (o ∷ os) m i h =
     let at = place base o argumentAt in
     let w = wordAt was at in
     let n : length (putBytes m at (digits 2 w)) ≡ length m = length-putBytes m at (digits 2 w) in
-    words-elsewhere base was os (putBytes m at (digits 2 w)) i (λ k. h (inr (inr (rw n at k))))
-    ∙ word-elsewhere m at w i (λ e. h (inl e)) (λ e. h (inr (inl e)))
+    words-elsewhere base was os (putBytes m at (digits 2 w)) i (λ k. h (inr (rw n at k)))
+    ∙ word-elsewhere m at w i (λ e. h (inl e))
 
 unmeasured-rest : (a : Areas) (r : Called) (p : Piece) → length (r .areas .memory) ≡ length (a .memory) → (OfWord a p → ⊥)
     → pieceOf p (unmeasured a r) ≡ pieceOf p r
@@ -263,6 +262,21 @@ over-rest r (holdingByte i) h = refl
 over-rest r (outgoingByte i) h = refl
 over-rest r (recordByte i) h = refl
 
+-- a counter
+counted-rest : (a : Areas) (r : Called) (p : Piece) → length (r .areas .memory) ≡ length (a .memory) → (OfOverruns a p → ⊥)
+    → pieceOf p (countedOn a r) ≡ pieceOf p r
+counted-rest a r theNumber n h = refl
+counted-rest a r theLength n h = refl
+counted-rest a r theEdge n h = refl
+counted-rest a r (memoryByte i) n h =
+    let m = r .areas .memory in
+    let at = overrunsIn a in
+    let w = (wordAt m at + 1) % 65536 in
+    at-index i (putBytes m at (digits 2 w)) m (length-putBytes m at (digits 2 w)) (word-elsewhere m at w i (λ k. h (rw n at k)))
+counted-rest a r (holdingByte i) n h = refl
+counted-rest a r (outgoingByte i) n h = refl
+counted-rest a r (recordByte i) n h = refl
+
 -- all three
 pub as-long : (report : ℕ) (a : Areas) → Handed (turn report) a → length (called (turn report) a .areas .memory) ≡ length (a .memory)
 as-long report a l = areas-as-long (turn report) a (l .given .frame) (l .areas) .memory
@@ -293,3 +307,7 @@ marking-at-seven-is-no-worse =
 
 pub inventing-is-no-worse : AsOursBut inventing (λ s c a p. SpoiltTurn atSeven c a × (p ≡ theEdge)) (λ a. turnedOver)
 inventing-is-no-worse = spoils-no-more atSeven (λ a. turnedOver) (λ a p. p ≡ theEdge) (λ report a p l. over-rest (called (turn report) a) p)
+
+pub counting-is-no-worse : AsOursBut counting (λ s c a p. SpoiltTurn atSeven c a × OfOverruns a p) countedOn
+counting-is-no-worse =
+    spoils-no-more atSeven countedOn OfOverruns (λ report a p l. counted-rest a (called (turn report) a) p (as-long report a l))

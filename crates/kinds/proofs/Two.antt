@@ -364,6 +364,9 @@ starts : Goes attention idle two (withUnit (cu.Waiting one)) m1
 unfolding byteAt putByte bytesAt putBytes value digits fieldAt place bitsAt joined acknowledged anyOf eventBits statusWord codeOf obeyCuc obeyRuc statusTo attentions.attendBy attentions.attend attentions.attention attentionOf
 starts = record { device = refl; memory = refl; holding = refl; outgoing = refl }
 
+pub begun-device : begun .device ≡ withUnit (cu.Waiting one)
+begun-device = starts .device
+
 begins : Goes (turn 0) (withUnit (cu.Waiting one)) m1 (withUnit nop) m2
 unfolding byteAt putByte bytesAt putBytes value digits fieldAt place bitsAt anyOf actionOf begunBy begin service concluded commandTurn turnOf
 begins = record { device = refl; memory = refl; holding = refl; outgoing = refl }

@@ -8,17 +8,20 @@ use lib.Dec.{eqb}
 use lib.ListN.{length, take, drop}
 use lib.Seq.{sets}
 use Rattle.memory.specs.Address.{place}
-use Rattle.memory.specs.Memory.{wordAt, Write, apply, wordTo}
+use Rattle.memory.specs.Memory.{wordAt, Write, apply, wordTo, countTo}
 use Rattle.memory.specs.declared.Offset.{Offset}
 use Rattle.memory.specs.declared.RealAddress.{RealAddress}
+use Rattle.device.specs.Numbers.{counterPlace}
 use Rattle.device.specs.declared.Action.{Action}
 use Rattle.device.specs.declared.Action.the-variants as action
+use Rattle.device.specs.declared.Counter.the-variants as counter
 use Rattle.device.specs.declared.Cu.{Cu}
 use Rattle.device.specs.declared.Cu.the-variants as cu
 use Rattle.device.specs.declared.Device.{Device}
 use Rattle.packed.specs.Record.{setupAt}
 use Rattle.packed.specs.SetUp.{setupSize}
 use Rattle.actions.specs.Block.{argumentAt}
+use Rattle.control.specs.Obey.{ofScb}
 use Rattle.chip.specs.Call.{Call, reset, attention, arrive, turn}
 use Rattle.chip.specs.Turn.{servedOf, isCommand, turnOf}
 use Rattle.chip.specs.World.{World, worldOf, afterwards}
@@ -177,15 +180,19 @@ abbrev pub unmeasured : Areas → Called → Called
 unmeasured a r =
     let u = unitsIn (a .kept) in withMemory (apply (wordsBack (u .base) (a .memory) (measuredIn (u .cu))) (r .areas .memory)) r
 
-abbrev pub ByteOfWord : ℕ → RealAddress → List Offset → ℕ → Type 0
-ByteOfWord n base [] i = ⊥
-ByteOfWord n base (o ∷ os) i = (i ≡ place base o argumentAt % n) ⊎ (i ≡ (place base o argumentAt + 1) % n) ⊎ ByteOfWord n base os i
+-- one of the two bytes of the word at an address, in n bytes of memory
+abbrev pub ByteOfWord : ℕ → ℕ → ℕ → Type 0
+ByteOfWord n at i = (i ≡ at % n) ⊎ (i ≡ (at + 1) % n)
+
+abbrev pub ByteOfWords : ℕ → RealAddress → List Offset → ℕ → Type 0
+ByteOfWords n base [] i = ⊥
+ByteOfWords n base (o ∷ os) i = ByteOfWord n (place base o argumentAt) i ⊎ ByteOfWords n base os i
 
 abbrev pub OfWord : Areas → Piece → Type 0
 OfWord a theNumber = ⊥
 OfWord a theLength = ⊥
 OfWord a theEdge = ⊥
-OfWord a (memoryByte i) = ByteOfWord (length (a .memory)) (unitsIn (a .kept) .base) (measuredIn (unitsIn (a .kept) .cu)) i
+OfWord a (memoryByte i) = ByteOfWords (length (a .memory)) (unitsIn (a .kept) .base) (measuredIn (unitsIn (a .kept) .cu)) i
 OfWord a (holdingByte i) = ⊥
 OfWord a (outgoingByte i) = ⊥
 OfWord a (recordByte i) = ⊥
@@ -205,6 +212,22 @@ OfAction a p = OfSetup p ⊎ OfWord a p ⊎ (p ≡ theLength)
 abbrev pub turnedOver : Called → Called
 turnedOver r = withAnswer (r .answer % 2 ^ 32 + (1 - fromEdge (r .answer)) * 2 ^ 32) r
 
+-- OVRNERRS of the state that is lent is one more than what the definitions leave, modulo 65,536
+abbrev pub overrunsIn : Areas → ℕ
+overrunsIn a = ofScb (unitsIn (a .kept)) (counterPlace counter.Overruns)
+
+abbrev pub countedOn : Areas → Called → Called
+countedOn a r = withMemory (apply (countTo (r .areas .memory) (overrunsIn a) ∷ []) (r .areas .memory)) r
+
+abbrev pub OfOverruns : Areas → Piece → Type 0
+OfOverruns a theNumber = ⊥
+OfOverruns a theLength = ⊥
+OfOverruns a theEdge = ⊥
+OfOverruns a (memoryByte i) = ByteOfWord (length (a .memory)) (overrunsIn a) i
+OfOverruns a (holdingByte i) = ⊥
+OfOverruns a (outgoingByte i) = ⊥
+OfOverruns a (recordByte i) = ⊥
+
 abbrev pub settingNothing : Chip
 settingNothing = plain (spoiling always unset)
 
@@ -222,6 +245,9 @@ markingAtSeven = plain (spoiling atSeven unacted)
 
 abbrev pub inventing : Chip
 inventing = plain (spoiling atSeven (λ a. turnedOver))
+
+abbrev pub counting : Chip
+counting = plain (spoiling atSeven countedOn)
 
 -- ---- one that serves the first command and no other: it keeps in mind whether a command was completed since the last attention
 
