@@ -78,10 +78,10 @@ use Rattle.held.proofs.Held as held-frames
 use Rattle.held.proofs.Exact as held-exact
 use Rattle.held.proofs.Calls as held-calls
 use Rattle.held.proofs.Lending as lent-run
-use Rattle.kinds.specs.Chips.{Chip, Meets, Says, Permits, does}
+use Rattle.kinds.specs.Chips.{Chip, Meets, Says, Permits, Act, does, eventsIn}
 use Rattle.kinds.specs.Demands.{Demand1, Demand2}
 use Rattle.kinds.specs.Lists.{turnsOf}
-use Rattle.kinds.specs.Third.{ListRun, HeldRun, Demand3By, Demand3}
+use Rattle.kinds.specs.Third.{AsSaid, ListRun, ResumedRun, HeldRun, Demand3By, Demand3}
 use Rattle.kinds.specs.Kinds.{Wrong, LacksNamed, RefusesAll, OneAnswer, MemoryAsLent, SetsNothing, MeasuresNothing, SendsNothing, MarksOnly, MarksSome}
 use Rattle.kinds.specs.Kinds.{FirstOnly, Invents, InventsAlong, InventsInTrace}
 use Rattle.kinds.specs.Spoiled.{AsOursBut, SpoiltTurn, always, atSeven, AfterFirst, ServesFirst}
@@ -397,6 +397,12 @@ no-fewer-for-a-frame = held-exact.exact
 pub as-demand-3-says : (chip : Chip) → Meets chip → Demand3 chip
 as-demand-3-says = closing.meets-demand3
 
+-- the same of a list that is resumed, which the sentence does not speak of
+pub as-demand-3-says-of-resumed-lists : (chip : Chip) → Meets chip → (s : chip .Inner) (bs : List ℕ) (acts : List Act) (w : World)
+    → ResumedRun enough bs acts w
+    → Done bs (eventsIn acts) (step (call attention) w) × AsSaid chip s (does (call attention) ∷ acts) w
+as-demand-3-says-of-resumed-lists = closing.meets-resumed
+
 -- and no chip, whatever it does, has it with fewer turns for one command, for two or for a held frame: the runs by which it fails are the definitions'
 -- own, of which the demand asks `Done` or `Settled`, whatever the chip
 pub no-chip-with-fewer-for-one : (chip : Chip) (least : ℕ → ℕ) (most : ℕ) → least 1 ≤ 131 → Demand3By least most chip → ⊥
@@ -563,9 +569,12 @@ a-list-that-is-resumed = (resumed-run.resumes, resumed-run.resumed-done)
 pub a-frame-that-is-settled : on-records.Settled 132 held-exact.frame (lent-run.restless 132 lent-run.device) lent-run.standing
 a-frame-that-is-settled = held-calls.met-restless
 
--- both of a chip, with a refused call among what comes
+-- both of a chip, and a list that is resumed, with a refused call among what comes
 pub a-list-of-a-chip : ListRun enough pair (met.strayTurn ∷ turnsOf (0 ∷ replicate 263 0)) waits
 a-list-of-a-chip = met.list-met
+
+pub a-resumed-list-of-a-chip : ResumedRun enough resumed-run.behind (met.strayTurn ∷ map does resumed-run.trace) resumed-run.before
+a-resumed-list-of-a-chip = met.resumed-met
 
 pub a-frame-of-a-chip : HeldRun 132 held-exact.frame (met.strayTurn ∷ map does (held-exact.turnsOf 132)) held-exact.begun
 a-frame-of-a-chip = met.frame-met

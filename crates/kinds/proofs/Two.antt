@@ -304,8 +304,7 @@ two-run r p =
     let idle-then = idle-kept (over r) (over-idle r) (over-free r) (lists.bytesOf begun pair) (replicate 260 0) in
     record {
       right = right-two;
-      starts = begins-at;
-      first = refl;
+      sets-off = record { starts = begins-at; first = refl };
       listed = stands;
       acceptable = acceptable-turns (r ∷ replicate 263 0) (p, zero-reports 263);
       refused = refused-turns (r ∷ replicate 263 0);
