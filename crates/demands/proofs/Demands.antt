@@ -84,13 +84,17 @@ use Rattle.held.proofs.Held as held-frames
 use Rattle.held.proofs.Exact as held-exact
 use Rattle.held.proofs.Calls as held-calls
 use Rattle.held.proofs.Lending as lent-run
-use Rattle.kinds.specs.Chips.{Chip, Meets, Says, Permits, does}
+use Rattle.kinds.specs.Chips.{Chip, Meets, Says, Permits, Act, does, eventsIn}
 use Rattle.kinds.specs.Demands.{Demand1, Demand2}
 use Rattle.kinds.specs.Lists.{turnsOf}
-use Rattle.kinds.specs.Third.{ListRun, HeldRun, Demand3By, Demand3}
-use Rattle.kinds.specs.Kinds.{Wrong, LacksNamed, RefusesAll, OneAnswer, MemoryAsLent, MarksOnly, MarksSome, FirstOnly, Invents, InventsAlong}
-use Rattle.kinds.specs.Spoiled.{AsOursBut, theEdge, OfAnswer, OfMemory, OfAction, SpoiltTurn, always, atSeven, AfterFirst}
-use Rattle.kinds.specs.Spoiled.{refusing, answering, leaving, markingOnly, markingAtSeven, servingFirst, inventing}
+use Rattle.kinds.specs.Third.{AsSaid, ListRun, ResumedRun, HeldRun, Demand3By, Demand3}
+use Rattle.kinds.specs.Kinds.{Wrong, LacksNamed, RefusesAll, OneAnswer, MemoryAsLent, SetsNothing, MeasuresNothing, SendsNothing, MarksOnly, MarksSome}
+use Rattle.kinds.specs.Kinds.{FirstOnly, Invents, InventsAlong, InventsInTrace}
+use Rattle.kinds.specs.Spoiled.{AsOursBut, SpoiltTurn, always, atSeven, AfterFirst, ServesFirst}
+use Rattle.kinds.specs.Spoiled.{theLength, theEdge, OfAnswer, OfMemory, OfSetup, OfWord, OfAction, OfOverruns}
+use Rattle.kinds.specs.Spoiled.{asLent, withAnswer, withMemory, unset, unmeasured, unsent, unacted, turnedOver, countedOn}
+use Rattle.kinds.specs.Spoiled.{refusing, answering, leaving, markingOnly, markingAtSeven, settingNothing, measuringNothing, sendingNothing}
+use Rattle.kinds.specs.Spoiled.{servingFirst, inventing, counting}
 use Rattle.kinds.proofs.Equal as equal
 use Rattle.kinds.proofs.Ours as demanded
 use Rattle.kinds.proofs.Inspected as inspected
@@ -413,7 +417,14 @@ no-fewer-for-a-frame = held-exact.exact
 pub as-demand-3-says : (chip : Chip) → Meets chip → Demand3 chip
 as-demand-3-says = closing.meets-demand3
 
--- and no chip, whatever it does, has it with fewer turns for one command, for two or for a held frame
+-- the same of a list that is resumed, which the sentence does not speak of
+pub as-demand-3-says-of-resumed-lists : (chip : Chip) → Meets chip → (s : chip .Inner) (bs : List ℕ) (acts : List Act) (w : World)
+    → ResumedRun enough bs acts w
+    → Done bs (eventsIn acts) (step (call attention) w) × AsSaid chip s (does (call attention) ∷ acts) w
+as-demand-3-says-of-resumed-lists = closing.meets-resumed
+
+-- and no chip, whatever it does, has it with fewer turns for one command, for two or for a held frame: the runs by which it fails are the definitions'
+-- own, of which the demand asks `Done` or `Settled`, whatever the chip
 pub no-chip-with-fewer-for-one : (chip : Chip) (least : ℕ → ℕ) (most : ℕ) → least 1 ≤ 131 → Demand3By least most chip → ⊥
 no-chip-with-fewer-for-one = sharp.one-takes-132
 
@@ -444,32 +455,72 @@ pub promises-are-enough : (chip : Chip) → Meets chip → Demand1 chip × Deman
 promises-are-enough chip p = (demanded.has-demand1 chip p, demanded.has-demand2 chip p, closing.meets-demand3 chip p)
 
 -- and each kind has a chip that is of it and no worse: ours, spoilt in one thing; every other piece of what it answers and leaves, at every call, is as
--- ours. One that refuses everything
-pub a-chip-that-refuses-everything : RefusesAll refusing × AsOursBut refusing (λ s c a p. isRefused (called c a) ≡ false)
-a-chip-that-refuses-everything = (spoiled.refusing-is-of-its-kind, spoiled.refusing-is-no-worse)
+-- ours, and what is spoilt is as said. One that refuses everything: with 1 what is not to be refused; and it changes nothing
+pub a-chip-that-refuses-everything : RefusesAll refusing
+    × AsOursBut refusing (λ s c a p. isRefused (called c a) ≡ false) (λ a r. asLent 1 a)
+    × ((c : Call) (a : Areas) → Untouched a (refusing .calls tt c a))
+a-chip-that-refuses-everything = (spoiled.refusing-is-of-its-kind, spoiled.refusing-is-no-worse, spoiled.refusing-changes-nothing)
 
 -- with a constant answer
-pub a-chip-with-a-constant-answer : (n : ℕ) → OneAnswer (answering n) × AsOursBut (answering n) (λ s c a p. OfAnswer p)
+pub a-chip-with-a-constant-answer : (n : ℕ) → OneAnswer (answering n) × AsOursBut (answering n) (λ s c a p. OfAnswer p) (λ a. withAnswer n)
 a-chip-with-a-constant-answer n = (spoiled.answering-is-of-its-kind n, spoiled.answering-is-no-worse n)
 
 -- that leaves memory untouched
-pub a-chip-that-leaves-memory-untouched : MemoryAsLent leaving × AsOursBut leaving (λ s c a p. OfMemory p)
+pub a-chip-that-leaves-memory-untouched : MemoryAsLent leaving × AsOursBut leaving (λ s c a p. OfMemory p) (λ a. withMemory (a .memory))
 a-chip-that-leaves-memory-untouched = (spoiled.leaving-is-of-its-kind, spoiled.leaving-is-no-worse)
 
 -- that marks commands complete without acting, always, and at some turns alone
-pub a-chip-that-marks-only : MarksOnly markingOnly × AsOursBut markingOnly (λ s c a p. SpoiltTurn always c × OfAction a p)
+pub a-chip-that-marks-only : MarksOnly markingOnly × AsOursBut markingOnly (λ s c a p. SpoiltTurn always c a × OfAction a p) unacted
 a-chip-that-marks-only = (marked.marking-only-is-of-its-kind, spoiled.marking-only-is-no-worse)
 
-pub a-chip-that-marks-some : MarksSome markingAtSeven × AsOursBut markingAtSeven (λ s c a p. SpoiltTurn atSeven c × OfAction a p)
+pub a-chip-that-marks-some : MarksSome markingAtSeven × AsOursBut markingAtSeven (λ s c a p. SpoiltTurn atSeven c a × OfAction a p) unacted
 a-chip-that-marks-some = (marked.marking-at-seven-is-of-its-kind, spoiled.marking-at-seven-is-no-worse)
 
--- that serves the first command only, and serves it as ours does
-pub a-chip-that-serves-the-first-command-only : FirstOnly servingFirst × AsOursBut servingFirst (λ s c a p. AfterFirst s c a)
-a-chip-that-serves-the-first-command-only = (first.serving-first-is-of-its-kind, first.serving-first-is-no-worse)
+-- a third of it: that sets nothing, that measures nothing, that sends nothing
+pub a-chip-that-sets-nothing : SetsNothing settingNothing × AsOursBut settingNothing (λ s c a p. SpoiltTurn always c a × OfSetup p) unset
+a-chip-that-sets-nothing = (marked.setting-nothing-is-of-its-kind, spoiled.setting-nothing-is-no-worse)
 
--- that invents an edge, also amid a list
-pub a-chip-that-invents-an-edge : Invents inventing × InventsAlong inventing × AsOursBut inventing (λ s c a p. SpoiltTurn atSeven c × (p ≡ theEdge))
-a-chip-that-invents-an-edge = (invented.inventing-is-of-its-kind, invented.inventing-along, spoiled.inventing-is-no-worse)
+pub a-chip-that-measures-nothing : MeasuresNothing measuringNothing
+    × AsOursBut measuringNothing (λ s c a p. SpoiltTurn always c a × OfWord a p) unmeasured
+a-chip-that-measures-nothing = (marked.measuring-nothing-is-of-its-kind, spoiled.measuring-nothing-is-no-worse)
+
+pub a-chip-that-sends-nothing : SendsNothing sendingNothing
+    × AsOursBut sendingNothing (λ s c a p. SpoiltTurn always c a × (p ≡ theLength)) (λ a. unsent)
+a-chip-that-sends-nothing = (marked.sending-nothing-is-of-its-kind, spoiled.sending-nothing-is-no-worse)
+
+-- that serves the first command only, and serves it as ours does; the command unit's later turns leave all as lent and answer 0
+pub a-chip-that-serves-the-first-command-only : FirstOnly servingFirst
+    × ServesFirst servingFirst
+    × AsOursBut servingFirst (λ s c a p. AfterFirst s c a) (λ a r. asLent 0 a)
+a-chip-that-serves-the-first-command-only = (
+  first.serving-first-is-of-its-kind,
+  first.serving-first-serves-the-first,
+  first.serving-first-is-no-worse,
+)
+
+-- that invents an edge, at a call, along a trace and amid a list
+pub a-chip-that-invents-an-edge : Invents inventing
+    × InventsInTrace inventing
+    × InventsAlong inventing
+    × AsOursBut inventing (λ s c a p. SpoiltTurn atSeven c a × (p ≡ theEdge)) (λ a. turnedOver)
+a-chip-that-invents-an-edge = (
+  invented.inventing-is-of-its-kind,
+  invented.inventing-in-trace,
+  invented.inventing-along,
+  spoiled.inventing-is-no-worse,
+)
+
+-- that invents a counter, the same: it counts an overrun more
+pub a-chip-that-invents-a-counter : Invents counting
+    × InventsInTrace counting
+    × InventsAlong counting
+    × AsOursBut counting (λ s c a p. SpoiltTurn atSeven c a × OfOverruns a p) countedOn
+a-chip-that-invents-a-counter = (
+  invented.counting-is-of-its-kind,
+  invented.counting-in-trace,
+  invented.counting-along,
+  spoiled.counting-is-no-worse,
+)
 
 -- ---- document 01's cases, and its fields
 
@@ -538,9 +589,12 @@ a-list-that-is-resumed = (resumed-run.resumes, resumed-run.resumed-done)
 pub a-frame-that-is-settled : on-records.Settled 132 held-exact.frame (lent-run.restless 132 lent-run.device) lent-run.standing
 a-frame-that-is-settled = held-calls.met-restless
 
--- both of a chip, with a refused call among what comes
+-- both of a chip, and a list that is resumed, with a refused call among what comes
 pub a-list-of-a-chip : ListRun enough pair (met.strayTurn ∷ turnsOf (0 ∷ replicate 263 0)) waits
 a-list-of-a-chip = met.list-met
+
+pub a-resumed-list-of-a-chip : ResumedRun enough resumed-run.behind (met.strayTurn ∷ map does resumed-run.trace) resumed-run.before
+a-resumed-list-of-a-chip = met.resumed-met
 
 pub a-frame-of-a-chip : HeldRun 132 held-exact.frame (met.strayTurn ∷ map does (held-exact.turnsOf 132)) held-exact.begun
 a-frame-of-a-chip = met.frame-met

@@ -52,7 +52,7 @@ right-start ws =
     }
 
 -- the host writes words
-right-told : (ws : List Word) (w : World) → Right w → Right (step (host (put ws (w .memory)) (w .holding) (w .outgoing)) w)
+pub right-told : (ws : List Word) (w : World) → Right w → Right (step (host (put ws (w .memory)) (w .holding) (w .outgoing)) w)
 right-told ws w r =
     let a = r .areas in
     record {
@@ -70,7 +70,7 @@ right-told ws w r =
     }
 
 -- after initialisation
-right-board : (given orders : List Word) → Right (held-exact.writes orders (step (call attention) (start given)))
+pub right-board : (given orders : List Word) → Right (held-exact.writes orders (step (call attention) (start given)))
 right-board given orders =
     right-told orders (step (call attention) (start given)) (closing .each attention (start given) attending (lit≤ tt) (right-start given))
 
@@ -130,8 +130,7 @@ module _ (chip : Chip) (least : ℕ → ℕ) (most : ℕ) (d : Demand3By least m
       d .list (chip .first) bs (map does es) w
       (record {
         right = r;
-        starts = u .starts;
-        first = u .first;
+        sets-off = record { starts = u .starts; first = u .first };
         listed = u .listed;
         acceptable = rw (events-back es) f;
         refused = none-asked es;

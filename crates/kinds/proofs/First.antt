@@ -28,7 +28,7 @@ use Rattle.kinds.specs.Closed.{Right}
 use Rattle.kinds.specs.Demands.{Acceptable, lentOf}
 use Rattle.kinds.specs.Lists.{All, isTdr, Starting, turnsOf, AllReports, started}
 use Rattle.kinds.specs.Kinds.{FirstOnly}
-use Rattle.kinds.specs.Spoiled.{Piece, pieceOf, AsOursBut, isEnd, toCommand, completing, firstCalls, firstNext, servingFirst, AfterFirst, untilEnd}
+use Rattle.kinds.specs.Spoiled.{Piece, pieceOf, AsOursBut, asLent, isEnd, toCommand, completing, firstCalls, firstNext, servingFirst, AfterFirst, untilEnd, ServesFirst}
 use Rattle.kinds.proofs.Accepted.{accepted-call}
 use Rattle.kinds.proofs.Witness.{heldArea, sentArea, attending}
 use Rattle.kinds.proofs.Two.{zero-reports, two, one, other, idle, two-size, two-bytes, acceptable-two, handed-two, idle-wide, idle-range, starting}
@@ -48,15 +48,23 @@ spoils-after done attention a p h = refl
 spoils-after done (arrive f v) a p h = refl
 spoils-after done (turn report) a p h =
     let r = called (turn report) a in
-    chosen (done && toCommand a) (not (isRefused r)) (record { answer = 0; areas = a }) r p (λ e. absurd (h (both done (toCommand a) e)))
+    chosen (done && toCommand a) (isRefused r) (asLent 0 a) r p
+    (λ e k. let x = both done (toCommand a) e in absurd (h (x .0, x .1, k)))
   where
     both : (x y : Bool) → (x && y) ≡ true → (x ≡ true) × (y ≡ true)
     both true true e = (refl, refl)
     both true false e = absurd (let z : _≡_ {A = ℕ} 0 1 = cc in omega arith)
     both false y e = absurd (let z : _≡_ {A = ℕ} 0 1 = cc in omega arith)
 
-pub serving-first-is-no-worse : AsOursBut servingFirst (λ s c a p. AfterFirst s c a)
-serving-first-is-no-worse = record { each = λ s c a p l h. spoils-after s c a p h }
+-- and at these it leaves all as lent, and answers 0
+does-nothing : (done : Bool) (c : Call) (a : Areas) (p : Piece) → AfterFirst done c a → pieceOf p (firstCalls done c a) ≡ pieceOf p (asLent 0 a)
+does-nothing done reset a p h = absurd h
+does-nothing done attention a p h = absurd h
+does-nothing done (arrive f v) a p h = absurd h
+does-nothing done (turn report) a p h = rw (h .0, h .1, h .2)
+
+pub serving-first-is-no-worse : AsOursBut servingFirst (λ s c a p. AfterFirst s c a) (λ a r. asLent 0 a)
+serving-first-is-no-worse = record { those = λ s c a p l h. does-nothing s c a p h; others = λ s c a p l h. spoils-after s c a p h }
 
 -- ---- a turn in a world that is right
 
@@ -93,7 +101,7 @@ module _ (r : ℕ) (w : World) (small : r < 2 ^ 16) (right : Right w) where
   -- ---- after a completed command: nothing changes any more
 
   left-by : ruWorks (w .device .units .ru) ≡ false → (x : Bool) → cuWorks (w .device .units .cu) ≡ x
-      → cond ((true && x) && not false) (record { answer = 0; areas = shown w }) (called (turn r) (shown w)) .areas ≡ shown w
+      → cond ((true && x) && not false) (asLent 0 (shown w)) (called (turn r) (shown w)) .areas ≡ shown w
   left-by h true e = refl
   left-by h false e = turn-left ∙ ap shown (idle-turn w r e h)
 
@@ -223,11 +231,9 @@ module _ (d : Device) (m h out : List ℕ) (b : Offset) (bs : List Offset) (repo
   begins : Begins (worldOf d m h out) b bs start after
   begins = list-begins (worldOf d m h out) b bs start
 
-  -- whatever the list: all bytes are as the definitions leave them, to the end turn of the first command, and stay so
-  pub serving-first-serves-the-first : AllReports reports → (s : Bool)
-      → started servingFirst s (turnsOf reports) (lentOf d m h out) ≡ shown (untilEnd reports after)
+  to-the-end-turn : AllReports reports → (s : Bool) → started servingFirst s (turnsOf reports) (lentOf d m h out) ≡ shown (untilEnd reports after)
   unfolding AsFar
-  serving-first-serves-the-first p s =
+  to-the-end-turn p s =
       next-run reports false false _ (shown after) refl (ap (λ (x : Called). x .areas) (accepted-call d m h out attention k))
       ∙ as-far (length m) (isTdr (d .units .base) m) b bs reports p after after-right (begins .free) (begins .at)
 
@@ -239,12 +245,15 @@ module _ (d : Device) (m h out : List ℕ) (b : Offset) (bs : List Offset) (repo
       (stays (length m) (isTdr (d .units .base) m) b bs reports after (begins .free) (begins .at)))
       (begins .statuses)
 
+pub serving-first-serves-the-first : ServesFirst servingFirst
+serving-first-serves-the-first = record { each = λ s d m h out b bs reports k l start p. to-the-end-turn d m h out b bs reports k l start p s }
+
 pub serving-first-is-of-its-kind : FirstOnly servingFirst
 serving-first-is-of-its-kind =
     record {
       each =
           λ s d m h out b bs reports k l start p.
-          subst (λ (a : Areas). Same (d .units .base) (a .memory) m bs) (sym (serving-first-serves-the-first d m h out b bs reports k l start p s))
+          subst (λ (a : Areas). Same (d .units .base) (a .memory) m bs) (sym (to-the-end-turn d m h out b bs reports k l start p s))
           (later-stay d m h out b bs reports k l start);
     }
 
@@ -260,5 +269,5 @@ pub first-of-two-done : (s : Bool)
 first-of-two-done s =
     let k = acceptable-two attention idle two (omega arith) two-size idle-wide idle-range in
     let l = handed-two attention idle two attending two-bytes idle-wide in
-    let e = serving-first-serves-the-first idle two heldArea sentArea one (other ∷ []) (0 ∷ 0 ∷ []) k l starting (zero-reports 2) s in
+    let e = serving-first-serves-the-first .each s idle two heldArea sentArea one (other ∷ []) (0 ∷ 0 ∷ []) k l starting (zero-reports 2) in
     ap (λ (a : Areas). wordAt (a .memory) (place (record { 0 = 0 }) one blockStatusAt)) e ∙ first-done

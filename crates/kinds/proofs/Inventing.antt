@@ -1,13 +1,20 @@
--- The chip that tells an edge where there is none, at report 7, invents: at a call, along a trace, and in the run of a list. Assumes nothing.
+-- The chip that tells an edge where there is none, at report 7, invents: at a call, along a trace, and in the run of a list. So does the one that counts
+-- an overrun more. Assumes nothing.
 use mathlib.Core.Path.{_≡_, refl, sym, ap, _∙_}
 use mathlib.Core.List.{List, [], _∷_}
 use mathlib.Core.Logic.{inl}
-use Prim.Native.Nat.{ℕ, _-_}
+use Prim.Native.Nat.{ℕ, _+_, _-_, _%_}
 use native.Mathlib.Omega.{arith}
 use lib.Dec.{lit≤}
 use lib.ListN.{getD, replicate}
+use Rattle.memory.specs.Memory.{wordAt}
+use Rattle.memory.proofs.Fields.{word-same}
+use Rattle.device.specs.Numbers.{counterPlace}
 use Rattle.device.specs.State.{fresh}
+use Rattle.device.specs.declared.Counter.the-variants as counter
+use Rattle.device.specs.declared.Device.{Device}
 use Rattle.image.proofs.Exact.{fresh-range, fresh-wide}
+use Rattle.control.specs.Obey.{ofScb}
 use Rattle.chip.specs.World.{World, worldOf}
 use Rattle.chip.specs.Call.{Call, attention, turn, ran}
 use Rattle.calls.specs.Calls.{Areas, Called, answerNumber}
@@ -17,15 +24,15 @@ use Rattle.kinds.specs.Chips.{Handed}
 use Rattle.kinds.specs.Closed.{Right}
 use Rattle.kinds.specs.Demands.{Acceptable}
 use Rattle.kinds.specs.Lists.{turnsOf}
-use Rattle.kinds.specs.Kinds.{fromEdge, anotherEdge, Invents, anotherEdges, InventsInTrace, InventsAlong}
-use Rattle.kinds.specs.Spoiled.{atSeven, turnedOver, inventing}
+use Rattle.kinds.specs.Kinds.{fromEdge, anotherCounter, anotherEdge, Invents, anotherCount, anotherEdges, InventsInTrace, InventsAlong}
+use Rattle.kinds.specs.Spoiled.{atSeven, turnedOver, countedOn, inventing, counting}
 use Rattle.kinds.proofs.Accepted.{accepted-call}
 use Rattle.kinds.proofs.Third.{right-acceptable, right-handed}
 use Rattle.kinds.proofs.Closing.{closing}
 use Rattle.kinds.proofs.Witness.{zeros, heldArea, sentArea, attending, acceptable-on, handed-on}
-use Rattle.kinds.proofs.Two.{two, idle, two-size, acceptable-two, idle-wide, idle-range, waits, begun, pair, right-two, two-run}
-use Rattle.kinds.proofs.Spoiled.{over-edge}
-use Rattle.kinds.proofs.Marked.{is-spoilt, sevenths}
+use Rattle.kinds.proofs.Two.{two, idle, two-size, acceptable-two, idle-wide, idle-range, waits, begun, pair, right-two, two-run, begun-device}
+use Rattle.kinds.proofs.Spoiled.{over-edge, as-long}
+use Rattle.kinds.proofs.Marked.{is-spoilt, units-said, sevenths}
 
 -- ---- at a call
 
@@ -46,6 +53,29 @@ edge-differs w k l e =
     ∙ over-edge x
     in
     other-edge (fromEdge x) (sym over ∙ e ∙ sym same)
+
+one-more : (x : ℕ) → (x + 1) % 65536 % 65536 ≡ x → ⊥
+one-more x e = omega (arith, e)
+
+-- and the counter is not
+abbrev overruns : Device → List ℕ → ℕ
+overruns d m = wordAt m (ofScb (d .units) (counterPlace counter.Overruns))
+
+count-differs : (w : World) → Acceptable (turn 7) (w .device) (w .memory) (w .holding) (w .outgoing) → Handed (turn 7) (shown w)
+    → overruns (w .device) (counting .calls tt (turn 7) (shown w) .areas .memory) ≡ overruns (w .device) (ran (turn 7) w .memory) → ⊥
+count-differs w k l e =
+    let m = called (turn 7) (shown w) .areas .memory in
+    let at = ofScb (w .device .units) (counterPlace counter.Overruns) in
+    let same : wordAt m at ≡ wordAt (ran (turn 7) w .memory) at =
+    ap (λ (r : Called). overruns (w .device) (r .areas .memory)) (accepted-call (w .device) (w .memory) (w .holding) (w .outgoing) (turn 7) k)
+    in
+    let more : overruns (w .device) (counting .calls tt (turn 7) (shown w) .areas .memory) ≡ (wordAt m at + 1) % 65536 % 65536 =
+    ap (λ (r : Called). overruns (w .device) (r .areas .memory))
+    (is-spoilt 7 (w .device) (w .memory) (w .holding) (w .outgoing) k l atSeven countedOn refl)
+    ∙ rw (units-said 7 (w .device) (w .memory) (w .holding) (w .outgoing) k l)
+    (word-same m at ((wordAt m at + 1) % 65536) (omega (arith, as-long 7 (shown w) l, k .size .least)))
+    in
+    one-more (wordAt m at) (sym more ∙ e ∙ sym same)
 
 abbrev freshly : World
 freshly = worldOf fresh zeros heldArea sentArea
@@ -68,6 +98,20 @@ inventing-is-of-its-kind =
       acceptable = fresh-acceptable;
       lent = fresh-handed;
       invented = anotherEdge (λ e. edge-differs freshly fresh-acceptable fresh-handed e);
+    }
+
+pub counting-is-of-its-kind : Invents counting
+counting-is-of-its-kind =
+    record {
+      inner = tt;
+      call = turn 7;
+      device = fresh;
+      memory = zeros;
+      holding = heldArea;
+      outgoing = sentArea;
+      acceptable = fresh-acceptable;
+      lent = fresh-handed;
+      invented = anotherCounter (fresh .units) (inl refl) counter.Overruns refl (λ e. count-differs freshly fresh-acceptable fresh-handed e);
     }
 
 -- ---- along a trace, of one turn
@@ -101,6 +145,19 @@ inventing-in-trace =
       invented = anotherEdges (λ e. edge-differs freshly fresh-acceptable fresh-handed (ap (λ (xs : List ℕ). getD xs 0 0) e));
     }
 
+pub counting-in-trace : InventsInTrace counting
+counting-in-trace =
+    record {
+      inner = tt;
+      world = freshly;
+      acts = turnsOf (7 ∷ []);
+      right = acceptable-right (turn 7) freshly fresh-acceptable fresh-handed;
+      all-acceptable = (sevenths, lit≤ tt, tt);
+      scb = fresh;
+      before-or-after = inl refl;
+      invented = anotherCount counter.Overruns refl (λ e. count-differs freshly fresh-acceptable fresh-handed e);
+    }
+
 -- ---- in the run of a list: two NOPs, and the first turn after the start
 
 start-acceptable : Acceptable attention idle two heldArea sentArea
@@ -109,11 +166,18 @@ start-acceptable = acceptable-two attention idle two (omega arith) two-size idle
 after-right : Right begun
 after-right = closing .each attention waits attending (omega arith) right-two
 
+-- what it is lent is what the attention left
+after-acceptable : Acceptable (turn 7) (begun .device) (begun .memory) (begun .holding) (begun .outgoing)
+after-acceptable = right-acceptable (turn 7) begun (omega arith) after-right
+
+after-handed : Handed (turn 7) (shown begun)
+after-handed = right-handed (turn 7) begun sevenths after-right
+
+after-lent : called attention (shown waits) .areas ≡ shown begun
+after-lent = ap (λ (r : Called). r .areas) (accepted-call idle two heldArea sentArea attention start-acceptable)
+
 pub inventing-along : InventsAlong inventing
 inventing-along =
-    let same : called attention (shown waits) .areas ≡ shown begun =
-    ap (λ (r : Called). r .areas) (accepted-call idle two heldArea sentArea attention start-acceptable)
-    in
     record {
       inner = tt;
       blocks = pair;
@@ -124,6 +188,26 @@ inventing-along =
       invented =
           anotherEdges
           (λ e.
-          edge-differs begun (right-acceptable (turn 7) begun (omega arith) after-right) (right-handed (turn 7) begun sevenths after-right)
-          (ap (λ (a : Areas). fromEdge (inventing .calls tt (turn 7) a .answer)) (sym same) ∙ ap (λ (xs : List ℕ). getD xs 1 0) e));
+          edge-differs begun after-acceptable after-handed
+          (ap (λ (a : Areas). fromEdge (inventing .calls tt (turn 7) a .answer)) (sym after-lent) ∙ ap (λ (xs : List ℕ). getD xs 1 0) e));
+    }
+
+-- the SCB stays where it was
+same-place : (m : List ℕ) → overruns (begun .device) m ≡ overruns idle m
+same-place m = ap (λ (d : Device). overruns d m) begun-device
+
+pub counting-along : InventsAlong counting
+counting-along =
+    record {
+      inner = tt;
+      blocks = pair;
+      acts = turnsOf (7 ∷ []);
+      more = turnsOf (replicate 263 0);
+      world = waits;
+      comes = two-run 7 (omega arith);
+      invented =
+          anotherCount counter.Overruns refl
+          (λ e.
+          count-differs begun after-acceptable after-handed
+          (same-place _ ∙ ap (λ (a : Areas). overruns idle (counting .calls tt (turn 7) a .areas .memory)) (sym after-lent) ∙ e ∙ sym (same-place _)));
     }

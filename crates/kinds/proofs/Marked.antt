@@ -1,4 +1,4 @@
--- The chips that mark commands complete without acting are of their kinds, and do complete; the one that turns the edge over invents. Assumes nothing.
+-- The chips that mark commands complete without acting are of their kinds, and do complete. Assumes nothing.
 use mathlib.Core.Path.{_≡_, refl, sym, ap, _∙_}
 use mathlib.Core.Bool.{Bool, true, false, not}
 use mathlib.Core.List.{List, [], _∷_, _++_, append-assoc}

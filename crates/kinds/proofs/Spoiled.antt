@@ -29,7 +29,7 @@ use Rattle.closure.proofs.Carried.{areas-as-long}
 use Rattle.kinds.specs.Chips.{Handed}
 use Rattle.kinds.specs.Demands.{lentOf}
 use Rattle.kinds.specs.Kinds.{setupIn, fromEdge, RefusesAll, OneAnswer, MemoryAsLent}
-use Rattle.kinds.specs.Spoiled.{Piece, theNumber, theLength, theEdge, memoryByte, holdingByte, outgoingByte, recordByte, byteIn, pieceOf, AsOursBut, plain, refusing, answering, OfAnswer, leaving, OfMemory, spoiling, SpoiltTurn, always, atSeven, unset, OfSetup, measuredIn, wordsBack, unmeasured, ByteOfWord, OfWord, unsent, unacted, OfAction, turnedOver, settingNothing, measuringNothing, sendingNothing, markingOnly, markingAtSeven, inventing}
+use Rattle.kinds.specs.Spoiled.{Piece, theNumber, theLength, theEdge, memoryByte, holdingByte, outgoingByte, recordByte, byteIn, pieceOf, AsOursBut, plain, asLent, refusing, withAnswer, answering, OfAnswer, withMemory, leaving, OfMemory, spoiling, SpoiltTurn, always, atSeven, unset, OfSetup, measuredIn, wordsBack, unmeasured, ByteOfWord, ByteOfWords, OfWord, unsent, unacted, OfAction, turnedOver, overrunsIn, countedOn, OfOverruns, settingNothing, measuringNothing, sendingNothing, markingOnly, markingAtSeven, inventing, counting}
 
 -- ---- the pieces are all: what has the same pieces is the same
 
@@ -77,7 +77,7 @@ above n true e z = absurd (let y : _≡_ {A = ℕ} 0 1 = cc in omega arith)
 above zero false e z = absurd (let y : _≡_ {A = ℕ} 0 1 = cc in omega arith)
 above (suc n) false e z = omega arith
 
-refuses-by : (b : Bool) (r : Called) (a : Areas) → isRefused r ≡ b → 0 < number (cond b r (record { answer = 1; areas = a }) .answer)
+refuses-by : (b : Bool) (r : Called) (a : Areas) → isRefused r ≡ b → 0 < number (cond b r (asLent 1 a) .answer)
 unfolding bitsAt
 refuses-by true r a e = above (number (r .answer)) (eqb (number (r .answer)) 0) refl e
 refuses-by false r a e = omega arith
@@ -86,11 +86,11 @@ pub refusing-is-of-its-kind : RefusesAll refusing
 refusing-is-of-its-kind = record { each = λ s c d m h out k l. refuses-by (isRefused (called c (lentOf d m h out))) _ _ refl }
 
 -- a call that is to be refused is refused as document 01 says
-pub refusing-is-no-worse : AsOursBut refusing (λ s c a p. isRefused (called c a) ≡ false)
-refusing-is-no-worse = record { each = λ s c a p l h. right-by (isRefused (called c a)) (called c a) a p h }
+pub refusing-is-no-worse : AsOursBut refusing (λ s c a p. isRefused (called c a) ≡ false) (λ a r. asLent 1 a)
+refusing-is-no-worse =
+    record { those = λ s c a p l h. rw h; others = λ s c a p l h. right-by (isRefused (called c a)) (called c a) a p h }
   where
-    right-by : (b : Bool) (r : Called) (a : Areas) (p : Piece) → (b ≡ false → ⊥)
-        → pieceOf p (cond b r (record { answer = 1; areas = a })) ≡ pieceOf p r
+    right-by : (b : Bool) (r : Called) (a : Areas) (p : Piece) → (b ≡ false → ⊥) → pieceOf p (cond b r (asLent 1 a)) ≡ pieceOf p r
     right-by true r a p h = refl
     right-by false r a p h = absurd (h refl)
 
@@ -99,7 +99,7 @@ pub refusing-changes-nothing : (c : Call) (a : Areas) → Untouched a (refusing 
 unfolding bitsAt
 refusing-changes-nothing c a = kept-by (isRefused (called c a)) (called c a) refl (untouched c a)
   where
-    kept-by : (b : Bool) (r : Called) → isRefused r ≡ b → (isRefused r ≡ true → Untouched a r) → Untouched a (cond b r (record { answer = 1; areas = a }))
+    kept-by : (b : Bool) (r : Called) → isRefused r ≡ b → (isRefused r ≡ true → Untouched a r) → Untouched a (cond b r (asLent 1 a))
     kept-by true r e h = h e
     kept-by false r e h = record { areas = refl; length = refl; edge = refl; whole = refl }
 
@@ -108,8 +108,8 @@ refusing-changes-nothing c a = kept-by (isRefused (called c a)) (called c a) ref
 pub answering-is-of-its-kind : (n : ℕ) → OneAnswer (answering n)
 answering-is-of-its-kind n = record { answer = n; each = λ s c d m h out k l. refl }
 
-pub answering-is-no-worse : (n : ℕ) → AsOursBut (answering n) (λ s c a p. OfAnswer p)
-answering-is-no-worse n = record { each = λ s c a p l h. rest c a p h }
+pub answering-is-no-worse : (n : ℕ) → AsOursBut (answering n) (λ s c a p. OfAnswer p) (λ a. withAnswer n)
+answering-is-no-worse n = record { those = λ s c a p l h. refl; others = λ s c a p l h. rest c a p h }
   where
     rest : (c : Call) (a : Areas) (p : Piece) → (OfAnswer p → ⊥) → pieceOf p (answering n .calls tt c a) ≡ pieceOf p (called c a)
     rest c a theNumber h = absurd (h tt)
@@ -125,8 +125,8 @@ answering-is-no-worse n = record { each = λ s c a p l h. rest c a p h }
 pub leaving-is-of-its-kind : MemoryAsLent leaving
 leaving-is-of-its-kind = record { each = λ s c d m h out k l. refl }
 
-pub leaving-is-no-worse : AsOursBut leaving (λ s c a p. OfMemory p)
-leaving-is-no-worse = record { each = λ s c a p l h. rest c a p h }
+pub leaving-is-no-worse : AsOursBut leaving (λ s c a p. OfMemory p) (λ a. withMemory (a .memory))
+leaving-is-no-worse = record { those = λ s c a p l h. refl; others = λ s c a p l h. rest c a p h }
   where
     rest : (c : Call) (a : Areas) (p : Piece) → (OfMemory p → ⊥) → pieceOf p (leaving .calls tt c a) ≡ pieceOf p (called c a)
     rest c a theNumber h = refl
@@ -139,24 +139,31 @@ leaving-is-no-worse = record { each = λ s c a p l h. rest c a p h }
 
 -- ---- what spoils a turn alone, and of that some pieces alone
 
-pub chosen : (x y : Bool) (s r : Called) (p : Piece) → (x ≡ true → pieceOf p s ≡ pieceOf p r) → pieceOf p (cond (x && y) s r) ≡ pieceOf p r
-chosen true true s r p h = h refl
-chosen true false s r p h = refl
+pub chosen : (x y : Bool) (s r : Called) (p : Piece) → (x ≡ true → y ≡ false → pieceOf p s ≡ pieceOf p r)
+    → pieceOf p (cond (x && not y) s r) ≡ pieceOf p r
+chosen true true s r p h = refl
+chosen true false s r p h = h refl refl
 chosen false y s r p h = refl
 
 module _ (at : ℕ → Bool) (spoil : Areas → Called → Called) (Of : Areas → Piece → Type 0)
     (law : (report : ℕ) (a : Areas) (p : Piece) → Handed (turn report) a → (Of a p → ⊥)
     → pieceOf p (spoil a (called (turn report) a)) ≡ pieceOf p (called (turn report) a)) where
-  spoils-those : (c : Call) (a : Areas) (p : Piece) → Handed c a → (SpoiltTurn at c × Of a p → ⊥)
-      → pieceOf p (spoiling at spoil c a) ≡ pieceOf p (called c a)
-  spoils-those reset a p l h = refl
-  spoils-those attention a p l h = refl
-  spoils-those (arrive f v) a p l h = refl
-  spoils-those (turn report) a p l h =
-      let r = called (turn report) a in chosen (at report) (not (isRefused r)) (spoil a r) r p (λ e. law report a p l (λ o. h (e, o)))
+  spoils-those : (c : Call) (a : Areas) (p : Piece) → SpoiltTurn at c a → pieceOf p (spoiling at spoil c a) ≡ pieceOf p (spoil a (called c a))
+  spoils-those reset a p h = absurd h
+  spoils-those attention a p h = absurd h
+  spoils-those (arrive f v) a p h = absurd h
+  spoils-those (turn report) a p h = rw (h .0, h .1)
 
-  spoils-no-more : AsOursBut (plain (spoiling at spoil)) (λ s c a p. SpoiltTurn at c × Of a p)
-  spoils-no-more = record { each = λ s c a p l h. spoils-those c a p l h }
+  spoils-no-others : (c : Call) (a : Areas) (p : Piece) → Handed c a → (SpoiltTurn at c a × Of a p → ⊥)
+      → pieceOf p (spoiling at spoil c a) ≡ pieceOf p (called c a)
+  spoils-no-others reset a p l h = refl
+  spoils-no-others attention a p l h = refl
+  spoils-no-others (arrive f v) a p l h = refl
+  spoils-no-others (turn report) a p l h =
+      let r = called (turn report) a in chosen (at report) (isRefused r) (spoil a r) r p (λ e k. law report a p l (λ o. h ((e, k), o)))
+
+  spoils-no-more : AsOursBut (plain (spoiling at spoil)) (λ s c a p. SpoiltTurn at c a × Of a p) spoil
+  spoils-no-more = record { those = λ s c a p l h. spoils-those c a p (h .0); others = λ s c a p l h. spoils-no-others c a p l h }
 
 -- the settings
 sets-other : (vs xs : List ℕ) (at i : ℕ) → ((at ≤ i) × (i < at + length vs) → ⊥) → getD (sets xs at vs) i 0 ≡ getD xs i 0
@@ -179,24 +186,23 @@ unset-rest a r (recordByte i) h =
     (sets-other s k setupAt i (λ q. h (q .0, omega (arith, q .1, length-from (a .kept) setupAt setupSize))))
 
 -- TDR's word
-word-elsewhere : (m : List ℕ) (at w i : ℕ) → (i ≡ at % length m → ⊥) → (i ≡ (at + 1) % length m → ⊥)
-    → getD (putBytes m at (digits 2 w)) i 0 ≡ getD m i 0
+word-elsewhere : (m : List ℕ) (at w i : ℕ) → (ByteOfWord (length m) at i → ⊥) → getD (putBytes m at (digits 2 w)) i 0 ≡ getD m i 0
 unfolding putBytes putByte digits
-word-elsewhere m at w i p q =
+word-elsewhere m at w i h =
     let x = set m (at % length m) (w % 256) in
     let n : length x ≡ length m = length-set m (at % length m) (w % 256) in
     let one : suc at ≡ at + 1 = omega arith in
-    getD-set-other x (suc at % length x) i (w / 256 % 256) 0 (λ e. q (rw (n, one) at e)) ∙ getD-set-other m (at % length m) i (w % 256) 0 p
+    getD-set-other x (suc at % length x) i (w / 256 % 256) 0 (λ e. h (inr (rw (n, one) at e))) ∙ getD-set-other m (at % length m) i (w % 256) 0 (λ e. h (inl e))
 
-words-elsewhere : (base : RealAddress) (was : List ℕ) (os : List Offset) (m : List ℕ) (i : ℕ) → (ByteOfWord (length m) base os i → ⊥)
+words-elsewhere : (base : RealAddress) (was : List ℕ) (os : List Offset) (m : List ℕ) (i : ℕ) → (ByteOfWords (length m) base os i → ⊥)
     → getD (apply (wordsBack base was os) m) i 0 ≡ getD m i 0
 words-elsewhere base was [] m i h = refl
 words-elsewhere base was (o ∷ os) m i h =
     let at = place base o argumentAt in
     let w = wordAt was at in
     let n : length (putBytes m at (digits 2 w)) ≡ length m = length-putBytes m at (digits 2 w) in
-    words-elsewhere base was os (putBytes m at (digits 2 w)) i (λ k. h (inr (inr (rw n at k))))
-    ∙ word-elsewhere m at w i (λ e. h (inl e)) (λ e. h (inr (inl e)))
+    words-elsewhere base was os (putBytes m at (digits 2 w)) i (λ k. h (inr (rw n at k)))
+    ∙ word-elsewhere m at w i (λ e. h (inl e))
 
 unmeasured-rest : (a : Areas) (r : Called) (p : Piece) → length (r .areas .memory) ≡ length (a .memory) → (OfWord a p → ⊥)
     → pieceOf p (unmeasured a r) ≡ pieceOf p r
@@ -256,6 +262,21 @@ over-rest r (holdingByte i) h = refl
 over-rest r (outgoingByte i) h = refl
 over-rest r (recordByte i) h = refl
 
+-- a counter
+counted-rest : (a : Areas) (r : Called) (p : Piece) → length (r .areas .memory) ≡ length (a .memory) → (OfOverruns a p → ⊥)
+    → pieceOf p (countedOn a r) ≡ pieceOf p r
+counted-rest a r theNumber n h = refl
+counted-rest a r theLength n h = refl
+counted-rest a r theEdge n h = refl
+counted-rest a r (memoryByte i) n h =
+    let m = r .areas .memory in
+    let at = overrunsIn a in
+    let w = (wordAt m at + 1) % 65536 in
+    at-index i (putBytes m at (digits 2 w)) m (length-putBytes m at (digits 2 w)) (word-elsewhere m at w i (λ k. h (rw n at k)))
+counted-rest a r (holdingByte i) n h = refl
+counted-rest a r (outgoingByte i) n h = refl
+counted-rest a r (recordByte i) n h = refl
+
 -- all three
 pub as-long : (report : ℕ) (a : Areas) → Handed (turn report) a → length (called (turn report) a .areas .memory) ≡ length (a .memory)
 as-long report a l = areas-as-long (turn report) a (l .given .frame) (l .areas) .memory
@@ -266,23 +287,27 @@ unacted-rest a r p n h =
     unsent-rest (unmeasured a (unset a r)) p (λ o. h (inr (inr o))) ∙ unmeasured-rest a (unset a r) p n (λ o. h (inr (inl o)))
     ∙ unset-rest a r p (λ o. h (inl o))
 
-pub setting-nothing-is-no-worse : AsOursBut settingNothing (λ s c a p. SpoiltTurn always c × OfSetup p)
+pub setting-nothing-is-no-worse : AsOursBut settingNothing (λ s c a p. SpoiltTurn always c a × OfSetup p) unset
 setting-nothing-is-no-worse = spoils-no-more always unset (λ a. OfSetup) (λ report a p l. unset-rest a (called (turn report) a) p)
 
-pub measuring-nothing-is-no-worse : AsOursBut measuringNothing (λ s c a p. SpoiltTurn always c × OfWord a p)
+pub measuring-nothing-is-no-worse : AsOursBut measuringNothing (λ s c a p. SpoiltTurn always c a × OfWord a p) unmeasured
 measuring-nothing-is-no-worse =
     spoils-no-more always unmeasured OfWord (λ report a p l. unmeasured-rest a (called (turn report) a) p (as-long report a l))
 
-pub sending-nothing-is-no-worse : AsOursBut sendingNothing (λ s c a p. SpoiltTurn always c × (p ≡ theLength))
+pub sending-nothing-is-no-worse : AsOursBut sendingNothing (λ s c a p. SpoiltTurn always c a × (p ≡ theLength)) (λ a. unsent)
 sending-nothing-is-no-worse = spoils-no-more always (λ a. unsent) (λ a p. p ≡ theLength) (λ report a p l. unsent-rest (called (turn report) a) p)
 
-pub marking-only-is-no-worse : AsOursBut markingOnly (λ s c a p. SpoiltTurn always c × OfAction a p)
+pub marking-only-is-no-worse : AsOursBut markingOnly (λ s c a p. SpoiltTurn always c a × OfAction a p) unacted
 marking-only-is-no-worse =
     spoils-no-more always unacted OfAction (λ report a p l. unacted-rest a (called (turn report) a) p (as-long report a l))
 
-pub marking-at-seven-is-no-worse : AsOursBut markingAtSeven (λ s c a p. SpoiltTurn atSeven c × OfAction a p)
+pub marking-at-seven-is-no-worse : AsOursBut markingAtSeven (λ s c a p. SpoiltTurn atSeven c a × OfAction a p) unacted
 marking-at-seven-is-no-worse =
     spoils-no-more atSeven unacted OfAction (λ report a p l. unacted-rest a (called (turn report) a) p (as-long report a l))
 
-pub inventing-is-no-worse : AsOursBut inventing (λ s c a p. SpoiltTurn atSeven c × (p ≡ theEdge))
+pub inventing-is-no-worse : AsOursBut inventing (λ s c a p. SpoiltTurn atSeven c a × (p ≡ theEdge)) (λ a. turnedOver)
 inventing-is-no-worse = spoils-no-more atSeven (λ a. turnedOver) (λ a p. p ≡ theEdge) (λ report a p l. over-rest (called (turn report) a) p)
+
+pub counting-is-no-worse : AsOursBut counting (λ s c a p. SpoiltTurn atSeven c a × OfOverruns a p) countedOn
+counting-is-no-worse =
+    spoils-no-more atSeven countedOn OfOverruns (λ report a p l. counted-rest a (called (turn report) a) p (as-long report a l))

@@ -15,13 +15,14 @@ use Rattle.progress.specs.Trace.{run}
 use Rattle.traces.specs.Areas.{Hosted, shown}
 use Rattle.traces.specs.Event.{Event, call, host, step, answersOf}
 use Rattle.closure.specs.Refusals.{FrameRight}
-use Rattle.lists.proofs.Whole.{attention-list-done}
+use Rattle.lists.specs.Done.{enough, Done}
+use Rattle.lists.proofs.Whole.{attention-list-done, resumed-list-done}
 use Rattle.held.proofs.Held.{held-frame}
 use Rattle.held.proofs.OnRecords.{to-hold}
 use Rattle.kinds.specs.Chips.{Chip, ours, Given, Handed, Meets, Act, does, asks, eventsIn, chipRun, chipAnswers}
 use Rattle.kinds.specs.Demands.{Acceptable, Demand2}
 use Rattle.kinds.specs.Closed.{Right, Closed}
-use Rattle.kinds.specs.Third.{AllAcceptable, AllRefused, AsSaid, Demand3}
+use Rattle.kinds.specs.Third.{AllAcceptable, AllRefused, AsSaid, RunBy, ResumedRun, Demand3}
 use Rattle.kinds.specs.Kinds.{InventedAlong, anotherCount, anotherEdges, fromEdge, InventsAlong}
 use Rattle.kinds.proofs.Equal.{ours-meets, as-called}
 use Rattle.kinds.proofs.Ours.{has-demand2, defined-kept}
@@ -115,13 +116,23 @@ module _ (closed : Closed) (chip : Chip) (p : Meets chip) where
   as-said : (acts : List Act) (s : chip .Inner) (w : World) → AllAcceptable (eventsIn acts) → AllRefused acts → Right w → AsSaid chip s acts w
   as-said acts s w f g r = all-said chip p acts s w g (along closed chip (has-demand2 chip p) acts s w f r)
 
+  -- a list, however the attention sets it off
+  list-said : (SetsOff : List ℕ → World → Type 0) (least : ℕ → ℕ) (s : chip .Inner) (bs : List ℕ) (acts : List Act) (w : World)
+      → RunBy SetsOff least bs acts w → AsSaid chip s (does (call attention) ∷ acts) w
+  list-said SetsOff least s bs acts w k =
+      as-said (does (call attention) ∷ acts) s w (attending, lit≤ tt, k .acceptable) (k .refused) (k .right)
+
+  pub meets-resumed : (s : chip .Inner) (bs : List ℕ) (acts : List Act) (w : World) → ResumedRun enough bs acts w
+      → Done bs (eventsIn acts) (step (call attention) w) × AsSaid chip s (does (call attention) ∷ acts) w
+  meets-resumed s bs acts w k = (resumed-list-done bs (eventsIn acts) w (k .sets-off) (k .listed) (k .premises), list-said _ enough s bs acts w k)
+
   pub meets-demand3 : Demand3 chip
   meets-demand3 =
       record {
         list =
             λ s bs acts w k. (
-              attention-list-done bs (eventsIn acts) w (k .starts) (k .first) (k .listed) (k .premises),
-              as-said (does (call attention) ∷ acts) s w (attending, lit≤ tt, k .acceptable) (k .refused) (k .right),
+              attention-list-done bs (eventsIn acts) w (k .sets-off .starts) (k .sets-off .first) (k .listed) (k .premises),
+              list-said _ enough s bs acts w k,
             );
         frame =
             λ s f acts w k. (

@@ -227,8 +227,7 @@ two-run r p =
     let idle-then = idle-kept 260 0 (lists.bytesOf begun pair) (over r) (over-idle r) (over-free r) in
     record {
       right = right-two;
-      starts = begins-at;
-      first = refl;
+      sets-off = record { starts = begins-at; first = refl };
       listed = stands;
       acceptable = acceptable-turns (r ∷ replicate 263 0) (p, zero-reports 263);
       refused = refused-turns (r ∷ replicate 263 0);
@@ -286,6 +285,9 @@ record Goes (c : Call) (d : Device) (m : List ℕ) (d′ : Device) (m′ : List 
 starts : Goes attention idle two (withUnit (cu.Waiting one)) m1
 unfolding keptb
 starts = record { device = refl; memory = refl; holding = refl; outgoing = refl }
+
+pub begun-device : begun .device ≡ withUnit (cu.Waiting one)
+begun-device = starts .device
 
 begins : Goes (turn 0) (withUnit (cu.Waiting one)) m1 (withUnit nop) m2
 unfolding keptb

@@ -8,23 +8,30 @@ use lib.Dec.{eqb}
 use lib.ListN.{length, take, drop}
 use lib.Seq.{sets}
 use Rattle.memory.specs.Address.{place}
-use Rattle.memory.specs.Memory.{wordAt, Write, apply, wordTo}
+use Rattle.memory.specs.Memory.{wordAt, Write, apply, wordTo, countTo}
 use Rattle.memory.specs.declared.Offset.{Offset}
 use Rattle.memory.specs.declared.RealAddress.{RealAddress}
+use Rattle.device.specs.Numbers.{counterPlace}
 use Rattle.device.specs.declared.Action.{Action}
 use Rattle.device.specs.declared.Action.the-variants as action
+use Rattle.device.specs.declared.Counter.the-variants as counter
 use Rattle.device.specs.declared.Cu.{Cu}
 use Rattle.device.specs.declared.Cu.the-variants as cu
+use Rattle.device.specs.declared.Device.{Device}
 use Rattle.packed.specs.Record.{setupAt}
 use Rattle.packed.specs.SetUp.{setupSize}
 use Rattle.actions.specs.Block.{argumentAt}
+use Rattle.control.specs.Obey.{ofScb}
 use Rattle.chip.specs.Call.{Call, reset, attention, arrive, turn}
 use Rattle.chip.specs.Turn.{servedOf, isCommand, turnOf}
-use Rattle.chip.specs.World.{World, afterwards}
+use Rattle.chip.specs.World.{World, worldOf, afterwards}
 use Rattle.calls.specs.Calls.{Areas, areasOf, Called}
-use Rattle.traces.specs.Areas.{unitsIn}
+use Rattle.traces.specs.Areas.{shown, unitsIn}
 use Rattle.traces.specs.Bytes.{called, number, sentLength, isRefused}
+use Rattle.traces.specs.Event.{call, step}
 use Rattle.kinds.specs.Chips.{Chip, Handed}
+use Rattle.kinds.specs.Demands.{Acceptable, lentOf}
+use Rattle.kinds.specs.Lists.{Starting, turnsOf, AllReports, started}
 use Rattle.kinds.specs.Kinds.{setupIn, fromEdge}
 
 -- ---- all that a call leaves, piece by piece: three of the answer, and each byte of each area by its index
@@ -51,9 +58,12 @@ pieceOf (holdingByte i) r = byteIn i (r .areas .holding)
 pieceOf (outgoingByte i) r = byteIn i (r .areas .outgoing)
 pieceOf (recordByte i) r = byteIn i (r .areas .kept)
 
--- whatever the inner state, the call and what is lent: every piece but those that are said to be spoilt is what the definitions leave
-pub record AsOursBut (chip : Chip) (spoilt : chip .Inner → Call → Areas → Piece → Type 0) : Type 0 where
-  pub each : (s : chip .Inner) (c : Call) (a : Areas) (p : Piece) → Handed c a → (spoilt s c a p → ⊥)
+-- whatever the inner state, the call and what is lent: the pieces that are said to be spoilt are those of what is left instead, and every other piece is
+-- what the definitions leave. Instead: made of what is lent and what the definitions leave
+pub record AsOursBut (chip : Chip) (spoilt : chip .Inner → Call → Areas → Piece → Type 0) (instead : Areas → Called → Called) : Type 0 where
+  pub those : (s : chip .Inner) (c : Call) (a : Areas) (p : Piece) → Handed c a → spoilt s c a p
+      → pieceOf p (chip .calls s c a) ≡ pieceOf p (instead a (called c a))
+  pub others : (s : chip .Inner) (c : Call) (a : Areas) (p : Piece) → Handed c a → (spoilt s c a p → ⊥)
       → pieceOf p (chip .calls s c a) ≡ pieceOf p (called c a)
 
 -- ---- chips without inner state
@@ -61,9 +71,13 @@ pub record AsOursBut (chip : Chip) (spoilt : chip .Inner → Call → Areas → 
 abbrev pub plain : (Call → Areas → Called) → Chip
 plain does = record { Inner = Unit {0}; first = tt; calls = λ s c a. does c a; next = λ s c a. tt }
 
+-- all is as lent, and n is answered
+abbrev pub asLent : ℕ → Areas → Called
+asLent n a = record { answer = n; areas = a }
+
 -- it refuses every call: with document 01's number where there is one, else with 1
 abbrev pub refusing : Chip
-refusing = plain (λ c a. cond (isRefused (called c a)) (called c a) (record { answer = 1; areas = a }))
+refusing = plain (λ c a. cond (isRefused (called c a)) (called c a) (asLent 1 a))
 
 -- it answers n
 abbrev pub withAnswer : ℕ → Called → Called
@@ -109,11 +123,11 @@ spoiling at spoil (arrive f v) a = called (arrive f v) a
 spoiling at spoil (turn report) a = spoiledBy (at report) (spoil a) (called (turn report) a)
 
 -- such a turn
-abbrev pub SpoiltTurn : (ℕ → Bool) → Call → Type 0
-SpoiltTurn at reset = ⊥
-SpoiltTurn at attention = ⊥
-SpoiltTurn at (arrive f v) = ⊥
-SpoiltTurn at (turn report) = at report ≡ true
+abbrev pub SpoiltTurn : (ℕ → Bool) → Call → Areas → Type 0
+SpoiltTurn at reset a = ⊥
+SpoiltTurn at attention a = ⊥
+SpoiltTurn at (arrive f v) a = ⊥
+SpoiltTurn at (turn report) a = (at report ≡ true) × (isRefused (called (turn report) a) ≡ false)
 
 -- at every report, or at 7 alone
 abbrev pub always : ℕ → Bool
@@ -166,15 +180,19 @@ abbrev pub unmeasured : Areas → Called → Called
 unmeasured a r =
     let u = unitsIn (a .kept) in withMemory (apply (wordsBack (u .base) (a .memory) (measuredIn (u .cu))) (r .areas .memory)) r
 
-abbrev pub ByteOfWord : ℕ → RealAddress → List Offset → ℕ → Type 0
-ByteOfWord n base [] i = ⊥
-ByteOfWord n base (o ∷ os) i = (i ≡ place base o argumentAt % n) ⊎ (i ≡ (place base o argumentAt + 1) % n) ⊎ ByteOfWord n base os i
+-- one of the two bytes of the word at an address, in n bytes of memory
+abbrev pub ByteOfWord : ℕ → ℕ → ℕ → Type 0
+ByteOfWord n at i = (i ≡ at % n) ⊎ (i ≡ (at + 1) % n)
+
+abbrev pub ByteOfWords : ℕ → RealAddress → List Offset → ℕ → Type 0
+ByteOfWords n base [] i = ⊥
+ByteOfWords n base (o ∷ os) i = ByteOfWord n (place base o argumentAt) i ⊎ ByteOfWords n base os i
 
 abbrev pub OfWord : Areas → Piece → Type 0
 OfWord a theNumber = ⊥
 OfWord a theLength = ⊥
 OfWord a theEdge = ⊥
-OfWord a (memoryByte i) = ByteOfWord (length (a .memory)) (unitsIn (a .kept) .base) (measuredIn (unitsIn (a .kept) .cu)) i
+OfWord a (memoryByte i) = ByteOfWords (length (a .memory)) (unitsIn (a .kept) .base) (measuredIn (unitsIn (a .kept) .cu)) i
 OfWord a (holdingByte i) = ⊥
 OfWord a (outgoingByte i) = ⊥
 OfWord a (recordByte i) = ⊥
@@ -194,6 +212,22 @@ OfAction a p = OfSetup p ⊎ OfWord a p ⊎ (p ≡ theLength)
 abbrev pub turnedOver : Called → Called
 turnedOver r = withAnswer (r .answer % 2 ^ 32 + (1 - fromEdge (r .answer)) * 2 ^ 32) r
 
+-- OVRNERRS of the state that is lent is one more than what the definitions leave, modulo 65,536
+abbrev pub overrunsIn : Areas → ℕ
+overrunsIn a = ofScb (unitsIn (a .kept)) (counterPlace counter.Overruns)
+
+abbrev pub countedOn : Areas → Called → Called
+countedOn a r = withMemory (apply (countTo (r .areas .memory) (overrunsIn a) ∷ []) (r .areas .memory)) r
+
+abbrev pub OfOverruns : Areas → Piece → Type 0
+OfOverruns a theNumber = ⊥
+OfOverruns a theLength = ⊥
+OfOverruns a theEdge = ⊥
+OfOverruns a (memoryByte i) = ByteOfWord (length (a .memory)) (overrunsIn a) i
+OfOverruns a (holdingByte i) = ⊥
+OfOverruns a (outgoingByte i) = ⊥
+OfOverruns a (recordByte i) = ⊥
+
 abbrev pub settingNothing : Chip
 settingNothing = plain (spoiling always unset)
 
@@ -211,6 +245,9 @@ markingAtSeven = plain (spoiling atSeven unacted)
 
 abbrev pub inventing : Chip
 inventing = plain (spoiling atSeven (λ a. turnedOver))
+
+abbrev pub counting : Chip
+counting = plain (spoiling atSeven countedOn)
 
 -- ---- one that serves the first command and no other: it keeps in mind whether a command was completed since the last attention
 
@@ -237,7 +274,7 @@ firstCalls completed reset a = called reset a
 firstCalls completed attention a = called attention a
 firstCalls completed (arrive f v) a = called (arrive f v) a
 firstCalls completed (turn report) a =
-    spoiledBy (completed && toCommand a) (λ r. record { answer = 0; areas = a }) (called (turn report) a)
+    spoiledBy (completed && toCommand a) (λ r. asLent 0 a) (called (turn report) a)
 
 abbrev pub firstNext : Bool → Call → Areas → Bool
 firstNext completed reset a = false
@@ -253,9 +290,15 @@ abbrev pub AfterFirst : Bool → Call → Areas → Type 0
 AfterFirst completed reset a = ⊥
 AfterFirst completed attention a = ⊥
 AfterFirst completed (arrive f v) a = ⊥
-AfterFirst completed (turn report) a = (completed ≡ true) × (toCommand a ≡ true)
+AfterFirst completed (turn report) a = (completed ≡ true) × (toCommand a ≡ true) × (isRefused (called (turn report) a) ≡ false)
 
 -- turns, as the definitions go, to the end turn of the command that is in work
 abbrev pub untilEnd : List ℕ → World → World
 untilEnd [] w = w
 untilEnd (r ∷ rs) w = cond (isEnd (w .device .units .cu)) (afterwards (turnOf w r)) (untilEnd rs (afterwards (turnOf w r)))
+
+-- it serves the first command as ours does, whatever the list: all bytes are as the definitions leave them, to the end turn of that command, and stay so
+pub record ServesFirst (chip : Chip) : Type 0 where
+  pub each : (s : chip .Inner) (d : Device) (m h out : List ℕ) (b : Offset) (bs : List Offset) (reports : List ℕ)
+      → Acceptable attention d m h out → Handed attention (lentOf d m h out) → Starting d m b bs → AllReports reports
+      → started chip s (turnsOf reports) (lentOf d m h out) ≡ shown (untilEnd reports (step (call attention) (worldOf d m h out)))

@@ -16,7 +16,7 @@ use Rattle.traces.specs.Bytes.{called, isRefused}
 use Rattle.traces.specs.Event.{Event, call, host, step, isTurn, DuringList, WhileHeld}
 use Rattle.closure.specs.Refusals.{FrameRight}
 use Rattle.lists.specs.Uses.{Listed, firstOf}
-use Rattle.lists.specs.Done.{Starts, enough, Premises, Done}
+use Rattle.lists.specs.Done.{Starts, Resumes, enough, Premises, Done}
 use Rattle.held.specs.Held.{framesIn, Settled}
 use Rattle.kinds.specs.Chips.{Chip, Given, Handed, Act, does, asks, eventsIn}
 use Rattle.kinds.specs.Closed.{Right}
@@ -47,15 +47,26 @@ AsSaid chip s (asks c a ∷ acts) w = (chip .calls s c a ≡ called c a) × AsSa
 -- ---- what the sentences ask, in a world in which no call is refused for what stands. It is asked of the definitions' run, whatever the chip: up to
 -- the first call at which the chip does otherwise, what it left is what the definitions left; and there the demand, done as in 2, is not met
 
--- a channel attention, in the world w, starts a command list of the blocks bs, as they stand in memory after it; what comes then
-pub record ListRun (least : ℕ → ℕ) (bs : List ℕ) (acts : List Act) (w : World) : Type 0 where
+-- a channel attention, in the world w, sets off a command list of the blocks bs, as they stand in memory after it; what comes then
+pub record RunBy (SetsOff : List ℕ → World → Type 0) (least : ℕ → ℕ) (bs : List ℕ) (acts : List Act) (w : World) : Type 0 where
   pub right : Right w
-  pub starts : Starts w
-  pub first : firstOf bs ≡ wordAt (w .memory) (ofScb (w .device .units) cblAt)
+  pub sets-off : SetsOff bs w
   pub listed : Listed (step (call attention) w .device .units .base) (step (call attention) w .memory) bs
   pub acceptable : AllAcceptable (eventsIn acts)
   pub refused : AllRefused acts
   pub premises : Premises DuringList least bs (eventsIn acts) (step (call attention) w)
+
+-- the attention starts it, at the CBL offset
+pub record StartsAt (bs : List ℕ) (w : World) : Type 0 where
+  pub starts : Starts w
+  pub first : firstOf bs ≡ wordAt (w .memory) (ofScb (w .device .units) cblAt)
+
+abbrev pub ListRun : (ℕ → ℕ) → List ℕ → List Act → World → Type 0
+ListRun least bs acts w = RunBy StartsAt least bs acts w
+
+-- or, beyond the sentence, resumes it, from the block on before which the unit was suspended
+abbrev pub ResumedRun : (ℕ → ℕ) → List ℕ → List Act → World → Type 0
+ResumedRun least bs acts w = RunBy (λ cs. Resumes (firstOf cs)) least bs acts w
 
 -- a frame is held; no attention or reset comes
 pub record HeldRun (most : ℕ) (f : Frame) (acts : List Act) (w : World) : Type 0 where
