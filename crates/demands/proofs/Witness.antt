@@ -16,7 +16,7 @@ use Rattle.lists.specs.Uses.{Listed}
 use Rattle.lists.specs.Done.{enough}
 use Rattle.worked.proofs.BytesWitness.{stray, stray-refused}
 use Rattle.worked.proofs.Resumed as resumed-run
-use Rattle.worked.proofs.Tests.{keptb}
+use Rattle.lists.proofs.Tests.{keptb}
 use Rattle.held.specs.Held.{framesIn}
 use Rattle.held.proofs.Exact as held-exact
 use Rattle.kinds.specs.Chips.{Handed, Act, does, asks}
