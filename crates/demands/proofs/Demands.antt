@@ -16,7 +16,6 @@ use Rattle.scb.proofs.Fields as bit-fields
 use Rattle.device.specs.State.{ruState, isHolding, heldIn, isGood}
 use Rattle.device.specs.declared.Counter.{Counter}
 use Rattle.device.specs.declared.Counter.the-variants as counter
-use Rattle.device.specs.declared.Cu.the-variants as cu
 use Rattle.device.specs.declared.Device.{Device}
 use Rattle.device.specs.declared.Fate.the-variants as fate
 use Rattle.device.specs.declared.Frame.{Frame}
@@ -36,11 +35,11 @@ use Rattle.chip.specs.Call.{Call, attention, arrive, turn, ran}
 use Rattle.chip.proofs.Papers as marked-cases
 use Rattle.chip.proofs.Swaps as swapped
 use Rattle.calls.specs.Calls.{Areas, Called, onBytes, turnCall, runCall}
-use Rattle.progress.specs.Trace.{run, AllMay}
-use Rattle.traces.specs.Event.{Event, call, step, DuringList}
+use Rattle.progress.specs.Trace.{run, AllMay, turns}
+use Rattle.traces.specs.Event.{Event, call, step, DuringList, WhileHeld}
 use Rattle.traces.specs.Bytes.{called, number, isRefused}
 use Rattle.traces.specs.Areas.{FrameBytes, AreBytes, Holds, worldIn, worldSaid, Shows}
-use Rattle.traces.specs.Driven.{Lending, left, Drive, leftDriven, unrolled, AllFair}
+use Rattle.traces.specs.Driven.{Lending, left, isTaken, Drive, leftDriven, unrolled, AllFair}
 use Rattle.closure.specs.Sound.{Sound}
 use Rattle.closure.specs.Refusals.{When, Seen, Untouched}
 use Rattle.closure.specs.Carried.{Again}
@@ -565,29 +564,35 @@ pub frames-on-bytes : AllGiven bytes-run.calls
 frames-on-bytes = (bytes-run.all-given, bytes-run.its-story)
 
 -- demand 3, first half: a Transmit, a TDR and a NOP, while two frames are stored and the host writes; on bytes, with a refused call; and by runs
-pub a-list-that-is-run : Done list-run.three list-run.trace list-run.begun
-a-list-that-is-run = list-run.witness-done
+pub a-list-that-is-run : Starts list-run.before × Premises DuringList enough list-run.three list-run.trace list-run.begun
+    × Done list-run.three list-run.trace list-run.begun
+a-list-that-is-run = (list-run.starts, list-run.premises, list-run.witness-done)
 
-pub a-list-that-is-run-on-bytes : DoneOnBytes list-run.three list-bytes-run.worked (called attention list-bytes-run.first .areas) list-run.begun
-a-list-that-is-run-on-bytes = list-bytes-run.bytes-done
+pub a-list-that-is-run-on-bytes :
+    let a = called attention list-bytes-run.first .areas in
+    PremisesOnBytes DuringList enough list-run.three list-bytes-run.worked a list-run.begun × DoneOnBytes list-run.three list-bytes-run.worked a list-run.begun
+a-list-that-is-run-on-bytes = (list-bytes-run.bytes-premises, list-bytes-run.bytes-done)
 
-pub a-list-that-is-run-by-runs : DoneByRuns list-run.three (list-drives.byRuns list-bytes-run.worked) (called attention list-bytes-run.first .areas) list-run.begun
-a-list-that-is-run-by-runs = list-drives.runs-done
+pub a-list-that-is-run-by-runs :
+    let a = called attention list-bytes-run.first .areas in
+    let ds = list-drives.byRuns list-bytes-run.worked in
+    PremisesByRuns DuringList enough list-run.three ds a list-run.begun × DoneByRuns list-run.three ds a list-run.begun
+a-list-that-is-run-by-runs = (list-drives.runs-met, list-drives.runs-done)
 
 -- one that ends in S, started from Suspended by an attention that also acknowledges all and aborts a begun frame, with a Transmit whose data lies over its
 -- own status word, while frames arrive; and one that goes on by RESUME
-pub a-list-at-an-unruly-start : Starts suspended-run.before
-    × (suspended-run.before .device .units .cu ≡ cu.Suspended (record { 0 = 0 }))
-    × (isHolding (suspended-run.before .device .units .ru) ≡ true)
-    × Done suspended-run.two suspended-run.trace suspended-run.begun
-a-list-at-an-unruly-start = (suspended-run.starts, suspended-run.was-suspended, suspended-run.was-storing .0, suspended-run.suspended-done)
+pub a-list-at-an-unruly-start : suspended-run.Unruly
+a-list-at-an-unruly-start = suspended-run.unruly
 
-pub a-list-that-is-resumed : Resumes 0x20 resumed-run.before × Done resumed-run.behind resumed-run.trace resumed-run.begun
-a-list-that-is-resumed = (resumed-run.resumes, resumed-run.resumed-done)
+pub a-list-that-is-resumed : Resumes 0x20 resumed-run.before × Premises DuringList enough resumed-run.behind resumed-run.trace resumed-run.begun
+    × Done resumed-run.behind resumed-run.trace resumed-run.begun
+a-list-that-is-resumed = (resumed-run.resumes, resumed-run.premises, resumed-run.resumed-done)
 
 -- second half: among refusals, with another memory and other areas at each call
-pub a-frame-that-is-settled : on-records.Settled 132 held-exact.frame (lent-run.restless 132 lent-run.device) lent-run.standing
-a-frame-that-is-settled = held-calls.met-restless
+pub a-frame-that-is-settled :
+    let ls = lent-run.restless 132 lent-run.device in
+    AllFair WhileHeld ls lent-run.standing × (turns isTaken ls ≡ 132) × on-records.Settled 132 held-exact.frame ls lent-run.standing
+a-frame-that-is-settled = (held-calls.restless-asked .0, held-calls.restless-asked .1, held-calls.met-restless)
 
 -- both of a chip, and a list that is resumed, with a refused call among what comes
 pub a-list-of-a-chip : ListRun enough pair (met.strayTurn ∷ turnsOf (0 ∷ replicate 263 0)) waits

@@ -1,9 +1,10 @@
 -- Demand 3, second half, on the calls: with what every call keeps, nothing is left to ask; and where runs of turns are among them. Assumes nothing.
-use mathlib.Core.Path.{refl}
+use mathlib.Core.Path.{_≡_, refl}
 use Prim.Native.Nat.{ℕ, _<_}
 use native.Mathlib.Omega.{arith}
 use Rattle.closure.proofs.Closed.{closed}
-use Rattle.traces.specs.Driven.{unrolled}
+use Rattle.progress.specs.Trace.{turns}
+use Rattle.traces.specs.Driven.{isTaken, unrolled, AllFair}
 use Rattle.traces.specs.Event.{WhileHeld}
 use Rattle.closure.proofs.Driven.{LetsTurns, spread}
 use Rattle.held.specs.OnRecords.{Settled, Within, WithinByRuns}
@@ -33,5 +34,8 @@ pub exact : (n : ℕ) → n < 132 → Within n → ⊥
 exact = lending.exact stays
 
 -- the premises can be met, among refusals and with another memory and other areas at each call
+pub restless-asked : AllFair WhileHeld (lending.restless 132 lending.device) lending.standing × (turns isTaken (lending.restless 132 lending.device) ≡ 132)
+restless-asked = lending.restless-asked stays
+
 pub met-restless : Settled 132 frame (lending.restless 132 lending.device) lending.standing
 met-restless = lending.met-restless stays

@@ -358,7 +358,10 @@ module _ (k : Closed) where
       among-turns (turnOn m h d ∷ restless n (next m h d))
       ∙ rw (taken m h (right-at n) d g, restless-turns n (next m h d) (good-next k m h (right-at n) d g)) (omega arith)
 
+-- what is asked of the host, and how many turns are taken
+pub restless-asked : Closed → AllFair WhileHeld (restless 132 device) standing × (turns isTaken (restless 132 device) ≡ 132)
+restless-asked k = (restless-fair k 132 device standing device-good refl, restless-turns k 132 device device-good)
+
 pub met-restless : Closed → Settled 132 frame (restless 132 device) standing
 met-restless k =
-    held-frame k standing frame (restless 132 device) its-record (restless-fair k 132 device standing device-good refl)
-    (rw (restless-turns k 132 device device-good) (lit≤ tt))
+    held-frame k standing frame (restless 132 device) its-record (restless-asked k .0) (rw (restless-asked k .1) (lit≤ tt))

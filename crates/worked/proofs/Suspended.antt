@@ -19,6 +19,7 @@ use Rattle.traces.specs.Event.{Event, call, host, step, DuringList}
 use Rattle.progress.specs.Trace.{run, turns}
 use Rattle.progress.specs.Machine.{Undisturbed, log}
 use Rattle.progress.proofs.Trace.{may-append}
+use Rattle.lists.specs.Uses.{Listed}
 use Rattle.lists.specs.Unit.{machine, began, ended}
 use Rattle.lists.specs.Done.{Starts, due, Premises, enough, Done, bytesOf}
 use Rattle.lists.proofs.Whole.{attention-list-done}
@@ -88,7 +89,8 @@ its-bytes : bytesOf begun two
 unfolding keptb
 its-bytes = refl
 
--- ---- the trace: a frame arrives before each turn, as long as the unit has work; then turns without work up to 264
+-- ---- the trace: a frame arrives before each turn, as long as the unit has work, and is dropped, the receive unit being Idle; then turns without work up to
+-- 264
 
 abbrev pub each : List Event
 each = call (arrive (frame 2) 0) ∷ call (turn 0) ∷ []
@@ -121,9 +123,13 @@ premises =
       turns = lit≤ tt;
     }
 
+-- destination, own address, type, and the two bytes of its own status word
+abbrev pub sentFrame : List ℕ
+sentFrame = 0 ∷ 0 ∷ 0 ∷ 0 ∷ 0 ∷ 0 ∷ 255 ∷ 255 ∷ 255 ∷ 255 ∷ 255 ∷ 255 ∷ 0 ∷ 0 ∷ 0x00 ∷ 0x40 ∷ []
+
 -- what was noted: the Transmit sent its own 4000h, and its I raises CX; the NOP's S suspends the list, which raises CNA
 noted : log machine busy begun
-    ≡ began 0x20 ∷ ended 0x20 0xA000 ((0 ∷ 0 ∷ 0 ∷ 0 ∷ 0 ∷ 0 ∷ 255 ∷ 255 ∷ 255 ∷ 255 ∷ 255 ∷ 255 ∷ 0 ∷ 0 ∷ 0x00 ∷ 0x40 ∷ []) ∷ []) (due false 0x2004)
+    ≡ began 0x20 ∷ ended 0x20 0xA000 (sentFrame ∷ []) (due false 0x2004)
     ∷ began 0x38 ∷ ended 0x38 0xA000 [] (due true 0x4000)
     ∷ []
 unfolding keptb
@@ -135,6 +141,41 @@ unfolding keptb
 left = (refl, refl)
 
 -- so both commands are done
+is-listed : Listed (begun .device .units .base) (begun .memory) two
+unfolding keptb
+is-listed = (refl, refl, refl)
+
 pub suspended-done : Done two trace begun
 unfolding keptb
-suspended-done = attention-list-done two trace before starts refl (refl, refl, refl) premises
+suspended-done = attention-list-done two trace before starts refl is-listed premises
+
+-- ---- all of it in one
+
+pub record Unruly : Type 0 where
+  -- Suspended, with a frame held and begun
+  pub suspended : before .device .units .cu ≡ cu.Suspended (record { 0 = 0 })
+  pub storing : (isHolding (before .device .units .ru) ≡ true) × (wordAt (before .memory) 0x40 ≡ 0x4000) × (wordAt (before .memory) 0x08 ≡ 0x2140)
+  -- the attention starts the list; it acknowledges all, and aborts the frame: 0000h in its descriptor, RNR alone in the SCB
+  pub starts : Starts before
+  pub aborted : (begun .device .units .ru ≡ ru.Idle) × (wordAt (begun .memory) 0x40 ≡ 0x0000) × (wordAt (begun .memory) 0x08 ≡ 0x1200)
+  -- what is asked of the list and of the trace
+  pub listed : Listed (begun .device .units .base) (begun .memory) two
+  pub premises : Premises DuringList enough two trace begun
+  -- the Transmit sends the 4000h of its own status word, the last NOP suspends the list
+  pub noted : log machine busy begun ≡ began 0x20 ∷ ended 0x20 0xA000 (sentFrame ∷ []) (due false 0x2004) ∷ began 0x38 ∷ ended 0x38 0xA000 [] (due true 0x4000) ∷ []
+  pub left : (run step busy begun .device .units .cu ≡ cu.Suspended (record { 0 = 0 })) × (wordAt (run step busy begun .memory) 0x08 ≡ 0xB100)
+  pub done : Done two trace begun
+
+pub unruly : Unruly
+unruly =
+    record {
+      suspended = was-suspended;
+      storing = was-storing;
+      starts = starts;
+      aborted = aborted;
+      listed = is-listed;
+      premises = premises;
+      noted = noted;
+      left = left;
+      done = suspended-done;
+    }
