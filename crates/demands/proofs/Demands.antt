@@ -163,7 +163,8 @@ pub every-arrival : (w : World) (f : List ℕ) (v : ℕ) → arrival.RightLength
 every-arrival = arrivals.arrival-fate
 
 -- a held good frame stays held, is stored, or is counted, "both, if kept with too few buffers", or is lost by an abort or a reset. While it stays held
--- its own turns write 4000h at begin, and a buffer with its F, count and EOF, and nothing else: no counter, no event
+-- its own turns write 4000h at begin, and a buffer with its F, count and EOF, and nothing else: no counter, no event. At its end all is said: what is
+-- written, FR exactly if stored, RNR exactly if the unit leaves Ready, where the unit goes, the edge, and that nothing else of the record changes
 pub a-held-good-frame : (c : Call) (w : World) (f : Frame) → inRange (w .device) ≡ true → heldIn (arrival.unitOf w) ≡ f ∷ [] → isGood f ≡ true
     → GoodFate f c w
 a-held-good-frame = holdings.good-held
