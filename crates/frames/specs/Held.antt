@@ -50,6 +50,22 @@ ofHeld fate.Counted = true
 ofHeld fate.Aborted = true
 ofHeld fate.Reset = true
 
+-- by which it is lost
+abbrev pub isLoss : Fate → Bool
+isLoss fate.TooFew = false
+isLoss fate.NoMatch = false
+isLoss fate.UnitIdle = false
+isLoss fate.UnitSuspended = false
+isLoss fate.Overrun = false
+isLoss (fate.Bad c) = false
+isLoss (fate.Held c) = false
+isLoss fate.NoResources = false
+isLoss fate.Stored = false
+isLoss fate.StoredCounted = false
+isLoss fate.Counted = false
+isLoss fate.Aborted = true
+isLoss fate.Reset = true
+
 -- those among the fates that a call gives
 abbrev pub chosen : (held : Bool) → Fate → List Fate → List Fate
 chosen true x xs = x ∷ xs
