@@ -181,7 +181,8 @@ pub every-arrival-on-bytes : (a : Areas) (d : Device) (f : List ℕ) (v : ℕ) �
 every-arrival-on-bytes = arrived.arrived-on
 
 -- a held good frame stays held, is stored, or is counted, "both, if kept with too few buffers", or is lost by an abort or a reset. While it stays held
--- its own turns write 4000h at begin, and a buffer with its F, count and EOF, and nothing else: no counter, no event
+-- its own turns write 4000h at begin, and a buffer with its F, count and EOF, and nothing else: no counter, no event. At its end all is said: what is
+-- written, FR exactly if stored, RNR exactly if the unit leaves Ready, where the unit goes, the edge, and that nothing else of the record changes
 pub a-held-good-frame : (c : Call) (w : World) (f : Frame) → inRange (w .device) ≡ true → heldIn (arrival.unitOf w) ≡ f ∷ [] → isGood f ≡ true
     → GoodFate f c w
 a-held-good-frame = holdings.good-held
@@ -232,8 +233,15 @@ pub the-bytes-that-arrived-are-stored-on-bytes : (a b : Areas) (d : Device) (bs 
     × (called (turn report) b ≡ onBytes (ran (turn report) (run step (upTo ls b) w)))
 the-bytes-that-arrived-are-stored-on-bytes = stored.arrived-on-bytes
 
--- "only an abort, a reset or the host's altering of the record may lose a held one": over any trace, a frame that was held has exactly one fate, or
--- the host altered the record, or it is held still
+-- "only an abort, a reset or the host's altering of the record may lose a held one": over any trace, a holding ends at a call, by aborted or reset exactly
+-- if the call aborts or resets, else by stored, counted or both; or by the host's altering of the record, and never so if the host alters none
+pub every-end-is-proper : (ds : List Deed) (s : Scene) → inRange (s .world .device) ≡ true → AllProper (Unit {0}) ds s
+every-end-is-proper = fates.all-proper
+
+pub every-end-is-a-fate : (ds : List Deed) (s : Scene) → inRange (s .world .device) ≡ true → isUnaltered ds ≡ true → AllProper ⊥ ds s
+every-end-is-a-fate = fates.all-fated
+
+-- and a frame that was held has exactly one fate, or the host altered the record, or it is held still
 pub exactly-one-fate : (w : World) (ds : List Deed) (k : ℕ) → inRange (w .device) ≡ true
     → 0 < times k (still (opening w) ++ beginnings ds (opening w))
     → timesFated k (endings ds (opening w)) + timesAltered k (endings ds (opening w)) + times k (still (run advance ds (opening w))) ≡ 1
@@ -252,14 +260,6 @@ every-held-frame-is-accounted-for = fates.conserved
 
 pub at-every-call : (ds : List Deed) (w : World) → inRange (w .device) ≡ true → AllFates ds w
 at-every-call = fates.all-fates
-
--- each end is by a held frame's fate, which is stored, counted, both, aborted or reset, or by the host's altering of the record; and by a fate, if the
--- host alters none
-pub every-end-is-proper : (ds : List Deed) (s : Scene) → AllProper (Unit {0}) (endings ds s)
-every-end-is-proper = fates.all-proper
-
-pub every-end-is-a-fate : (ds : List Deed) (s : Scene) → isUnaltered ds ≡ true → AllProper ⊥ (endings ds s)
-every-end-is-a-fate = fates.all-fated
 
 -- a call gives such fates only where so many frames were held, and are held no more
 pub a-fate-has-its-frame : (c : Call) (w : World) → inRange (w .device) ≡ true → (heldFates (ran c w .outcome .fates) ≡ [] → ⊥)
@@ -281,8 +281,12 @@ pub the-calls-do-these-deeds : (ls : List Lending) (a : Areas) (d : Device) → 
     → AllSaidOf ls a (worldIn d a) × Shows (run left ls a) (worldAt ls a d)
 the-calls-do-these-deeds = on-bytes.all-said
 
--- "only an abort, a reset or the host's altering of the record may lose a held one": a frame that was held has exactly one fate, or the host altered the
--- record, or it is held still
+-- "only an abort, a reset or the host's altering of the record may lose a held one"
+pub every-end-on-bytes-is-proper : (ls : List Lending) (a : Areas) (d : Device) → Holds (a .kept) d
+    → AllProper (Unit {0}) (deedsOf ls a) (opening (worldIn d a))
+every-end-on-bytes-is-proper = on-bytes.all-proper
+
+-- and a frame that was held has exactly one fate, or the host altered the record, or it is held still
 pub exactly-one-fate-on-bytes : (ls : List Lending) (a : Areas) (d : Device) (k : ℕ) → Holds (a .kept) d → 0 < times k (heldOf ls a d)
     → timesFated k (endedOf ls a d) + timesAltered k (endedOf ls a d) + times k (stillOf ls a d) ≡ 1
 exactly-one-fate-on-bytes = on-bytes.exactly-one
@@ -298,16 +302,14 @@ every-held-frame-is-accounted-for-on-bytes = on-bytes.conserved
 pub at-every-call-on-bytes : (ls : List Lending) (a : Areas) (d : Device) → Holds (a .kept) d → AllFates (deedsOf ls a) (worldIn d a)
 at-every-call-on-bytes = on-bytes.all-fates
 
-pub every-end-on-bytes-is-proper : (ls : List Lending) (a : Areas) (d : Device) → AllProper (Unit {0}) (endedOf ls a d)
-every-end-on-bytes-is-proper = on-bytes.all-proper
-
 -- and if the host lends every record as it was left, a held frame has exactly one fate or is held still, and every end is by a fate
 pub exactly-one-fate-if-records-are-kept : (ls : List Lending) (a : Areas) (d : Device) (k : ℕ) → Holds (a .kept) d → AllKept ls a
     → 0 < times k (heldOf ls a d)
     → timesFated k (endedOf ls a d) + times k (stillOf ls a d) ≡ 1
 exactly-one-fate-if-records-are-kept = on-bytes.exactly-one-fate
 
-pub every-end-is-a-fate-if-records-are-kept : (ls : List Lending) (a : Areas) (d : Device) → AllKept ls a → AllProper ⊥ (endedOf ls a d)
+pub every-end-is-a-fate-if-records-are-kept : (ls : List Lending) (a : Areas) (d : Device) → Holds (a .kept) d → AllKept ls a
+    → AllProper ⊥ (deedsOf ls a) (opening (worldIn d a))
 every-end-is-a-fate-if-records-are-kept = on-bytes.all-fated
 
 -- the same where runs of turns are among the calls: what is said here of every list of calls is said of `unrolled ds`, which has a run's turns in its

@@ -1,8 +1,9 @@
 -- Demand 2 of frames over whole traces: each frame that was held has exactly one fate, or is still held at the end, or the host altered the record.
 -- Assumes nothing.
 use mathlib.Core.Path.{_≡_, refl, sym, ap, ap₂, _∙_, subst}
-use mathlib.Core.Bool.{Bool, true, false, cond, false≢true}
-use mathlib.Core.List.{List, [], _∷_, _++_, append-nil, append-assoc}
+use mathlib.Core.Bool.{Bool, true, false, cond, false≢true, true≢false}
+use mathlib.Core.List.{List, [], _∷_, _++_, map, nil≢cons, append-nil, append-assoc}
+use mathlib.Core.Logic.{_⊎_, inl, inr}
 use Prim.Native.Nat.{ℕ, suc, _+_, _≤_, _<_}
 use native.Mathlib.Omega.{arith}
 use borrow.Author.Tests.{eqb-true, ltb-true, ltb-false, ne-eqb}
@@ -10,7 +11,7 @@ use lib.Dec.{eqb, ltb}
 use lib.ListN.{length, drop}
 use Rattle.device.specs.Answers.{isHeld}
 use Rattle.device.specs.Limits.{header}
-use Rattle.device.specs.State.{heldIn}
+use Rattle.device.specs.State.{heldIn, isGood}
 use Rattle.device.specs.declared.Fate.{Fate}
 use Rattle.device.specs.declared.Fate.the-variants as fate
 use Rattle.device.specs.declared.Frame.{Frame}
@@ -24,11 +25,12 @@ use Rattle.filter.specs.Match.{matches}
 use Rattle.progress.specs.Trace.{run}
 use Rattle.traces.specs.Event.{Event, call, host}
 use Rattle.frames.specs.Arrival.{unitOf, settingsOf}
-use Rattle.frames.specs.Held.{ofHeld, chosen, heldFates, FatesOfHeld}
+use Rattle.frames.specs.Held.{ofHeld, isLoss, chosen, heldFates, FatesOfHeld, loses, ends, Lost, by-reset, by-resetting, by-abort, GoodFate, BadFate}
+use Rattle.frames.specs.Held as held
 use Rattle.frames.specs.Fates.{Deed, event, alter, worldAfter, Scene, opening, Noted, noted, numbersOf, numbered, Way, by-call, by-altering, Ended, heldAs, still, begunIf, begun}
 use Rattle.frames.specs.Fates.{endedAs, endedBy, fatesIn, ended, takes, advance, beginnings, endings, times, namesOf, fateOne, alterOne}
-use Rattle.frames.specs.Fates.{timesFated, timesAltered, isUnaltered, Proper, AllProper, AllFates}
-use Rattle.frames.proofs.Sound.{Sound, in-range-sound, good-sound, bad-sound, attention-went, turn-went, Arrives, kept, comes, arrives, arrival-new, call-sound}
+use Rattle.frames.specs.Fates.{timesFated, timesAltered, isUnaltered, Proper, EachProper, AllProper, AllFates}
+use Rattle.frames.proofs.Sound.{Sound, in-range-sound, held-or-none, good-sound, bad-sound, attention-went, turn-went, Arrives, kept, comes, arrives, arrival-new, call-sound}
 
 -- ---- one deed
 
@@ -184,52 +186,131 @@ fates-of-held attention w r h = attention-went w (in-range-sound (w .device) r)
 fates-of-held (arrive f v) w r h = absurd (h (arrival-fates w f v))
 fates-of-held (turn report) w r h = turn-went w report (in-range-sound (w .device) r)
 
+-- ---- by which fates a call ends holdings: it loses frames, or it does not
+
+abbrev AllLoss : Bool → List Fate → Type 0
+AllLoss b [] = Unit {0}
+AllLoss b (x ∷ xs) = (isLoss x ≡ b) × AllLoss b xs
+
+-- no frame is held
+no-frames : (gone stay : List Frame) → [] ≡ gone ++ stay → length gone ≡ 0
+no-frames [] stay e = refl
+no-frames (f ∷ fs) stay e = absurd (nil≢cons e)
+
+no-fates : (b : Bool) (xs : List Fate) → length xs ≡ 0 → AllLoss b xs
+no-fates b [] e = tt
+no-fates b (x ∷ xs) e = absurd (omega (arith, e))
+
+none-loss : (b : Bool) (w : World) (r : Ran) → heldIn (unitOf w) ≡ [] → FatesOfHeld w r → AllLoss b (heldFates (r .outcome .fates))
+none-loss b w r h k = no-fates b (heldFates (r .outcome .fates)) (k .each ∙ no-frames (k .gone) (k .stay) (sym h ∙ k .held))
+
+-- one is, and the turn that ends it loses none
+ends-keeps : (c : Call) (w : World) → ends c w ≡ true → loses c w ≡ false
+ends-keeps reset w e = absurd (false≢true e)
+ends-keeps attention w e = absurd (false≢true e)
+ends-keeps (arrive f v) w e = absurd (false≢true e)
+ends-keeps (turn report) w e = refl
+
+end-loss : (x : Fate) (c : Call) (w : World) → ends c w ≡ true → ran c w .outcome .fates ≡ x ∷ [] → AllLoss false (heldFates (x ∷ []))
+    → AllLoss (loses c w) (heldFates (ran c w .outcome .fates))
+end-loss x c w n e h =
+    subst (λ (b : Bool). AllLoss b (heldFates (ran c w .outcome .fates))) (sym (ends-keeps c w n))
+    (subst (λ (fs : List Fate). AllLoss false (heldFates fs)) (sym e) h)
+
+-- it stays held
+stay-loss : (c : Call) (w : World) → heldFates (ran c w .outcome .fates) ≡ [] → AllLoss (loses c w) (heldFates (ran c w .outcome .fates))
+stay-loss c w e = subst (AllLoss (loses c w)) (sym e) tt
+
+-- or is lost
+if-loss : (b o : Bool) (x : Fate) (xs : List Fate) → isLoss x ≡ b → AllLoss b xs → AllLoss b (chosen o x xs)
+if-loss b true x xs e h = (e, h)
+if-loss b false x xs e h = h
+
+each-loss : (b : Bool) (x : Fate) (fs : List Frame) → isLoss x ≡ b → AllLoss b (heldFates (map (λ (f : Frame). x) fs))
+each-loss b x [] e = tt
+each-loss b x (f ∷ fs) e = if-loss b (ofHeld x) x (heldFates (map (λ (f : Frame). x) fs)) e (each-loss b x fs e)
+
+lost-loss : (c : Call) (w : World) → loses c w ≡ true → Lost w c → AllLoss (loses c w) (heldFates (ran c w .outcome .fates))
+lost-loss reset w l (by-reset d m) = stay-loss reset w (reset-fates w)
+lost-loss attention w l (by-resetting r e d m) =
+    subst (λ (fs : List Fate). AllLoss (loses attention w) (heldFates fs)) (sym e) (each-loss (loses attention w) fate.Reset (heldIn (unitOf w)) (sym l))
+lost-loss attention w l (by-abort r a e u m) =
+    subst (λ (fs : List Fate). AllLoss (loses attention w) (heldFates fs)) (sym e) (each-loss (loses attention w) fate.Aborted (heldIn (unitOf w)) (sym l))
+
+good-loss : (c : Call) (w : World) (f : Frame) → GoodFate f c w → AllLoss (loses c w) (heldFates (ran c w .outcome .fates))
+good-loss c w f (held.stays l n k m) = stay-loss c w (k .fates)
+good-loss c w f (held.stored s free full n e q x k z) = end-loss fate.Stored c w n x (refl, tt)
+good-loss c w f (held.counted s n e q b x k z) = end-loss fate.Counted c w n x (refl, tt)
+good-loss c w f (held.both s n e q b x k j z) = end-loss fate.StoredCounted c w n x (refl, tt)
+good-loss c w f (held.lost l k) = lost-loss c w l k
+
+bad-loss : (c : Call) (w : World) (f : Frame) → BadFate f c w → AllLoss (loses c w) (heldFates (ran c w .outcome .fates))
+bad-loss c w f (held.stays l n k m) = stay-loss c w (k .fates)
+bad-loss c w f (held.stored s free full n e q x k z) = end-loss fate.Stored c w n x (refl, tt)
+bad-loss c w f (held.lacking s n e q x k z) = end-loss fate.Stored c w n x (refl, tt)
+bad-loss c w f (held.lost l k) = lost-loss c w l k
+
+one-loss : (good : Bool) (c : Call) (w : World) (f : Frame) → Sound (w .device) → heldIn (unitOf w) ≡ f ∷ [] → isGood f ≡ good
+    → AllLoss (loses c w) (heldFates (ran c w .outcome .fates))
+one-loss true c w f s h g = good-loss c w f (good-sound c w f s h g)
+one-loss false c w f s h g = bad-loss c w f (bad-sound c w f s h g)
+
+went-loss : (c : Call) (w : World) → Sound (w .device) → FatesOfHeld w (ran c w) → (heldIn (unitOf w) ≡ []) ⊎ ((f : Frame) × (heldIn (unitOf w) ≡ f ∷ []))
+    → AllLoss (loses c w) (heldFates (ran c w .outcome .fates))
+went-loss c w s k (inl h) = none-loss (loses c w) w (ran c w) h k
+went-loss c w s k (inr j) = one-loss (isGood (j .0)) c w (j .0) s (j .1) refl
+
+losses : (c : Call) (w : World) → Sound (w .device) → AllLoss (loses c w) (heldFates (ran c w .outcome .fates))
+losses reset w s = stay-loss reset w (reset-fates w)
+losses attention w s = went-loss attention w s (attention-went w s) (held-or-none (unitOf w))
+losses (arrive f v) w s = stay-loss (arrive f v) w (arrival-fates w f v)
+losses (turn report) w s = went-loss (turn report) w s (turn-went w report s) (held-or-none (unitOf w))
+
 -- ---- the ways to end
 
-proper-append : (A : Type 0) (xs ys : List Ended) → AllProper A xs → AllProper A ys → AllProper A (xs ++ ys)
-proper-append A [] ys h k = k
-proper-append A (x ∷ xs) ys h k = (h .0, proper-append A xs ys (h .1) k)
+module _ (A : Type 0) where
+  proper-if : (o : Bool) (c : Call) (w : World) (x : Fate) (xs : List Fate) → ofHeld x ≡ o → AllLoss (loses c w) (chosen o x xs)
+      → (AllLoss (loses c w) xs → (ns : List Noted) → EachProper A (event (call c)) w (endedAs xs ns))
+      → (ns : List Noted) → EachProper A (event (call c)) w (endedAs (chosen o x xs) ns)
+  proper-if true c w x xs h l k [] = ((h, l .0), k (l .1) [])
+  proper-if true c w x xs h l k (n ∷ ns) = ((h, l .0), k (l .1) ns)
+  proper-if false c w x xs h l k ns = k l ns
 
-proper-if : (A : Type 0) (o : Bool) (x : Fate) (xs : List Fate) → ofHeld x ≡ o → ((ns : List Noted) → AllProper A (endedAs xs ns))
-    → (ns : List Noted) → AllProper A (endedAs (chosen o x xs) ns)
-proper-if A true x xs h k [] = (h, k [])
-proper-if A true x xs h k (n ∷ ns) = (h, k ns)
-proper-if A false x xs h k ns = k ns
+  proper-as : (c : Call) (w : World) (xs : List Fate) → AllLoss (loses c w) (heldFates xs) → (ns : List Noted)
+      → EachProper A (event (call c)) w (endedAs (heldFates xs) ns)
+  proper-as c w [] l ns = tt
+  proper-as c w (x ∷ xs) l ns = proper-if (ofHeld x) c w x (heldFates xs) refl l (proper-as c w xs) ns
 
-proper-as : (A : Type 0) (xs : List Fate) (ns : List Noted) → AllProper A (endedAs (heldFates xs) ns)
-proper-as A [] ns = tt
-proper-as A (x ∷ xs) ns = proper-if A (ofHeld x) x (heldFates xs) refl (proper-as A xs) ns
+  proper-by : (d : Deed) (w : World) (way : Way) (ns : List Noted) → Proper A d w way → EachProper A d w (endedBy way ns)
+  proper-by d w way [] h = tt
+  proper-by d w way (n ∷ ns) h = (h, proper-by d w way ns h)
 
-proper-by : (A : Type 0) (way : Way) (ns : List Noted) → Proper A way → AllProper A (endedBy way ns)
-proper-by A way [] h = tt
-proper-by A way (n ∷ ns) h = (h, proper-by A way ns h)
+  proper-fates : (c : Call) (s : Scene) → Sound (s .world .device) → EachProper A (event (call c)) (s .world) (fatesIn c s)
+  proper-fates c s k = proper-as c (s .world) (ran c (s .world) .outcome .fates) (losses c (s .world) k) (still s)
 
-proper-fates : (A : Type 0) (c : Call) (s : Scene) → AllProper A (fatesIn c s)
-proper-fates A c s = proper-as A (ran c (s .world) .outcome .fates) (still s)
+  proper-event : (e : Event) (s : Scene) → Sound (s .world .device) → EachProper A (event e) (s .world) (ended (event e) s)
+  proper-event (call reset) s k = proper-by (event (call reset)) (s .world) (by-call fate.Reset) (still s) (refl, refl)
+  proper-event (call attention) s k = proper-fates attention s k
+  proper-event (call (arrive f v)) s k = proper-fates (arrive f v) s k
+  proper-event (call (turn report)) s k = proper-fates (turn report) s k
+  proper-event (host m h out) s k = tt
 
-proper-event : (A : Type 0) (e : Event) (s : Scene) → AllProper A (ended (event e) s)
-proper-event A (call reset) s = proper-by A (by-call fate.Reset) (still s) refl
-proper-event A (call attention) s = proper-fates A attention s
-proper-event A (call (arrive f v)) s = proper-fates A (arrive f v) s
-proper-event A (call (turn report)) s = proper-fates A (turn report) s
-proper-event A (host m h out) s = tt
+  proper-sound : (ds : List Deed) (s : Scene) → Sound (s .world .device) → (isUnaltered ds ≡ false → A) → AllProper A ds s
+  proper-sound [] s k a = tt
+  proper-sound (event e ∷ ds) s k a =
+      (proper-event e s k, proper-sound ds (advance (event e) s) (deed-sound (event e) (s .world) k) a)
+  proper-sound (alter d r ∷ ds) s k a = (
+    proper-by (alter d r) (s .world) by-altering (still s) (a refl),
+    proper-sound ds (advance (alter d r) s) (deed-sound (alter d r) (s .world) k) (λ e. a refl),
+  )
 
--- an end is by a held frame's fate, or the host altered the record
-pub all-proper : (ds : List Deed) (s : Scene) → AllProper (Unit {0}) (endings ds s)
-all-proper [] s = tt
-all-proper (event e ∷ ds) s =
-    proper-append (Unit {0}) (ended (event e) s) (endings ds (advance (event e) s)) (proper-event (Unit {0}) e s)
-    (all-proper ds (advance (event e) s))
-all-proper (alter d r ∷ ds) s =
-    proper-append (Unit {0}) (ended (alter d r) s) (endings ds (advance (alter d r) s)) (proper-by (Unit {0}) by-altering (still s) tt)
-    (all-proper ds (advance (alter d r) s))
+-- an end is by a held frame's fate, one of loss exactly if the call aborts or resets, or the host altered the record
+pub all-proper : (ds : List Deed) (s : Scene) → inRange (s .world .device) ≡ true → AllProper (Unit {0}) ds s
+all-proper ds s r = proper-sound (Unit {0}) ds s (in-range-sound (s .world .device) r) (λ e. tt)
 
 -- if the host alters no record, every end is by a fate
-pub all-fated : (ds : List Deed) (s : Scene) → isUnaltered ds ≡ true → AllProper ⊥ (endings ds s)
-all-fated [] s h = tt
-all-fated (event e ∷ ds) s h =
-    proper-append ⊥ (ended (event e) s) (endings ds (advance (event e) s)) (proper-event ⊥ e s) (all-fated ds (advance (event e) s) h)
-all-fated (alter d r ∷ ds) s h = absurd (false≢true h)
+pub all-fated : (ds : List Deed) (s : Scene) → inRange (s .world .device) ≡ true → isUnaltered ds ≡ true → AllProper ⊥ ds s
+all-fated ds s r h = proper-sound ⊥ ds s (in-range-sound (s .world .device) r) (λ e. true≢false (sym h ∙ e))
 
 -- ---- each number once
 
@@ -364,19 +445,29 @@ pub no-other : (w : World) (ds : List Deed) (k : ℕ) → inRange (w .device) �
 no-other w ds k r h = conserved-times w ds k r ∙ h
 
 -- where the host alters no record, it is a fate or it is still held
-not-altered : (b : Bool) (way : Way) → Proper ⊥ way → cond b (alterOne way) 0 ≡ 0
-not-altered true (by-call x) h = refl
-not-altered true by-altering h = absurd h
-not-altered false way h = refl
+never-altered : (d : Deed) (w : World) → Proper ⊥ d w by-altering → ⊥
+never-altered (event (call c)) w h = h
+never-altered (event (host m x out)) w h = h
+never-altered (alter d r) w h = h
 
-none-altered : (k : ℕ) (es : List Ended) → AllProper ⊥ es → timesAltered k es ≡ 0
-none-altered k [] h = refl
-none-altered k (e ∷ es) h =
-    let i : timesAltered k es ≡ 0 = none-altered k es (h .1) in
-    omega (arith, not-altered (eqb (e .noted .number) k) (e .way) (h .0))
+not-altered : (b : Bool) (d : Deed) (w : World) (way : Way) → Proper ⊥ d w way → cond b (alterOne way) 0 ≡ 0
+not-altered true d w (by-call x) h = refl
+not-altered true d w by-altering h = absurd (never-altered d w h)
+not-altered false d w way h = refl
+
+none-altered : (k : ℕ) (d : Deed) (w : World) (es rest : List Ended) → EachProper ⊥ d w es → timesAltered k rest ≡ 0 → timesAltered k (es ++ rest) ≡ 0
+none-altered k d w [] rest h z = z
+none-altered k d w (e ∷ es) rest h z =
+    let i : timesAltered k (es ++ rest) ≡ 0 = none-altered k d w es rest (h .1) z in
+    omega (arith, not-altered (eqb (e .noted .number) k) d w (e .way) (h .0))
+
+all-unaltered : (k : ℕ) (ds : List Deed) (s : Scene) → AllProper ⊥ ds s → timesAltered k (endings ds s) ≡ 0
+all-unaltered k [] s h = refl
+all-unaltered k (d ∷ ds) s h =
+    none-altered k d (s .world) (ended d s) (endings ds (advance d s)) (h .0) (all-unaltered k ds (advance d s) (h .1))
 
 pub exactly-one-fate : (w : World) (ds : List Deed) (k : ℕ) → inRange (w .device) ≡ true → isUnaltered ds ≡ true
     → 0 < times k (still (opening w) ++ beginnings ds (opening w))
     → timesFated k (endings ds (opening w)) + times k (still (run advance ds (opening w))) ≡ 1
 exactly-one-fate w ds k r u h =
-    omega (arith, exactly-one w ds k r h, none-altered k (endings ds (opening w)) (all-fated ds (opening w) u))
+    omega (arith, exactly-one w ds k r h, all-unaltered k ds (opening w) (all-fated ds (opening w) r u))

@@ -553,14 +553,14 @@ good-lacking : (saved : Bool) (c : Call) (w : World) (f : Frame) (s : Storing) �
     → turned w (lack (part w) s (w .memory)) ≡ ran c w → GoodFate f c w
 good-lacking true c w f s n e q g b r =
     let x = subst (Both w s) r (both w s (ap (λ (k : Frame). k .savebad) q ∙ b) (ap isGood q ∙ g)) in
-    held.both s n e q b (x .fates) (x .stored) (x .counted)
+    held.both s n e q b (x .fates) (x .stored) (x .counted) (x .end)
 good-lacking false c w f s n e q g b r =
     let x = subst (OnlyCounted w s) r (only-counted w s (ap (λ (k : Frame). k .savebad) q ∙ b) (ap isGood q ∙ g)) in
-    held.counted s n e q b (x .fates) (x .counted)
+    held.counted s n e q b (x .fates) (x .counted) (x .end)
 
 pub good-of : (c : Call) (w : World) (f : Frame) → isGood f ≡ true → HeldFate f c w → GoodFate f c w
 good-of c w f g (stays l n k m) = held.stays l n k m
-good-of c w f g (closing s free full n e q k) = held.stored s free full n e q (k .fates) (k .stored)
+good-of c w f g (closing s free full n e q k) = held.stored s free full n e q (k .fates) (k .stored) (k .end)
 good-of c w f g (lacking s n e q r) = good-lacking (f .savebad) c w f s n e q g refl r
 good-of c w f g (lost l k) = held.lost l k
 
@@ -577,10 +577,10 @@ or-right false b h n = h
 
 pub bad-of : (c : Call) (w : World) (f : Frame) → isGood f ≡ false → f .savebad ≡ true → HeldFate f c w → BadFate f c w
 bad-of c w f g b (stays l n k m) = held.stays l n k m
-bad-of c w f g b (closing s free full n e q k) = held.stored s free full n e q (k .fates) (k .stored)
+bad-of c w f g b (closing s free full n e q k) = held.stored s free full n e q (k .fates) (k .stored) (k .end)
 bad-of c w f g b (lacking s n e q r) =
     let x = subst (Kept w s) r (kept w s (ap (λ (k : Frame). k .savebad) q ∙ b) (ap isGood q ∙ g)) in
-    held.lacking s n e q (x .fates) (x .stored)
+    held.lacking s n e q (x .fates) (x .stored) (x .end)
 bad-of c w f g b (lost l k) = held.lost l k
 
 -- every call, while a bad frame is held: it stays held; or is stored, with bit 9 if out of buffers, and no counter moves in that turn; or is lost in

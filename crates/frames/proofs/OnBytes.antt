@@ -187,9 +187,9 @@ conserved ls a d h = fates.conserved (deedsOf ls a) (opening (worldIn d a)) (h .
 pub all-fates : (ls : List Lending) (a : Areas) (d : Device) → Holds (a .kept) d → AllFates (deedsOf ls a) (worldIn d a)
 all-fates ls a d h = fates.all-fates (deedsOf ls a) (worldIn d a) (h .range)
 
--- each end is by a held frame's fate, or the host lent another record than the one left
-pub all-proper : (ls : List Lending) (a : Areas) (d : Device) → AllProper (Unit {0}) (endedOf ls a d)
-all-proper ls a d = fates.all-proper (deedsOf ls a) (opening (worldIn d a))
+-- each end is by a held frame's fate, one of loss exactly if the call aborts or resets, or the host lent another record than the one left
+pub all-proper : (ls : List Lending) (a : Areas) (d : Device) → Holds (a .kept) d → AllProper (Unit {0}) (deedsOf ls a) (opening (worldIn d a))
+all-proper ls a d h = fates.all-proper (deedsOf ls a) (opening (worldIn d a)) (h .range)
 
 -- if it lends every record as it was left, it alters none, and every end is by a fate
 unaltered-by : (x : Bool) (l : Lending) (ls : List Lending) (a : Areas) → refusedAt l ≡ x → KeepsRecord l a
@@ -202,8 +202,8 @@ pub unaltered : (ls : List Lending) (a : Areas) → AllKept ls a → isUnaltered
 unaltered [] a k = refl
 unaltered (l ∷ ls) a k = unaltered-by (refusedAt l) l ls a refl (k .0) (unaltered ls (left l a) (k .1))
 
-pub all-fated : (ls : List Lending) (a : Areas) (d : Device) → AllKept ls a → AllProper ⊥ (endedOf ls a d)
-all-fated ls a d k = fates.all-fated (deedsOf ls a) (opening (worldIn d a)) (unaltered ls a k)
+pub all-fated : (ls : List Lending) (a : Areas) (d : Device) → Holds (a .kept) d → AllKept ls a → AllProper ⊥ (deedsOf ls a) (opening (worldIn d a))
+all-fated ls a d h k = fates.all-fated (deedsOf ls a) (opening (worldIn d a)) (h .range) (unaltered ls a k)
 
 pub exactly-one-fate : (ls : List Lending) (a : Areas) (d : Device) (k : ℕ) → Holds (a .kept) d → AllKept ls a → 0 < times k (heldOf ls a d)
     → timesFated k (endedOf ls a d) + times k (stillOf ls a d) ≡ 1

@@ -35,8 +35,9 @@ use Rattle.chip.specs.Turn.{servedBy, turnBy, turnOf, commandTurn, receiveTurn,
 use Rattle.chip.specs.World.{World, Ran, resetOf}
 use Rattle.filter.specs.Match.{matches}
 use Rattle.frames.specs.Arrival.{unitOf, settingsOf}
-use Rattle.frames.specs.Held.{ofHeld, chosen, heldFates, FatesOfHeld, commandOf, loses, Lost, by-resetting, by-abort, GoodFate, BadFate}
+use Rattle.frames.specs.Held.{ofHeld, chosen, heldFates, FatesOfHeld, commandOf, loses, unitAfter, Lost, by-resetting, by-abort, GoodFate, BadFate}
 use Rattle.frames.specs.Held as held
+use Rattle.frames.proofs.End.{none-after, none-left}
 use Rattle.frames.proofs.Held.{none≢one, or-left, or-right, held-saved, held-fate, good-of, bad-of, goes-on, attended, obeyed, obeyedRuc, to-attend, served-as}
 
 -- the unit is Idle
@@ -161,16 +162,21 @@ one-ends w r f x h e k = ends w r e (ap (λ (fs : List Fate). length fs) k ∙ s
 good-went : (c : Call) (w : World) (f : Frame) → heldIn (unitOf w) ≡ f ∷ [] → (loses c w ≡ true → Lost w c → FatesOfHeld w (ran c w)) → GoodFate f c w
     → FatesOfHeld w (ran c w)
 good-went c w f h g (held.stays l n k m) = keeps w (ran c w) (k .unit ∙ sym h) (k .fates)
-good-went c w f h g (held.stored s free full n e q x k) = one-ends w (ran c w) f fate.Stored h (k .gone) (ap heldFates x)
-good-went c w f h g (held.counted s n e q b x k) = one-ends w (ran c w) f fate.Counted h (k .gone) (ap heldFates x)
-good-went c w f h g (held.both s n e q b x k j) = one-ends w (ran c w) f fate.StoredCounted h (k .gone) (ap heldFates x)
+good-went c w f h g (held.stored s free full n e q x k z) =
+    one-ends w (ran c w) f fate.Stored h (none-left true (unitAfter w s full) w (ran c w) (none-after w s full) z) (ap heldFates x)
+good-went c w f h g (held.counted s n e q b x k z) =
+    one-ends w (ran c w) f fate.Counted h (none-left false ru.NoResources w (ran c w) refl z) (ap heldFates x)
+good-went c w f h g (held.both s n e q b x k j z) =
+    one-ends w (ran c w) f fate.StoredCounted h (none-left true ru.NoResources w (ran c w) refl z) (ap heldFates x)
 good-went c w f h g (held.lost l k) = g l k
 
 bad-went : (c : Call) (w : World) (f : Frame) → heldIn (unitOf w) ≡ f ∷ [] → (loses c w ≡ true → Lost w c → FatesOfHeld w (ran c w)) → BadFate f c w
     → FatesOfHeld w (ran c w)
 bad-went c w f h g (held.stays l n k m) = keeps w (ran c w) (k .unit ∙ sym h) (k .fates)
-bad-went c w f h g (held.stored s free full n e q x k) = one-ends w (ran c w) f fate.Stored h (k .gone) (ap heldFates x)
-bad-went c w f h g (held.lacking s n e q x k) = one-ends w (ran c w) f fate.Stored h (k .gone) (ap heldFates x)
+bad-went c w f h g (held.stored s free full n e q x k z) =
+    one-ends w (ran c w) f fate.Stored h (none-left true (unitAfter w s full) w (ran c w) (none-after w s full) z) (ap heldFates x)
+bad-went c w f h g (held.lacking s n e q x k z) =
+    one-ends w (ran c w) f fate.Stored h (none-left true ru.NoResources w (ran c w) refl z) (ap heldFates x)
 bad-went c w f h g (held.lost l k) = g l k
 
 held-went : (good : Bool) (c : Call) (w : World) (f : Frame) → Sound (w .device) → heldIn (unitOf w) ≡ f ∷ []

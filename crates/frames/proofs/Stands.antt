@@ -197,7 +197,7 @@ ending-pieces true w s status rest ps h e =
 ending-pieces false w s status rest ps h e = front2 (header-piece w s h) (word-piece (inFrame w s 0) status) e
 
 onward-pieces : (x : Bool) (w : World) (r : Ran) (s : Storing) (free : Offset)
-    → piecesOf (onwardBy x w s free (apply (described false w s) (w .memory)) ++ statusAfter w r)
+    → piecesOf (onwardBy x w s free ++ statusAfter w r)
     ≡ onwardPiece x w s ++ piece (inScb w scbStatusAt) 2 ∷ []
 unfolding piecesOf
 onward-pieces true w r s free = status-piece w r
@@ -248,18 +248,19 @@ exit-of : (c : Call) (w : World) (f : Frame) → length (w .holding) ≡ holding
     → GoodFate f c w
     → GoodExit f c w
 exit-of c w f h l p (held.stays a b k m) = exit.stays a b k m
-exit-of c w f h l p (held.stored s free full n e q x k) =
+exit-of c w f h l p (held.stored s free full n e q x k z) =
     let o = subst (λ (u : Ru). NoOverlap (length (w .memory)) (pieces u w)) e p in
     exit.stored s free full n e q x
-    (stored-stands false s _ w (ran c w) k h l (closing-separate (length (w .memory)) w (ran c w) s free full h o)) (k .fr)
-exit-of c w f h l p (held.counted s n e q b x k) =
+    (stored-stands false s _ w (ran c w) k h l (closing-separate (length (w .memory)) w (ran c w) s free full h o)) z
+exit-of c w f h l p (held.counted s n e q b x k z) =
     let o = subst (λ (u : Ru). NoOverlap (length (w .memory)) (pieces u w)) e p in
     let unsaved = ap (λ (g : Frame). g .savebad) q ∙ b in
     exit.counted s n e q b x
     (counted-stands (markTo w s 0x0000 ∷ []) w (ran c w) k (omega arith)
     (counted-separate (length (w .memory)) w (ran c w) s _
     (subst (λ (d : Bool). NoOverlap (length (w .memory)) (lackingPieces d w s)) unsaved o)))
-exit-of c w f h l p (held.both s n e q b x k j) =
+    z
+exit-of c w f h l p (held.both s n e q b x k j z) =
     let o = subst (λ (u : Ru). NoOverlap (length (w .memory)) (pieces u w)) e p in
     let saved = ap (λ (g : Frame). g .savebad) q ∙ b in
     let v = (wordAt (apply (described true w s) (w .memory)) (inScb w 12) + 1) % 65536 in
@@ -267,8 +268,7 @@ exit-of c w f h l p (held.both s n e q b x k j) =
     both-separate (length (w .memory)) w (ran c w) s v h
     (subst (λ (d : Bool). NoOverlap (length (w .memory)) (lackingPieces d w s)) saved o)
     in
-    exit.both s n e q b x (stored-stands true s _ w (ran c w) k h l d) (k .fr)
-    (counted-stands (described true w s) w (ran c w) j (omega arith) d)
+    exit.both s n e q b x (stored-stands true s _ w (ran c w) k h l d) (counted-stands (described true w s) w (ran c w) j (omega arith) d) z
 exit-of c w f h l p (held.lost a k) = exit.lost a k
 
 -- every call that is not refused, while a good frame is held, where no piece that is written lies over another
@@ -334,7 +334,6 @@ saved-stands lacking s rest w r h l p k =
     record {
       stored = stored;
       lacks = ap (λ (n : ℕ). bit n 9) (stored .status) ∙ k .lacks;
-      fr = k .fr;
       counters = counters-stand writes w r (k .memory) (to-last (length (w .memory)) writes (piece (inScb w 8) 8) p);
     }
 
@@ -346,7 +345,7 @@ bad-exit-of : (c : Call) (w : World) (f : Frame) → length (w .holding) ≡ hol
     → BadFate f c w
     → BadExit f c w
 bad-exit-of c w f h l p (held.stays a b k m) = exit.stays a b k m
-bad-exit-of c w f h l p (held.stored s free full n e q x k) =
+bad-exit-of c w f h l p (held.stored s free full n e q x k z) =
     let o = subst (λ (u : Ru). NoOverlap (length (w .memory)) (badPieces u w)) e p in
     let y = s .el || full in
     exit.stored s free full n e q x
@@ -355,13 +354,15 @@ bad-exit-of c w f h l p (held.stored s free full n e q x k) =
     (onwardPiece y w s ++ piece (inScb w scbStatusAt) 2 ∷ []) h (onward-pieces y w (ran c w) s free)
     (subst (Behind w s) (closing-counters (isBare (s .frame)) y w s) o))
     k)
-bad-exit-of c w f h l p (held.lacking s n e q x k) =
+    z
+bad-exit-of c w f h l p (held.lacking s n e q x k z) =
     let o = subst (λ (u : Ru). NoOverlap (length (w .memory)) (badPieces u w)) e p in
     exit.lacking s n e q x
     (saved-stands true s _ w (ran c w) h l
     (with-counters (length (w .memory)) w s (frameStatus true (s .frame)) (statusAfter w (ran c w)) (piece (inScb w scbStatusAt) 2 ∷ []) h
     (status-piece w (ran c w)) (subst (Behind w s) (lacking-counters (isBare (s .frame)) w s) o))
     k)
+    z
 bad-exit-of c w f h l p (held.lost a k) = exit.lost a k
 
 -- every call that is not refused, while a bad frame is held, where no piece that is written lies over another or over a counter

@@ -17,7 +17,7 @@ use Rattle.chip.specs.Call.{Call, reset, attention, arrive, turn, ran}
 use Rattle.chip.specs.World.{World, worldOf}
 use Rattle.traces.specs.Event.{Event, call, host, step}
 use Rattle.frames.specs.Arrival.{unitOf, settingsOf}
-use Rattle.frames.specs.Held.{ofHeld, heldFates, GoodFate, BadFate}
+use Rattle.frames.specs.Held.{ofHeld, isLoss, heldFates, loses, GoodFate, BadFate}
 
 -- ---- what happens
 
@@ -177,14 +177,23 @@ isUnaltered [] = true
 isUnaltered (event e ∷ ds) = isUnaltered ds
 isUnaltered (alter d r ∷ ds) = false
 
--- each end is by a held frame's fate: stored, counted, both, or lost by abort or reset; unless, where that is allowed, the host altered the record
-abbrev pub Proper : (altering : Type 0) → Way → Type 0
-Proper altering (by-call x) = ofHeld x ≡ true
-Proper altering by-altering = altering
+-- how a deed may end a holding. A call: by a held frame's fate, aborted or reset exactly if the call aborts or resets, else stored, counted or both. The
+-- host: where that is allowed, by altering the record, and by nothing else
+abbrev pub Proper : (altering : Type 0) → Deed → World → Way → Type 0
+Proper altering (event (call c)) w (by-call x) = (ofHeld x ≡ true) × (isLoss x ≡ loses c w)
+Proper altering (event (call c)) w by-altering = ⊥
+Proper altering (event (host m h out)) w way = ⊥
+Proper altering (alter d r) w (by-call x) = ⊥
+Proper altering (alter d r) w by-altering = altering
 
-abbrev pub AllProper : (altering : Type 0) → List Ended → Type 0
-AllProper altering [] = Unit {0}
-AllProper altering (e ∷ es) = Proper altering (e .way) × AllProper altering es
+abbrev pub EachProper : (altering : Type 0) → Deed → World → List Ended → Type 0
+EachProper altering d w [] = Unit {0}
+EachProper altering d w (e ∷ es) = Proper altering d w (e .way) × EachProper altering d w es
+
+-- all that ended did so: the endings, deed by deed
+abbrev pub AllProper : (altering : Type 0) → List Deed → Scene → Type 0
+AllProper altering [] s = Unit {0}
+AllProper altering (d ∷ ds) s = EachProper altering d (s .world) (ended d s) × AllProper altering ds (advance d s)
 
 -- at every call while a frame is held its fate is as said of one call
 abbrev pub AllFates : List Deed → World → Type 0

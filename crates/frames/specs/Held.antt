@@ -1,7 +1,7 @@
 -- What a call can make of a held frame: 01, "Arrival and storing" and "The SCB". A fate is read from the outcome that also gives the call's writes:
 -- each statement ties the outcome's fates to memory and record as the call leaves them. Assumes nothing.
 use mathlib.Core.Path.{_≡_}
-use mathlib.Core.Bool.{Bool, true, false, _&&_, _||_}
+use mathlib.Core.Bool.{Bool, true, false, not, _&&_, _||_}
 use mathlib.Core.List.{List, [], _∷_, _++_, map}
 use Prim.Native.Nat.{ℕ, _+_}
 use lib.Dec.{eqb, leb}
@@ -10,10 +10,11 @@ use Rattle.memory.specs.Address.{place, offsetAt, isNone}
 use Rattle.memory.specs.Memory.{Write, bytesTo, wordTo, wordAt, countTo, apply}
 use Rattle.memory.specs.declared.Offset.{Offset}
 use Rattle.scb.specs.Words.{bit, scbStatusAt, scbCommandAt, statusWord, resets, ruc}
+use Rattle.scb.specs.declared.Events.{Events}
 use Rattle.device.specs.Answers.{answered}
 use Rattle.device.specs.Change.{withRu, servedRu, withUnits}
 use Rattle.device.specs.Limits.{header, heldFrom, mostBuffers}
-use Rattle.device.specs.State.{cuState, ruState, heldIn, fresh}
+use Rattle.device.specs.State.{cuState, ruState, isReady, heldIn, fresh}
 use Rattle.device.specs.declared.Fate.{Fate}
 use Rattle.device.specs.declared.Fate.the-variants as fate
 use Rattle.device.specs.declared.Frame.{Frame}
@@ -30,7 +31,7 @@ use Rattle.control.specs.Obey.{obeyCuc}
 use Rattle.attention.specs.Attention.{settledWrites}
 use Rattle.chip.specs.Call.{Call, reset, attention, arrive, turn, ran}
 use Rattle.chip.specs.World.{World, Ran}
-use Rattle.chip.specs.Turn.{servedOf, isReceive}
+use Rattle.chip.specs.Turn.{servedOf, isReceive, raisedIn}
 use Rattle.frames.specs.Arrival.{inScb, unitOf}
 
 -- a fate of a held frame, not of an arriving one
@@ -48,6 +49,22 @@ ofHeld fate.StoredCounted = true
 ofHeld fate.Counted = true
 ofHeld fate.Aborted = true
 ofHeld fate.Reset = true
+
+-- by which it is lost
+abbrev pub isLoss : Fate → Bool
+isLoss fate.TooFew = false
+isLoss fate.NoMatch = false
+isLoss fate.UnitIdle = false
+isLoss fate.UnitSuspended = false
+isLoss fate.Overrun = false
+isLoss (fate.Bad c) = false
+isLoss (fate.Held c) = false
+isLoss fate.NoResources = false
+isLoss fate.Stored = false
+isLoss fate.StoredCounted = false
+isLoss fate.Counted = false
+isLoss fate.Aborted = true
+isLoss fate.Reset = true
 
 -- those among the fates that a call gives
 abbrev pub chosen : (held : Bool) → Fate → List Fate → List Fate
@@ -200,13 +217,17 @@ bareTo w s = bareMark (isBare (s .frame)) (inFrame w s 6)
 abbrev pub described : (lacking : Bool) → World → Storing → List Write
 described lacking w s = headerTo w s ∷ markTo w s (frameStatus lacking (s .frame)) ∷ bareTo w s
 
+-- the link, read now: after these writes of a frame that is stored with buffers enough
+abbrev pub linkNow : World → Storing → Offset
+linkNow w s = offsetAt (apply (described false w s) (w .memory)) (inFrame w s 4)
+
 -- unless No Resources follows, +6 of the next frame descriptor (link read now) gets the next free offset
-abbrev pub onwardBy : (exhausted : Bool) → World → Storing → Offset → List ℕ → List Write
-onwardBy true w s free now = []
-onwardBy false w s free now = wordTo (place (w .device .units .base) (offsetAt now (inFrame w s 4)) 6) (free .0) ∷ []
+abbrev pub onwardBy : (exhausted : Bool) → World → Storing → Offset → List Write
+onwardBy true w s free = []
+onwardBy false w s free = wordTo (place (w .device .units .base) (linkNow w s) 6) (free .0) ∷ []
 
 abbrev pub onward : World → Storing → Offset → Bool → List Write
-onward w s free full = onwardBy (s .el || full) w s free (apply (described false w s) (w .memory))
+onward w s free full = onwardBy (s .el || full) w s free
 
 -- the SCB status, as the record has it after the call
 abbrev pub statusAfter : World → Ran → List Write
@@ -215,22 +236,40 @@ statusAfter w r =
 
 -- ---- stored, counted
 
--- stored: the turn's writes contain the 14 header bytes from the holding area and the status word with C (and bit 9 exactly if out of buffers), and
--- FR is set in the record
+-- stored: the turn's writes contain the 14 header bytes from the holding area and the status word with C (and bit 9 exactly if out of buffers)
 pub record Stored (lacking : Bool) (s : Storing) (rest : List Write) (w : World) (r : Ran) : Type 0 where
   pub memory : r .memory ≡ apply (headerTo w s ∷ markTo w s (frameStatus lacking (s .frame)) ∷ rest) (w .memory)
   pub complete : bit (frameStatus lacking (s .frame)) 15 ≡ true
   pub lacks : bit (frameStatus lacking (s .frame)) 9 ≡ lacking
-  pub fr : r .outcome .device .units .events .fr ≡ true
-  pub gone : heldIn (r .outcome .device .units .ru) ≡ []
-  pub holding : r .holding ≡ w .holding
 
 -- counted: after the frame's other writes RSCERRS becomes one more (modulo 65,536) than the word that stands there then, and only the SCB status
 -- follows
 pub record Counted (others : List Write) (w : World) (r : Ran) : Type 0 where
   pub memory : r .memory ≡ apply (others ++ (countTo (apply others (w .memory)) (inScb w 12) ∷ statusAfter w r)) (w .memory)
-  pub gone : heldIn (r .outcome .device .units .ru) ≡ []
+
+-- ---- all else of an end turn
+
+-- descriptor EL, or EL on the last buffer used, gives No Resources, which wins over Suspended; otherwise S or a waiting SUSPEND suspends
+abbrev pub unitBy : (exhausted pauses : Bool) → (link : Offset) → Ru
+unitBy true pauses link = ru.NoResources
+unitBy false true link = ru.Suspended link
+unitBy false false link = ru.Ready link
+
+-- the unit, all being stored: its next frame descriptor is the link, read now. Out of buffers: No Resources
+abbrev pub unitAfter : World → Storing → (full : Bool) → Ru
+unitAfter w s full = unitBy (s .el || full) (s .suspend || s .pausing) (linkNow w s)
+
+-- the events: if stored, raise FR; leaving Ready raises RNR
+abbrev pub raisedAtEnd : (stored : Bool) → (next : Ru) → Events
+raisedAtEnd stored next = record { cx = false; fr = stored; cna = false; rnr = not (isReady (ruState next)) }
+
+-- of the record the receive unit changes, that it was the one served, and the events raised are set; nothing is sent, and an event is raised, so there
+-- is an edge; both areas are as they were
+pub record AtEnd (stored : Bool) (next : Ru) (w : World) (r : Ran) : Type 0 where
+  pub device : r .outcome .device ≡ withUnits (w .device) (raisedIn (servedRu (withRu (w .device .units) next) true) (raisedAtEnd stored next))
+  pub answer : r .outcome .answer ≡ answered 0 true
   pub holding : r .holding ≡ w .holding
+  pub outgoing : r .outgoing ≡ w .outgoing
 
 -- ---- lost: only by the reset call, a resetting attention, or an RU abort
 
@@ -260,15 +299,18 @@ pub data GoodFate (f : Frame) (c : Call) (w : World) : Type 0 where
   stored : (s : Storing) (free : Offset) (full : Bool) → ends c w ≡ true → unitOf w ≡ ru.Closing s free full → s .frame ≡ f
       → ran c w .outcome .fates ≡ fate.Stored ∷ []
       → Stored false s (bareTo w s ++ (onward w s free full ++ statusAfter w (ran c w))) w (ran c w)
+      → AtEnd true (unitAfter w s full) w (ran c w)
       → GoodFate f c w
   counted : (s : Storing) → ends c w ≡ true → unitOf w ≡ ru.Lacking s → s .frame ≡ f → f .savebad ≡ false
       → ran c w .outcome .fates ≡ fate.Counted ∷ []
       → Counted (markTo w s 0x0000 ∷ []) w (ran c w)
+      → AtEnd false ru.NoResources w (ran c w)
       → GoodFate f c w
   both : (s : Storing) → ends c w ≡ true → unitOf w ≡ ru.Lacking s → s .frame ≡ f → f .savebad ≡ true
       → ran c w .outcome .fates ≡ fate.StoredCounted ∷ []
       → Stored true s (bareTo w s ++ (countTo (apply (described true w s) (w .memory)) (inScb w 12) ∷ statusAfter w (ran c w))) w (ran c w)
       → Counted (described true w s) w (ran c w)
+      → AtEnd true ru.NoResources w (ran c w)
       → GoodFate f c w
   lost : loses c w ≡ true → Lost w c → GoodFate f c w
 
@@ -279,9 +321,11 @@ pub data BadFate (f : Frame) (c : Call) (w : World) : Type 0 where
   stored : (s : Storing) (free : Offset) (full : Bool) → ends c w ≡ true → unitOf w ≡ ru.Closing s free full → s .frame ≡ f
       → ran c w .outcome .fates ≡ fate.Stored ∷ []
       → Stored false s (bareTo w s ++ (onward w s free full ++ statusAfter w (ran c w))) w (ran c w)
+      → AtEnd true (unitAfter w s full) w (ran c w)
       → BadFate f c w
   lacking : (s : Storing) → ends c w ≡ true → unitOf w ≡ ru.Lacking s → s .frame ≡ f
       → ran c w .outcome .fates ≡ fate.Stored ∷ []
       → Stored true s (bareTo w s ++ statusAfter w (ran c w)) w (ran c w)
+      → AtEnd true ru.NoResources w (ran c w)
       → BadFate f c w
   lost : loses c w ≡ true → Lost w c → BadFate f c w

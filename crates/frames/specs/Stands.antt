@@ -4,8 +4,8 @@ use mathlib.Core.Bool.{Bool, true, false, _||_}
 use mathlib.Core.List.{List, [], _∷_, _++_}
 use Prim.Native.Nat.{ℕ, _+_, _%_, _≤_}
 use lib.ListN.{length, take}
-use Rattle.memory.specs.Address.{place, offsetAt}
-use Rattle.memory.specs.Memory.{Write, wordAt, bytesAt, apply}
+use Rattle.memory.specs.Address.{place}
+use Rattle.memory.specs.Memory.{Write, wordAt, bytesAt}
 use Rattle.memory.specs.declared.Offset.{Offset}
 use Rattle.memory.proofs.Fields.{Apart, AllApart}
 use Rattle.scb.specs.Words.{bit, scbStatusAt}
@@ -20,7 +20,7 @@ use Rattle.receive.specs.End.{frameStatus}
 use Rattle.chip.specs.Call.{Call, ran}
 use Rattle.chip.specs.World.{World, Ran}
 use Rattle.frames.specs.Arrival.{inScb, unitOf}
-use Rattle.frames.specs.Held.{inFrame, described, loses, ends, StaysHeld, Meanwhile, Lost}
+use Rattle.frames.specs.Held.{inFrame, linkNow, loses, ends, StaysHeld, Meanwhile, unitAfter, AtEnd, Lost}
 
 -- in a memory of n bytes no write lies over another
 abbrev pub Separate : ℕ → List Write → Type 0
@@ -62,7 +62,7 @@ NoOverlap n (p ∷ ps) = Away n ps p × NoOverlap n ps
 
 -- +6 of the next frame descriptor, link read now
 abbrev pub nextFirst : World → Storing → ℕ
-nextFirst w s = place (w .device .units .base) (offsetAt (apply (described false w s) (w .memory)) (inFrame w s 4)) 6
+nextFirst w s = place (w .device .units .base) (linkNow w s) 6
 
 -- FFFFh at +6 if no data; +6 of the next frame descriptor unless No Resources follows
 abbrev pub barePiece : (bare : Bool) → World → Storing → List Piece
@@ -99,17 +99,18 @@ pub data GoodExit (f : Frame) (c : Call) (w : World) : Type 0 where
   stored : (s : Storing) (free : Offset) (full : Bool) → ends c w ≡ true → unitOf w ≡ ru.Closing s free full → s .frame ≡ f
       → ran c w .outcome .fates ≡ fate.Stored ∷ []
       → StoredStands false s w (ran c w)
-      → ran c w .outcome .device .units .events .fr ≡ true
+      → AtEnd true (unitAfter w s full) w (ran c w)
       → GoodExit f c w
   counted : (s : Storing) → ends c w ≡ true → unitOf w ≡ ru.Lacking s → s .frame ≡ f → f .savebad ≡ false
       → ran c w .outcome .fates ≡ fate.Counted ∷ []
       → CountedStands w (ran c w)
+      → AtEnd false ru.NoResources w (ran c w)
       → GoodExit f c w
   both : (s : Storing) → ends c w ≡ true → unitOf w ≡ ru.Lacking s → s .frame ≡ f → f .savebad ≡ true
       → ran c w .outcome .fates ≡ fate.StoredCounted ∷ []
       → StoredStands true s w (ran c w)
-      → ran c w .outcome .device .units .events .fr ≡ true
       → CountedStands w (ran c w)
+      → AtEnd true ru.NoResources w (ran c w)
       → GoodExit f c w
   lost : loses c w ≡ true → Lost w c → GoodExit f c w
 
@@ -127,11 +128,10 @@ badPieces (ru.Closing s free full) w =
     storedPieces w s (onwardPiece (s .el || full) w s ++ piece (inScb w scbStatusAt) 2 ∷ piece (inScb w 8) 8 ∷ [])
 badPieces (ru.Lacking s) w = storedPieces w s (piece (inScb w scbStatusAt) 2 ∷ piece (inScb w 8) 8 ∷ [])
 
--- header bytes and status stand, bit 9 is set exactly if out of buffers, FR is set in the record, and the counters are as at entry
+-- header bytes and status stand, bit 9 is set exactly if out of buffers, and the counters are as at entry
 pub record SavedStands (lacking : Bool) (s : Storing) (w : World) (r : Ran) : Type 0 where
   pub stored : StoredStands lacking s w r
   pub lacks : bit (wordAt (r .memory) (inFrame w s 0)) 9 ≡ lacking
-  pub fr : r .outcome .device .units .events .fr ≡ true
   pub counters : CountersStand w r
 
 -- what becomes of a bad frame, as facts about memory at exit
@@ -140,10 +140,12 @@ pub data BadExit (f : Frame) (c : Call) (w : World) : Type 0 where
   stored : (s : Storing) (free : Offset) (full : Bool) → ends c w ≡ true → unitOf w ≡ ru.Closing s free full → s .frame ≡ f
       → ran c w .outcome .fates ≡ fate.Stored ∷ []
       → SavedStands false s w (ran c w)
+      → AtEnd true (unitAfter w s full) w (ran c w)
       → BadExit f c w
   lacking : (s : Storing) → ends c w ≡ true → unitOf w ≡ ru.Lacking s → s .frame ≡ f
       → ran c w .outcome .fates ≡ fate.Stored ∷ []
       → SavedStands true s w (ran c w)
+      → AtEnd true ru.NoResources w (ran c w)
       → BadExit f c w
   lost : loses c w ≡ true → Lost w c → BadExit f c w
 
