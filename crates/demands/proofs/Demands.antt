@@ -345,7 +345,7 @@ pub a-list-is-done : (bs : List ℕ) (es : List Event) (w : World) → Starts w
     → Done bs es (step (call attention) w)
 a-list-is-done = whole.attention-list-done
 
--- an attention starts a list by RESUME too, from the block on before which the unit was suspended
+-- an attention starts a list by RESUME too, from the block before which the unit was suspended
 pub a-resumed-list-is-done : (bs : List ℕ) (es : List Event) (w : World) → Resumes (firstOf bs) w
     → Listed (step (call attention) w .device .units .base) (step (call attention) w .memory) bs
     → Premises DuringList enough bs es (step (call attention) w)

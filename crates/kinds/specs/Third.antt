@@ -64,7 +64,7 @@ pub record StartsAt (bs : List ℕ) (w : World) : Type 0 where
 abbrev pub ListRun : (ℕ → ℕ) → List ℕ → List Act → World → Type 0
 ListRun least bs acts w = RunBy StartsAt least bs acts w
 
--- or, beyond the sentence, resumes it, from the block on before which the unit was suspended
+-- or, beyond the sentence, resumes it, from the block before which the unit was suspended
 abbrev pub ResumedRun : (ℕ → ℕ) → List ℕ → List Act → World → Type 0
 ResumedRun least bs acts w = RunBy (λ cs. Resumes (firstOf cs)) least bs acts w
 
