@@ -8,13 +8,15 @@ use Prim.Native.Nat.{ℕ}
 use lib.Dec.{lit≤}
 use lib.ListN.{length, replicate}
 use Rattle.memory.specs.Memory.{wordAt}
-use Rattle.device.specs.State.{cuState, isActive, isHolding}
+use Rattle.device.specs.Change.{withUnits, initialisedAt}
+use Rattle.device.specs.Limits.{holdingSize, outgoingSize}
+use Rattle.device.specs.State.{cuState, isActive, isHolding, fresh}
 use Rattle.device.specs.declared.Cu.the-variants as cu
 use Rattle.device.specs.declared.Ru.the-variants as ru
 use Rattle.actions.specs.Setup.{setupOf}
-use Rattle.chip.specs.Cases.{Word, _is_, put, startOn}
+use Rattle.chip.specs.Cases.{Word, _is_, put}
 use Rattle.chip.specs.Call.{attention, arrive, turn}
-use Rattle.chip.specs.World.{World}
+use Rattle.chip.specs.World.{World, worldOf}
 use Rattle.traces.specs.Event.{Event, call, host, step, DuringList}
 use Rattle.progress.specs.Trace.{run, turns}
 use Rattle.progress.specs.Machine.{Undisturbed, log}
@@ -26,7 +28,7 @@ use Rattle.lists.proofs.Whole.{attention-list-done}
 use Rattle.lists.proofs.Tests.{keptb, kept-ok, clash-ok, calls-ok, kept-append, idle-kept}
 use Rattle.worked.proofs.Witness.{frame}
 
--- ---- the board: ISCP at 0, SCB at 8, base 0
+-- ---- the board
 
 -- a NOP with S at 18h; a Transmit with I at 20h, whose descriptor at 30h has the two bytes at 20h; a NOP with S at 38h
 abbrev blocks : List Word
@@ -40,8 +42,12 @@ blocks =
 abbrev descriptors : List Word
 descriptors = 0x44 is 0x40 ∷ 0x46 is 0x58 ∷ 0x5A is 0x58 ∷ 0x5C is 0x70 ∷ 0x60 is 20 ∷ []
 
-abbrev cold : World
-cold = startOn (put descriptors (put blocks (put (8188 is 0 ∷ 2 is 0x08 ∷ []) (replicate 8192 0))))
+-- initialised, with the SCB at 8 and base 0
+abbrev settled : World
+settled =
+    worldOf
+    (withUnits fresh (initialisedAt (fresh .units) (record { 0 = 0 }) (record { 0 = 0x08 }) (record { cx = true; fr = false; cna = true; rnr = false })))
+    (put descriptors (put blocks (replicate 8192 0))) (replicate holdingSize 0) (replicate outgoingSize 0)
 
 -- the host writes the SCB's command, and its CBL and RFA offset
 abbrev told : (command cbl : ℕ) → World → World
@@ -50,7 +56,7 @@ told command cbl w = step (host (put (0x0A is command ∷ 0x0C is cbl ∷ 0x0E i
 -- both units are started; a frame arrives and is in its buffers when the first NOP suspends the command unit
 abbrev storing : World
 storing =
-    run step (call (arrive (frame 1) 0) ∷ replicate 4 (call (turn 0))) (step (call attention) (told 0xF110 0x18 (step (call attention) cold)))
+    run step (call (arrive (frame 1) 0) ∷ replicate 4 (call (turn 0))) (step (call attention) (told 0xF110 0x18 settled))
 
 -- all acknowledged, CUC START, RUC ABORT
 abbrev pub before : World
