@@ -56,7 +56,7 @@ use Rattle.frames.specs.Fates.{Deed, alter, Scene, namesOf, opening, still, adv
 use Rattle.frames.specs.Fates.{by-call, by-altering, isUnaltered, AllProper}
 use Rattle.frames.specs.OnBytes.{ArrivedOn, altering, deedsOf, AllGiven, AllGivenDrive, AllKept, AllSaidOf, worldAt, heldOf, endedOf, stillOf}
 use Rattle.frames.specs.Stands.{NoOverlap, pieces, GoodExit}
-use Rattle.frames.specs.Data.{Staying, dataOf, Delivered, ArrivedDelivered, EndLent, upTo}
+use Rattle.frames.specs.Data.{Staying, dataOf, Delivered, ArrivedDelivered, EndLent, DeliveredOnBytes, ArrivedOnBytes}
 use Rattle.frames.proofs.Arrival as arrivals
 use Rattle.frames.proofs.Arrived as arrived
 use Rattle.frames.proofs.Held as holdings
@@ -65,6 +65,7 @@ use Rattle.frames.proofs.Data as stored
 use Rattle.frames.proofs.Fates as fates
 use Rattle.frames.proofs.OnBytes as on-bytes
 use Rattle.frames.proofs.DataWitness as data-run
+use Rattle.frames.proofs.DataBytesWitness as data-bytes-run
 use Rattle.frames.proofs.BytesWitness as bytes-run
 use Rattle.lists.specs.Uses.{Listed, firstOf}
 use Rattle.lists.specs.Done.{Starts, Resumes, enough, Premises, Done}
@@ -214,12 +215,11 @@ pub the-bytes-that-arrived-are-stored : (w : World) (bs : List ℕ) (v : ℕ) (c
     → ArrivedDelivered bs es (step (call (arrive bs v)) w) report
 the-bytes-that-arrived-are-stored = stored.arrived
 
--- the same over the calls on the areas that the host lends, refused calls among them; the turn that ends it leaves what the definitions say
+-- the same over the calls on the areas that the host lends, refused calls among them; each leaves what the definitions say, and so does the turn that
+-- ends it
 pub its-data-is-stored-on-bytes : (a b : Areas) (w : World) (fd : Offset) (f : Frame) (p : Bool) (ls : List Lending) (report : ℕ) → Shows a w
     → arrival.unitOf w ≡ ru.Held fd f p → AllFair Staying ls a → EndLent b report (run left ls a) → ends (turn report) (worldSaid b) ≡ true
-    → Delivered f (dataOf f (a .holding)) (upTo ls b) w report
-    × Shows b (run step (upTo ls b) w)
-    × (called (turn report) b ≡ onBytes (ran (turn report) (run step (upTo ls b) w)))
+    → DeliveredOnBytes f (dataOf f (a .holding)) ls b w report
 its-data-is-stored-on-bytes = stored.delivered-on-bytes
 
 pub the-bytes-that-arrived-are-stored-on-bytes : (a b : Areas) (d : Device) (bs : List ℕ) (v : ℕ) (c : Counter) (ls : List Lending) (report : ℕ)
@@ -227,10 +227,7 @@ pub the-bytes-that-arrived-are-stored-on-bytes : (a b : Areas) (d : Device) (bs 
     → arrivalOf (worldIn d a) bs v .outcome .fates ≡ fate.Held c ∷ []
     → AllFair Staying ls (called (arrive bs v) a .areas) → EndLent b report (run left ls (called (arrive bs v) a .areas))
     → ends (turn report) (worldSaid b) ≡ true
-    → let w = step (call (arrive bs v)) (worldIn d a) in
-    ArrivedDelivered bs (upTo ls b) w report
-    × Shows b (run step (upTo ls b) w)
-    × (called (turn report) b ≡ onBytes (ran (turn report) (run step (upTo ls b) w)))
+    → ArrivedOnBytes bs v a ls b (worldIn d a) report
 the-bytes-that-arrived-are-stored-on-bytes = stored.arrived-on-bytes
 
 -- "only an abort, a reset or the host's altering of the record may lose a held one": over any trace, a holding ends at a call, by aborted or reset exactly
@@ -559,6 +556,13 @@ a-frame-whose-data-is-stored = data-run.enough
 
 pub a-frame-out-of-buffers : data-run.Seen 0xFFFF (replicate 3 (call (turn 0))) 40
 a-frame-out-of-buffers = data-run.too-few
+
+-- the same by calls on bytes, each lent what stands, one of them refused
+pub a-frame-whose-data-is-stored-on-bytes : data-bytes-run.Met 0xA0 4
+a-frame-whose-data-is-stored-on-bytes = data-bytes-run.met-enough
+
+pub a-frame-out-of-buffers-on-bytes : data-bytes-run.Met 0xFFFF 3
+a-frame-out-of-buffers-on-bytes = data-bytes-run.met-too-few
 
 -- six calls, one of them refused: of two held frames one ends by a record that is lent otherwise, and one is stored
 pub frames-on-bytes : AllGiven bytes-run.calls

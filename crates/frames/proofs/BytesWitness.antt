@@ -43,7 +43,7 @@ use Rattle.closure.specs.Carried.{Carried}
 use Rattle.closure.specs.Refusals.{FrameRight}
 use Rattle.closure.proofs.Command.{append-bytes, replicate-bytes}
 use Rattle.closure.proofs.Refusals.{table, AllRight, Unrefused, gives-none}
-use Rattle.closure.proofs.Carried.{carry, holds-length}
+use Rattle.closure.proofs.Carried.{carry, holds-length, lent-kept, areas-as-long}
 use Rattle.frames.specs.Fates.{Deed, event, alter, opening, numbersOf, by-call, by-altering, Ended, still, advance, beginnings, endings}
 use Rattle.frames.specs.OnBytes.{altering, deedsBy, deedsOf, Given, AllGiven, AllKept, heldOf, endedOf, stillOf}
 use Rattle.frames.proofs.OnBytes.{not-altered, altered}
@@ -62,9 +62,51 @@ abbrev pub next : Call → Device → Device
 next c d = ran c (worldIn d (lentOf d)) .outcome .device
 
 -- a frame of bytes, and not overlong
-record Fine (c : Call) : Type 0 where
-  bytes : FrameBytes c
-  right : FrameRight c
+pub record Fine (c : Call) : Type 0 where
+  pub bytes : FrameBytes c
+  pub right : FrameRight c
+
+-- areas of bytes, of the right lengths, with the record of a state
+pub record Fits (a : Areas) (d : Device) : Type 0 where
+  pub bytes : AreBytes a
+  pub holds : Holds (a .kept) d
+  pub size : Allowed (length (a .memory))
+  pub holding : length (a .holding) ≡ holdingSize
+  pub outgoing : length (a .outgoing) ≡ outgoingSize
+
+all-right : (c : Call) (a : Areas) (d : Device) → Fits a d → Fine c → AllRight c a
+all-right c a d r f =
+    record {
+      size = r .size;
+      kept = holds-length (a .kept) d (r .holds);
+      holding = r .holding;
+      outgoing = r .outgoing;
+      frame = f .right;
+      image = (d, r .holds);
+    }
+
+unrefused : (c : Call) (a : Areas) (d : Device) → Fits a d → Fine c → Unrefused c a
+unrefused reset a d r f = holds-length (a .kept) d (r .holds)
+unrefused attention a d r f = all-right attention a d r f
+unrefused (arrive x v) a d r f = all-right (arrive x v) a d r f
+unrefused (turn report) a d r f = all-right (turn report) a d r f
+
+-- no call is refused there
+pub accepted-on : (c : Call) (a : Areas) (d : Device) → Fits a d → Fine c → refusedAt (lending c a) ≡ false
+accepted-on c a d r f =
+    ap not (eq-eqb (number (called c a .answer)) 0 (table c a (r .bytes .kept) 0 .1 (gives-none c a (unrefused c a d r f))))
+
+-- and what it leaves is so again
+pub fits-again : (c : Call) (a : Areas) (d : Device) → Fits a d → Fine c → Fits (called c a .areas) (ran c (worldIn d a) .outcome .device)
+fits-again c a d r f =
+    let long = areas-as-long c a (f .bytes) (r .bytes) in
+    record {
+      bytes = lent-kept c a (f .bytes) (r .bytes);
+      holds = carry c a d (f .bytes) (r .bytes) (r .holds) (accepted-on c a d r f) .holds;
+      size = subst Allowed (sym (long .memory)) (r .size);
+      holding = long .holding ∙ r .holding;
+      outgoing = long .outgoing ∙ r .outgoing;
+    }
 
 module _ (d : Device) (h : Holds (imageOf d) d) where
   lent-bytes : AreBytes (lentOf d)
@@ -81,27 +123,19 @@ module _ (d : Device) (h : Holds (imageOf d) d) where
       let e : length (zeros 8192) ≡ 8192 = length-replicate {A = ℕ} 8192 0 in
       record { least = omega arith; most = omega arith; exponent = 13; power = e }
 
-  all-right : (c : Call) → Fine c → AllRight c (lentOf d)
-  all-right c f =
+  fits : Fits (lentOf d) d
+  fits =
       record {
+        bytes = lent-bytes;
+        holds = h;
         size = size;
-        kept = holds-length (imageOf d) d h;
         holding = length-replicate {A = ℕ} holdingSize 0;
         outgoing = length-replicate {A = ℕ} outgoingSize 0;
-        frame = f .right;
-        image = (d, h);
       }
-
-  unrefused : (c : Call) → Fine c → Unrefused c (lentOf d)
-  unrefused reset f = holds-length (imageOf d) d h
-  unrefused attention f = all-right attention f
-  unrefused (arrive x v) f = all-right (arrive x v) f
-  unrefused (turn report) f = all-right (turn report) f
 
   -- no such call is refused, and each leaves the record of the next state
   accepted : (c : Call) → Fine c → refusedAt (lending c (lentOf d)) ≡ false
-  accepted c f =
-      ap not (eq-eqb (number (called c (lentOf d) .answer)) 0 (table c (lentOf d) (lent-bytes .kept) 0 .1 (gives-none c (lentOf d) (unrefused c f))))
+  accepted c f = accepted-on c (lentOf d) d fits f
 
   carries : (c : Call) → Fine c → Carried c d (lentOf d)
   carries c f = carry c (lentOf d) d (f .bytes) lent-bytes h (accepted c f)
@@ -192,7 +226,7 @@ fine-frame =
       right = lit≤ tt;
     }
 
-fine-turn : Fine goes
+pub fine-turn : Fine goes
 fine-turn = record { bytes = bytes-nil; right = lit≤ tt }
 
 second-holds : Holds (imageOf second) second
@@ -204,7 +238,7 @@ third-holds = next-holds second second-holds comes fine-frame
 fourth-holds : Holds (imageOf fourth) fourth
 fourth-holds = next-holds third third-holds goes fine-turn
 
-stray-refused : refusedAt stray ≡ true
+pub stray-refused : refusedAt stray ≡ true
 unfolding turnCall refusalOf answerNumber bitsAt sizeAllowed
 stray-refused = refl
 

@@ -46,11 +46,12 @@ use Rattle.traces.specs.Driven.{Lending, left, hostOf, eventsOf, AllFair}
 use Rattle.traces.specs.Event.{Event, call, host, step}
 use Rattle.closure.proofs.Carried.{not-refused, carry, carry-shown}
 use Rattle.closure.proofs.Driven.{shows-said, fair-along}
+use Rattle.closure.proofs.Told.{fair-said}
 use Rattle.frames.specs.Arrival.{RightLengths, unitOf, judgedAs, shortBy, IsHeld, ArrivalFate}
 use Rattle.frames.specs.Arrival as arrival
 use Rattle.frames.specs.Held.{loses, isServed, ends, endIsNext, begunUnit, bufferIn, dataTo, filledUnit, Serves, Waits, untouched, suspends, Meanwhile, served, unserved}
 use Rattle.frames.specs.Held as held
-use Rattle.frames.specs.Data.{Staying, fillsBy, fillsAt, fillsAlong, together, AllMeanwhile, dataWithin, dataOf, Got, all, beginning, Delivered, ArrivedDelivered, EndLent, upTo}
+use Rattle.frames.specs.Data.{Staying, fillsBy, fillsAt, fillsAlong, together, AllMeanwhile, dataWithin, dataOf, Got, all, beginning, Delivered, ArrivedDelivered, EndLent, upTo, AsSaid, DeliveredOnBytes, ArrivedOnBytes}
 use Rattle.frames.proofs.Arrival.{arrival-fate}
 use Rattle.frames.proofs.Held.{HeldFate, stays, closing, lacking, lost, held-fate}
 use Rattle.frames.proofs.Sound.{Sound, in-range-sound, sound-initialised, call-sound, good-sound, bad-sound}
@@ -377,9 +378,8 @@ run-append (e ∷ es) fs w = run-append es fs (step e w)
 -- what is lent along the calls and to the turn at their end shows the state, and all of it may occur
 record Driven (b : Areas) (w : World) (ls : List Lending) (report : ℕ) : Type 0 where
   may : AllMay Staying step (upTo ls b) w
-  shows : Shows b (run step (upTo ls b) w)
-  same : called (turn report) b ≡ onBytes (ran (turn report) (run step (upTo ls b) w))
   ends : ends (turn report) (run step (upTo ls b) w) ≡ true
+  calls : AsSaid ls b w report
 
 driven : (a b : Areas) (w : World) (ls : List Lending) (report : ℕ) → Shows a w → AllFair Staying ls a → EndLent b report (run left ls a)
     → ends (turn report) (worldSaid b) ≡ true → Driven b w ls report
@@ -391,32 +391,31 @@ driven a b w ls report s m t n =
     let z : Shows b (step (hostOf b) v) = record { memory = refl; holding = refl; outgoing = refl; kept = h } in
     record {
       may = may-append Staying step (eventsOf ls) (hostOf b ∷ []) w (k .1) (t .holding ∙ k .0 .holding, tt);
-      shows = subst (Shows b) (sym last) z;
-      same =
-          carry (turn report) b (v .device) bytes-nil (t .bytes) h (t .accepted) .same
-          ∙ ap (λ (x : World). onBytes (ran (turn report) x)) (sym last);
       ends = subst (λ (x : World). ends (turn report) x ≡ true) (shows-said b (step (hostOf b) v) z ∙ sym last) n;
+      calls =
+          record {
+            said = fair-said Staying ls a w m s;
+            shows = subst (Shows b) (sym last) z;
+            last =
+                carry (turn report) b (v .device) bytes-nil (t .bytes) h (t .accepted) .same
+                ∙ ap (λ (x : World). onBytes (ran (turn report) x)) (sym last);
+          };
     }
 
--- the frame that the areas hold, not begun: the turn that ends it leaves what the turn of the definitions leaves, by when the buffers have got the data
+-- the frame that the areas hold, not begun: every call leaves what the definitions leave, and by the turn that ends it the buffers have got the data
 pub delivered-on-bytes : (a b : Areas) (w : World) (fd : Offset) (f : Frame) (p : Bool) (ls : List Lending) (report : ℕ) → Shows a w
     → unitOf w ≡ ru.Held fd f p → AllFair Staying ls a → EndLent b report (run left ls a) → ends (turn report) (worldSaid b) ≡ true
-    → Delivered f (dataOf f (a .holding)) (upTo ls b) w report
-    × Shows b (run step (upTo ls b) w)
-    × (called (turn report) b ≡ onBytes (ran (turn report) (run step (upTo ls b) w)))
+    → DeliveredOnBytes f (dataOf f (a .holding)) ls b w report
 delivered-on-bytes a b w fd f p ls report s e m t n =
     let k = driven a b w ls report s m t n in
-    (rw (s .holding) (delivered w fd f p (upTo ls b) report (s .kept .range) e (k .may) (k .ends)), k .shows, k .same)
+    record { delivered = rw (s .holding) (delivered w fd f p (upTo ls b) report (s .kept .range) e (k .may) (k .ends)); calls = k .calls }
 
 -- and of the bytes that a call brings
 pub arrived-on-bytes : (a b : Areas) (d : Device) (bs : List ℕ) (v : ℕ) (c : Counter) (ls : List Lending) (report : ℕ) → AreBytes a → Holds (a .kept) d
     → Bytes bs → isRefused (called (arrive bs v) a) ≡ false → arrivalOf (worldIn d a) bs v .outcome .fates ≡ fate.Held c ∷ []
     → AllFair Staying ls (called (arrive bs v) a .areas) → EndLent b report (run left ls (called (arrive bs v) a .areas))
     → ends (turn report) (worldSaid b) ≡ true
-    → let w = step (call (arrive bs v)) (worldIn d a) in
-    ArrivedDelivered bs (upTo ls b) w report
-    × Shows b (run step (upTo ls b) w)
-    × (called (turn report) b ≡ onBytes (ran (turn report) (run step (upTo ls b) w)))
+    → ArrivedOnBytes bs v a ls b (worldIn d a) report
 arrived-on-bytes a b d bs v c ls report l h q z f m t n =
     let r = not-refused (arrive bs v) a (l .kept) z in
     let lengths : RightLengths (worldIn d a) bs = record { size = size-allowed (length (a .memory)) (r .size); area = r .holding; frame = r .frame } in
@@ -424,4 +423,8 @@ arrived-on-bytes a b d bs v c ls report l h q z f m t n =
     let k = driven (called (arrive bs v) a .areas) b (step (call (arrive bs v)) (worldIn d a)) ls report
     (carry-shown (arrive bs v) a (worldIn d a) q l s z .0) m t n
     in
-    (arrived (worldIn d a) bs v c (upTo ls b) report lengths (h .range) f (k .may) (k .ends), k .shows, k .same)
+    record {
+      arrival = carry (arrive bs v) a d q l h z .same;
+      delivered = arrived (worldIn d a) bs v c (upTo ls b) report lengths (h .range) f (k .may) (k .ends);
+      calls = k .calls;
+    }

@@ -20,7 +20,9 @@ use Rattle.device.specs.declared.Counter.the-variants as counter
 use Rattle.device.specs.declared.Cu.the-variants as cu
 use Rattle.device.specs.declared.Device.{Device}
 use Rattle.device.specs.declared.Fate.the-variants as fate
+use Rattle.device.specs.declared.Frame.{Frame}
 use Rattle.device.specs.declared.Ru.the-variants as ru
+use Rattle.device.specs.declared.Verdict.the-variants as verdict
 use Rattle.filter.specs.Match.{agree, isListed, matches}
 use Rattle.image.specs.Ranges.{inRange, unitsFit, cuFits, ruFits, initialisedOrFresh}
 use Rattle.receive.specs.Arrival.{lengthOf, judged, fateOf, arrival}
@@ -35,13 +37,13 @@ use Rattle.chip.specs.Turn.{concluded, receiveTurn, turnOf}
 use Rattle.chip.specs.World.{World, worldOf}
 use Rattle.progress.specs.Trace.{run, AllMay}
 use Rattle.traces.specs.Event.{Event, call, step}
-use Rattle.frames.specs.Arrival.{RightLengths}
+use Rattle.frames.specs.Arrival.{RightLengths, unitOf}
 use Rattle.frames.specs.Held.{ends}
 use Rattle.frames.specs.Data.{Staying, fillsAlong, together, ArrivedDelivered}
 use Rattle.frames.proofs.Data.{arrived}
 
 -- SCB at 40h, frame descriptor at 60h; its buffer descriptors at 80h, 90h and A0h
-abbrev ready : Device
+abbrev pub ready : Device
 ready =
     record {
       units =
@@ -60,26 +62,30 @@ ready =
     }
 
 -- so many bytes, each another
-abbrev upward : ℕ → ℕ → List ℕ
+abbrev pub upward : ℕ → ℕ → List ℕ
 upward from zero = []
 upward from (suc n) = from ∷ upward (suc from) n
 
 -- a broadcast of 60 bytes
-abbrev sixty : List ℕ
+abbrev pub sixty : List ℕ
 sixty = replicate 6 255 ++ upward 1 54
 
+-- as it is judged
+abbrev pub frame : Frame
+frame = record { length = 60; verdict = verdict.Good; short = false; savebad = false }
+
 -- a buffer descriptor at o: the next one, a buffer of 20 bytes
-abbrev descriptor : (o next buffer : ℕ) → List Write
+abbrev pub descriptor : (o next buffer : ℕ) → List Write
 descriptor o next buffer = wordTo (o + 2) next ∷ wordTo (o + 4) buffer ∷ wordTo (o + 8) 20 ∷ []
 
 -- the second of them names the third, or none
-abbrev words : (third : ℕ) → List Write
+abbrev pub words : (third : ℕ) → List Write
 words third = wordTo 0x66 0x80 ∷ (descriptor 0x80 0x90 0x100 ++ descriptor 0x90 third 0x120 ++ descriptor 0xA0 0xFFFF 0x140)
 
 abbrev memory : (third : ℕ) → List ℕ
 memory third = apply (words third) (replicate 8192 0)
 
-abbrev before : (third : ℕ) → World
+abbrev pub before : (third : ℕ) → World
 before third = worldOf ready (memory third) (replicate holdingSize 0) (replicate outgoingSize 0)
 
 -- what was asked
@@ -91,7 +97,7 @@ eight : sizeAllowed 8192 ≡ true
 unfolding sizeAllowed ones
 eight = refl
 
-sized : (ws : List Write) → sizeAllowed (length (apply ws (replicate 8192 0))) ≡ true
+pub sized : (ws : List Write) → sizeAllowed (length (apply ws (replicate 8192 0))) ≡ true
 sized ws = ap sizeAllowed (length-apply ws (replicate 8192 0) ∙ length-replicate {A = ℕ} 8192 0) ∙ eight
 
 pub lengths : (third : ℕ) → RightLengths (before third) sixty
@@ -100,6 +106,7 @@ lengths third = record { size = sized (words third); area = length-replicate {A 
 -- what the arrival and the trace meet, and what the buffers get: so many of the 46 bytes of data
 pub record Seen (third : ℕ) (trace : List Event) (got : ℕ) : Type 0 where
   pub fate : arrivals.arrivalOf (before third) sixty 0 .outcome .fates ≡ fate.Held counter.Uncounted ∷ []
+  pub unit : unitOf (step (call (arrive sixty 0)) (before third)) ≡ ru.Held (record { 0 = 0x60 }) frame false
   pub may : AllMay Staying step trace (step (call (arrive sixty 0)) (before third))
   pub ends : ends (turn 0) (run step trace (step (call (arrive sixty 0)) (before third))) ≡ true
   pub bytes : together (fillsAlong trace (step (call (arrive sixty 0)) (before third))) ≡ take got (drop header sixty)
@@ -107,12 +114,12 @@ pub record Seen (third : ℕ) (trace : List Event) (got : ℕ) : Type 0 where
 -- begin and three buffers: all 46
 pub enough : Seen 0xA0 (call (turn 0) ∷ call (turn 0) ∷ call (turn 0) ∷ call (turn 0) ∷ []) 46
 unfolding byteAt putByte bytesAt putBytes value digits fieldAt place beyond bitsAt joined anyOf eventBits statusWord counts verdictOf agree isListed matches lengthOf judged fateOf arrival receive-begin.begunBy receive-begin.begin receive-buffer.descriptorAt receive-buffer.buffer frameStatus settles close lack receive-service.service statusTo arrivals.arrival arrivals.arrivalOf concluded receiveTurn turnOf
-enough = record { fate = refl; may = ((refl, refl), ((refl, refl), ((refl, refl), ((refl, refl), tt)))); ends = refl; bytes = refl }
+enough = record { fate = refl; unit = refl; may = ((refl, refl), ((refl, refl), ((refl, refl), ((refl, refl), tt)))); ends = refl; bytes = refl }
 
 -- begin and two buffers: 40 of them
 pub too-few : Seen 0xFFFF (call (turn 0) ∷ call (turn 0) ∷ call (turn 0) ∷ []) 40
 unfolding byteAt putByte bytesAt putBytes value digits fieldAt place beyond bitsAt joined anyOf eventBits statusWord counts verdictOf agree isListed matches lengthOf judged fateOf arrival receive-begin.begunBy receive-begin.begin receive-buffer.descriptorAt receive-buffer.buffer frameStatus settles close lack receive-service.service statusTo arrivals.arrival arrivals.arrivalOf concluded receiveTurn turnOf
-too-few = record { fate = refl; may = ((refl, refl), ((refl, refl), ((refl, refl), tt))); ends = refl; bytes = refl }
+too-few = record { fate = refl; unit = refl; may = ((refl, refl), ((refl, refl), ((refl, refl), tt))); ends = refl; bytes = refl }
 
 -- so both are delivered as said
 pub is-said : (third : ℕ) (trace : List Event) (got : ℕ) → Seen third trace got → ArrivedDelivered sixty trace (step (call (arrive sixty 0)) (before third)) 0

@@ -1,7 +1,8 @@
 -- Demand 2 of frames. At an arrival: `Arrival.arrival-fate`, and a theorem for each class of frames. At every call while a frame is held:
 -- `Held.good-held`, `Held.bad-held`; as facts about memory at exit `Stands.good-exit`, `Stands.bad-exit`, and when their premise is met, `Clear`.
--- What the buffers get, put together: `Data.delivered`, `Data.arrived`, on bytes `Data.delivered-on-bytes`, `Data.arrived-on-bytes`; `DataWitness`.
--- Over whole traces: `Fates.conserved`, `Fates.exactly-one`, `Fates.all-fates`; a run: `Witness`.
+-- What the buffers get, put together: `Data.delivered`, `Data.arrived`, on bytes `Data.delivered-on-bytes`, `Data.arrived-on-bytes`;
+-- `DataWitness`, `DataBytesWitness`.
+-- Over whole traces: `Fates.conserved`, `Fates.exactly-one`, `Fates.all-fates`, `Fates.all-proper`; a run: `Witness`.
 -- Over calls on the areas that are lent: an arrival, `Arrived`; all, `OnBytes`; a list of them: `BytesWitness`.
 -- That calls that are not refused meet the premises: `Accepted`.
 pub mod Arrival
@@ -18,3 +19,4 @@ pub mod OnBytes
 pub mod Accepted
 pub mod Witness
 pub mod BytesWitness
+pub mod DataBytesWitness

@@ -13,14 +13,16 @@ use Rattle.device.specs.declared.Frame.{Frame}
 use Rattle.device.specs.declared.Ru.{Ru}
 use Rattle.device.specs.declared.Ru.the-variants as ru
 use Rattle.device.specs.declared.Storing.{Storing}
-use Rattle.chip.specs.Call.{turn}
+use Rattle.chip.specs.Arrival.{arrivalOf}
+use Rattle.chip.specs.Call.{arrive, turn, ran}
 use Rattle.chip.specs.World.{World}
-use Rattle.calls.specs.Calls.{Areas}
+use Rattle.calls.specs.Calls.{Areas, onBytes}
 use Rattle.progress.specs.Trace.{run}
-use Rattle.traces.specs.Areas.{AreBytes}
+use Rattle.traces.specs.Areas.{AreBytes, Shows}
 use Rattle.traces.specs.Bytes.{called, isRefused}
 use Rattle.traces.specs.Driven.{Lending, hostOf, eventsOf}
 use Rattle.traces.specs.Event.{Event, call, host, step}
+use Rattle.traces.specs.Told.{AllSaid}
 use Rattle.frames.specs.Arrival.{unitOf}
 use Rattle.frames.specs.Held.{loses, ends, isServed, dataTo, Meanwhile, GoodFate, BadFate}
 
@@ -114,3 +116,21 @@ pub record EndLent (b : Areas) (report : ℕ) (a : Areas) : Type 0 where
 -- what happens up to that turn, on states
 abbrev pub upTo : List Lending → Areas → List Event
 upTo ls b = eventsOf ls ++ (hostOf b ∷ [])
+
+-- each call on the way, refused or not, answers and leaves what the definitions say, so that the buffers' bytes are those that are said; and so does the
+-- turn that ends it, which is lent what shows the state
+pub record AsSaid (ls : List Lending) (b : Areas) (w : World) (report : ℕ) : Type 0 where
+  pub said : AllSaid ls w
+  pub shows : Shows b (run step (upTo ls b) w)
+  pub last : called (turn report) b ≡ onBytes (ran (turn report) (run step (upTo ls b) w))
+
+-- of the frame that is held at first
+pub record DeliveredOnBytes (f : Frame) (whole : List ℕ) (ls : List Lending) (b : Areas) (w : World) (report : ℕ) : Type 0 where
+  pub delivered : Delivered f whole (upTo ls b) w report
+  pub calls : AsSaid ls b w report
+
+-- of the bytes that a call on the areas a brings, w being the world before it
+pub record ArrivedOnBytes (bs : List ℕ) (v : ℕ) (a : Areas) (ls : List Lending) (b : Areas) (w : World) (report : ℕ) : Type 0 where
+  pub arrival : called (arrive bs v) a ≡ onBytes (arrivalOf w bs v)
+  pub delivered : ArrivedDelivered bs (upTo ls b) (step (call (arrive bs v)) w) report
+  pub calls : AsSaid ls b (step (call (arrive bs v)) w) report
