@@ -10,6 +10,7 @@ pub mod Answers
 pub mod Refusals
 pub mod Witness
 pub mod Carried
+pub mod Accepted
 pub mod Outside
 pub mod Turns
 pub mod Driven

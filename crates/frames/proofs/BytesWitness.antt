@@ -7,7 +7,6 @@ use Prim.Native.Nat.{ℕ}
 use native.Mathlib.Omega.{arith}
 use lib.Dec.{lit≤}
 use lib.ListN.{length, replicate, length-replicate}
-use borrow.Author.Tests.{eq-eqb}
 use Rattle.memory.specs.Address.{place, beyond}
 use Rattle.memory.specs.Memory.{byteAt, putByte, bytesAt, putBytes, value, digits, fieldAt}
 use Rattle.memory.specs.Size.{Allowed, sizeAllowed}
@@ -42,8 +41,8 @@ use Rattle.traces.specs.Event.{call}
 use Rattle.closure.specs.Carried.{Carried}
 use Rattle.closure.specs.Refusals.{FrameRight}
 use Rattle.closure.proofs.Command.{append-bytes, replicate-bytes}
-use Rattle.closure.proofs.Refusals.{table, AllRight, Unrefused, gives-none}
-use Rattle.closure.proofs.Carried.{carry, holds-length, lent-kept, areas-as-long}
+use Rattle.closure.proofs.Accepted.{Right, accepts}
+use Rattle.closure.proofs.Carried.{carry}
 use Rattle.frames.specs.Fates.{Deed, event, alter, opening, numbersOf, by-call, by-altering, Ended, still, advance, beginnings, endings}
 use Rattle.frames.specs.OnBytes.{altering, deedsBy, deedsOf, Given, AllGiven, AllKept, heldOf, endedOf, stillOf}
 use Rattle.frames.proofs.OnBytes.{not-altered, altered}
@@ -66,48 +65,6 @@ pub record Fine (c : Call) : Type 0 where
   pub bytes : FrameBytes c
   pub right : FrameRight c
 
--- areas of bytes, of the right lengths, with the record of a state
-pub record Fits (a : Areas) (d : Device) : Type 0 where
-  pub bytes : AreBytes a
-  pub holds : Holds (a .kept) d
-  pub size : Allowed (length (a .memory))
-  pub holding : length (a .holding) ≡ holdingSize
-  pub outgoing : length (a .outgoing) ≡ outgoingSize
-
-all-right : (c : Call) (a : Areas) (d : Device) → Fits a d → Fine c → AllRight c a
-all-right c a d r f =
-    record {
-      size = r .size;
-      kept = holds-length (a .kept) d (r .holds);
-      holding = r .holding;
-      outgoing = r .outgoing;
-      frame = f .right;
-      image = (d, r .holds);
-    }
-
-unrefused : (c : Call) (a : Areas) (d : Device) → Fits a d → Fine c → Unrefused c a
-unrefused reset a d r f = holds-length (a .kept) d (r .holds)
-unrefused attention a d r f = all-right attention a d r f
-unrefused (arrive x v) a d r f = all-right (arrive x v) a d r f
-unrefused (turn report) a d r f = all-right (turn report) a d r f
-
--- no call is refused there
-pub accepted-on : (c : Call) (a : Areas) (d : Device) → Fits a d → Fine c → refusedAt (lending c a) ≡ false
-accepted-on c a d r f =
-    ap not (eq-eqb (number (called c a .answer)) 0 (table c a (r .bytes .kept) 0 .1 (gives-none c a (unrefused c a d r f))))
-
--- and what it leaves is so again
-pub fits-again : (c : Call) (a : Areas) (d : Device) → Fits a d → Fine c → Fits (called c a .areas) (ran c (worldIn d a) .outcome .device)
-fits-again c a d r f =
-    let long = areas-as-long c a (f .bytes) (r .bytes) in
-    record {
-      bytes = lent-kept c a (f .bytes) (r .bytes);
-      holds = carry c a d (f .bytes) (r .bytes) (r .holds) (accepted-on c a d r f) .holds;
-      size = subst Allowed (sym (long .memory)) (r .size);
-      holding = long .holding ∙ r .holding;
-      outgoing = long .outgoing ∙ r .outgoing;
-    }
-
 module _ (d : Device) (h : Holds (imageOf d) d) where
   lent-bytes : AreBytes (lentOf d)
   lent-bytes =
@@ -123,7 +80,7 @@ module _ (d : Device) (h : Holds (imageOf d) d) where
       let e : length (zeros 8192) ≡ 8192 = length-replicate {A = ℕ} 8192 0 in
       record { least = omega arith; most = omega arith; exponent = 13; power = e }
 
-  fits : Fits (lentOf d) d
+  fits : Right (lentOf d) d
   fits =
       record {
         bytes = lent-bytes;
@@ -135,7 +92,7 @@ module _ (d : Device) (h : Holds (imageOf d) d) where
 
   -- no such call is refused, and each leaves the record of the next state
   accepted : (c : Call) → Fine c → refusedAt (lending c (lentOf d)) ≡ false
-  accepted c f = accepted-on c (lentOf d) d fits f
+  accepted c f = accepts c (lentOf d) d fits (f .right)
 
   carries : (c : Call) → Fine c → Carried c d (lentOf d)
   carries c f = carry c (lentOf d) d (f .bytes) lent-bytes h (accepted c f)

@@ -31,7 +31,8 @@ use Rattle.frames.specs.Held.{ends}
 use Rattle.frames.specs.Data.{Staying, dataOf, EndLent, DeliveredOnBytes, ArrivedOnBytes}
 use Rattle.frames.proofs.Data.{delivered-on-bytes, arrived-on-bytes}
 use Rattle.frames.proofs.DataWitness.{ready, upward, sixty, frame, descriptor, words, before, in-range, sized, Seen, enough, too-few}
-use Rattle.frames.proofs.BytesWitness.{Fine, Fits, accepted-on, fits-again, stray, stray-refused, fine-turn}
+use Rattle.frames.proofs.BytesWitness.{Fine, stray, stray-refused, fine-turn}
+use Rattle.closure.proofs.Accepted.{Right, accepts, right-again}
 
 -- ---- turns, each lent what stands, after a turn that is lent nothing and refused
 
@@ -112,7 +113,7 @@ ready-wide =
       listed-bytes = fresh-wide .listed-bytes;
     }
 
-lent-fits : (third : ℕ) → Fits (lent third) ready
+lent-fits : (third : ℕ) → Right (lent third) ready
 lent-fits third =
     record {
       bytes =
@@ -154,13 +155,13 @@ pub record Met (third k : ℕ) : Type 0 where
 
 pub met : (third k got : ℕ) → Seen third (replicate k (call (turn 0))) got → Met third k
 met third k got s =
-    let z : isRefused (called (arrive sixty 0) (lent third)) ≡ false = accepted-on (arrive sixty 0) (lent third) ready (lent-fits third) fine-sixty in
-    let r = fits-again (arrive sixty 0) (lent third) ready (lent-fits third) fine-sixty in
+    let z : isRefused (called (arrive sixty 0) (lent third)) ≡ false = accepts (arrive sixty 0) (lent third) ready (lent-fits third) (fine-sixty .right) in
+    let r = right-again (arrive sixty 0) (lent third) ready (lent-fits third) (fine-sixty .bytes) (fine-sixty .right) in
     let w : World = step (call (arrive sixty 0)) (before third) in
     let first : Shows (lent third) (before third) = record { memory = refl; holding = refl; outgoing = refl; kept = lent-fits third .holds } in
     let shows : Shows (standing third) w = carry-shown (arrive sixty 0) (lent third) (before third) (fine-sixty .bytes) (lent-fits third .bytes) first z .0 in
     let t = after-stray (turnsFrom k (standing third) 0) (standing third) (last third k) (replicate k (call (turn 0))) w
-    (turned k (standing third) w (r .bytes) shows (accepted-on (turn 0) (standing third) _ r fine-turn) (s .may))
+    (turned k (standing third) w (r .bytes) shows (accepts (turn 0) (standing third) _ r (fine-turn .right)) (s .may))
     in
     let end : EndLent (last third k) 0 (run left (calls third k) (standing third)) =
     record { bytes = t .bytes; kept = sym (ap (λ (x : Areas). x .kept) (t .leaves)); holding = sym (ap (λ (x : Areas). x .holding) (t .leaves)); accepted = t .accepted }

@@ -28,7 +28,8 @@ use Rattle.lists.proofs.Tests.{keptb, and-l, and-r}
 use Rattle.worked.proofs.Witness.{cold, before, starts, begun, three, is-started, frame, early, writes, late, middle, busy, trace, premises}
 use Rattle.lists.proofs.Bytes.{start-shows, areas-list-done}
 use Rattle.lists.proofs.Lift.{lendings, lifted, refused-anywhere}
-use Rattle.lists.proofs.Accepted.{Right, accepts, right-again, Rights, all-accepted}
+use Rattle.closure.proofs.Accepted.{Right, accepts, right-again}
+use Rattle.lists.proofs.Accepted.{Rights, all-accepted}
 
 -- ---- bytes, by a test
 
@@ -75,7 +76,8 @@ right-first =
           };
       holds = record { wide = s .wide; range = s .range; image = refl };
       size = smallest;
-      lengths = (refl, refl);
+      holding = refl;
+      outgoing = refl;
     }
 
 -- ---- the trace
