@@ -1,7 +1,6 @@
 -- Calls that are not refused: on areas of bytes of the right lengths with the record of a state; what they leave is so again. Assumes nothing.
 use mathlib.Core.Path.{_≡_, sym, ap, _∙_, subst}
 use mathlib.Core.Bool.{false, not}
-use mathlib.Core.List.{List}
 use lib.ListN.{length}
 use borrow.Author.Tests.{eq-eqb}
 use Rattle.memory.specs.Size.{Allowed}

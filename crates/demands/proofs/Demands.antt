@@ -1,7 +1,7 @@
 -- The three demands and the inspector's list, sentence by sentence. That every call ends and does nothing undefined is what the check of the code
 -- says of all functions; what each exported call promises is in crates/lentoquist/src/lib.rt. Assumes nothing.
 use mathlib.Core.Path.{_≡_}
-use mathlib.Core.Bool.{Bool, true, false}
+use mathlib.Core.Bool.{Bool, true, false, _||_}
 use mathlib.Core.List.{List, [], _∷_, _++_, map}
 use Prim.Native.Nat.{ℕ, _+_, _*_, _%_, _^_, _≤_, _<_}
 use lib.Dec.{T}
@@ -21,6 +21,7 @@ use Rattle.device.specs.declared.Fate.the-variants as fate
 use Rattle.device.specs.declared.Frame.{Frame}
 use Rattle.device.specs.declared.Refusal.{Refusal}
 use Rattle.device.specs.declared.Ru.the-variants as ru
+use Rattle.device.specs.declared.Storing.{Storing}
 use Rattle.device.specs.declared.Verdict.the-variants as verdict
 use Rattle.numerals.specs.Places.{field}
 use Rattle.packed.specs.Packed.{ruTagIn}
@@ -55,12 +56,13 @@ use Rattle.frames.specs.Held.{ends, heldFates, FatesOfHeld, GoodFate, BadFate}
 use Rattle.frames.specs.Fates.{Deed, alter, Scene, namesOf, opening, still, advance, beginnings, endings, times, timesFated, timesAltered, AllFates}
 use Rattle.frames.specs.Fates.{by-call, by-altering, isUnaltered, AllProper}
 use Rattle.frames.specs.OnBytes.{ArrivedOn, altering, deedsOf, AllGiven, AllGivenDrive, AllKept, AllSaidOf, worldAt, heldOf, endedOf, stillOf}
-use Rattle.frames.specs.Stands.{NoOverlap, pieces, GoodExit}
+use Rattle.frames.specs.Stands.{NoOverlap, pieces, GoodExit, BadExit, Clear, NextClear}
 use Rattle.frames.specs.Data.{Staying, dataOf, Delivered, ArrivedDelivered, EndLent, DeliveredOnBytes, ArrivedOnBytes}
 use Rattle.frames.proofs.Arrival as arrivals
 use Rattle.frames.proofs.Arrived as arrived
 use Rattle.frames.proofs.Held as holdings
 use Rattle.frames.proofs.Stands as exits
+use Rattle.frames.proofs.Clear as clear
 use Rattle.frames.proofs.Data as stored
 use Rattle.frames.proofs.Fates as fates
 use Rattle.frames.proofs.OnBytes as on-bytes
@@ -192,12 +194,30 @@ pub a-held-bad-frame : (c : Call) (w : World) (f : Frame) → inRange (w .device
     → BadFate f c w
 a-held-bad-frame = holdings.bad-held
 
--- stored and counted as facts about memory at exit, where no piece lies over another
+-- stored and counted as facts about memory at exit, where nothing that the turn writes lies over another piece of it or over a counter. Stored: the
+-- header bytes and the status word stand, and no counter moves. Counted, kept or not: RSCERRS is one more, and the other three are as at entry, so that
+-- it "adds one to exactly one counter"
 pub stored-and-counted-at-exit : (c : Call) (w : World) (f : Frame) → arrival.RightLengths w [] → inRange (w .device) ≡ true
     → heldIn (arrival.unitOf w) ≡ f ∷ [] → isGood f ≡ true
     → NoOverlap (length (w .memory)) (pieces (arrival.unitOf w) w)
     → GoodExit f c w
 stored-and-counted-at-exit = exits.good-exit
+
+-- a bad one, which its arrival has counted unless it is short: its header bytes and status word stand, and no counter moves
+pub a-bad-frame-at-exit : (c : Call) (w : World) (f : Frame) → arrival.RightLengths w [] → inRange (w .device) ≡ true
+    → heldIn (arrival.unitOf w) ≡ f ∷ [] → isGood f ≡ false
+    → NoOverlap (length (w .memory)) (pieces (arrival.unitOf w) w)
+    → BadExit f c w
+a-bad-frame-at-exit = exits.bad-exit
+
+-- nothing lies so wherever the frame descriptor's 22 bytes and the SCB's 16 have no byte in common, nor, unless No Resources follows, has +6 of the next
+-- frame descriptor with either
+pub no-piece-over-another : (w : World) (s : Storing) (free : Offset) (full : Bool) → Clear w s → (s .el || full ≡ false → NextClear w s)
+    → NoOverlap (length (w .memory)) (pieces (ru.Closing s free full) w)
+no-piece-over-another = clear.closing-clear
+
+pub no-piece-over-another-out-of-buffers : (w : World) (s : Storing) → Clear w s → NoOverlap (length (w .memory)) (pieces (ru.Lacking s) w)
+no-piece-over-another-out-of-buffers = clear.lacking-clear
 
 -- "is held to be stored": while it stays held, what its own turns write to the buffers is its data, byte for byte. With buffers enough all of it, out of
 -- buffers a proper beginning of it, by the turn that ends it; whatever else is called that neither loses it nor ends it, and whatever the host makes of

@@ -29,7 +29,7 @@ use Rattle.receive.specs.End.{frameStatus, settles, close}
 use Rattle.receive.specs.Service as receive-service
 use Rattle.attention.specs.Status.{statusTo}
 use Rattle.chip.specs.Arrival as arrivals
-use Rattle.chip.specs.Call.{Call, reset, attention, arrive, turn, ran}
+use Rattle.chip.specs.Call.{Call, arrive, turn, ran}
 use Rattle.chip.specs.Turn.{concluded, receiveTurn, turnOf}
 use Rattle.chip.specs.World.{World}
 use Rattle.calls.specs.Calls.{Areas, areasOf, Called, answerNumber, refusalOf, turnCall}

@@ -1,6 +1,6 @@
--- When no piece of an end turn lies over another: it is enough that the frame descriptor, the SCB and +6 of the next frame descriptor lie apart.
--- Assumes nothing.
-use mathlib.Core.Path.{_≡_, sym, ap, _∙_}
+-- When no piece of an end turn lies over another or over a counter: it is enough that the frame descriptor, the SCB and, if it is written, +6 of the
+-- next frame descriptor lie apart. Assumes nothing.
+use mathlib.Core.Path.{_≡_, refl, sym, ap, _∙_}
 use mathlib.Core.Bool.{Bool, true, false, _||_}
 use mathlib.Core.List.{List, [], _∷_, _++_}
 use Prim.Native.Nat.{ℕ, _+_, _%_, _≤_}
@@ -12,15 +12,16 @@ use Rattle.memory.specs.declared.Offset.{Offset}
 use Rattle.memory.specs.declared.RealAddress.{RealAddress}
 use Rattle.memory.proofs.Fields.{Apart}
 use Rattle.memory.proofs.Places.{place-up, place-down}
-use Rattle.scb.specs.Words.{scbStatusAt}
 use Rattle.device.specs.Limits.{header}
+use Rattle.device.specs.State.{isGood}
 use Rattle.device.specs.declared.Ru.the-variants as ru
 use Rattle.device.specs.declared.Storing.{Storing}
 use Rattle.receive.specs.Begin.{isBare}
 use Rattle.chip.specs.World.{World}
 use Rattle.frames.specs.Arrival.{inScb}
 use Rattle.frames.specs.Held.{inFrame}
-use Rattle.frames.specs.Stands.{Piece, piece, Away, NoOverlap, nextFirst, barePiece, onwardPiece, lackingPieces, pieces, badPieces, Clear, NextClear}
+use Rattle.frames.specs.Stands.{Piece, piece, Away, NoOverlap, nextFirst, barePiece, onwardPiece, storedPieces, countPiece, statusPiece}
+use Rattle.frames.specs.Stands.{counters, otherCounters, lackingPieces, pieces, Clear, NextClear}
 
 -- ---- parts of what lies apart
 
@@ -96,35 +97,56 @@ less : (n : ℕ) (xs : List Piece) (y : Piece) (ys : List Piece) → NoOverlap n
 less n [] y ys h = h .1
 less n (x ∷ xs) y ys h = (away-less n xs y ys x (h .0), less n xs y ys (h .1))
 
--- ---- the premises of the facts at exit: all pieces at once, then those that are written
+-- ---- the premises of the facts at exit: all pieces at once, then without +6 if there is data
 
 abbrev front : World → Storing → List Piece → List Piece
 front w s rest = piece (inFrame w s 8) header ∷ piece (inFrame w s 0) 2 ∷ rest
 
-bare-less : (b : Bool) (w : World) (s : Storing) (rest : List Piece) → NoOverlap (size w) (front w s (piece (inFrame w s 6) 2 ∷ rest))
-    → NoOverlap (size w) (front w s (barePiece b w s ++ rest))
-bare-less true w s rest p = p
-bare-less false w s rest p = less (size w) (front w s []) (piece (inFrame w s 6) 2) rest p
+bare-less : (b : Bool) (w : World) (s : Storing) (ps qs : List Piece) → NoOverlap (size w) (front w s (piece (inFrame w s 6) 2 ∷ (ps ++ qs)))
+    → NoOverlap (size w) (front w s (barePiece b w s ++ ps) ++ qs)
+bare-less true w s ps qs p = p
+bare-less false w s ps qs p = less (size w) (front w s []) (piece (inFrame w s 6) 2) (ps ++ qs) p
 
-onward-less : (x : Bool) (w : World) (s : Storing) (rest : List Piece)
-    → NoOverlap (size w) (front w s (piece (inFrame w s 6) 2 ∷ piece (nextFirst w s) 2 ∷ rest))
-    → NoOverlap (size w) (front w s (piece (inFrame w s 6) 2 ∷ (onwardPiece x w s ++ rest)))
-onward-less false w s rest p = p
-onward-less true w s rest p = less (size w) (front w s (piece (inFrame w s 6) 2 ∷ [])) (piece (nextFirst w s) 2) rest p
-
-lacking-all : (w : World) (s : Storing) → Clear w s
-    → NoOverlap (size w) (front w s (piece (inFrame w s 6) 2 ∷ piece (inScb w 12) 2 ∷ piece (inScb w scbStatusAt) 2 ∷ []))
-lacking-all w s c = (
-  (frame-up w s 0 2 8 14 c tt tt, (frame-up w s 6 2 8 14 c tt tt, (across w s 8 14 12 2 c tt tt, (across w s 8 14 0 2 c tt tt, tt)))),
+-- RSCERRS, the SCB status, the other counters
+counted-all : (w : World) (s : Storing) → Clear w s
+    → NoOverlap (size w) (front w s (piece (inFrame w s 6) 2 ∷ countPiece w ∷ statusPiece w ∷ otherCounters w))
+counted-all w s c = (
   (
-    (frame-down w s 6 2 0 2 c tt tt, (across w s 0 2 12 2 c tt tt, (across w s 0 2 0 2 c tt tt, tt))),
-    ((across w s 6 2 12 2 c tt tt, (across w s 6 2 0 2 c tt tt, tt)), ((scb-up w s 0 2 12 2 c tt tt, tt), (tt, tt))),
+    frame-up w s 0 2 8 14 c tt tt,
+    (
+      frame-up w s 6 2 8 14 c tt tt,
+      (across w s 8 14 12 2 c tt tt, (across w s 8 14 0 2 c tt tt, (across w s 8 14 8 4 c tt tt, (across w s 8 14 14 2 c tt tt, tt)))),
+    ),
+  ),
+  (
+    (
+      frame-down w s 6 2 0 2 c tt tt,
+      (across w s 0 2 12 2 c tt tt, (across w s 0 2 0 2 c tt tt, (across w s 0 2 8 4 c tt tt, (across w s 0 2 14 2 c tt tt, tt)))),
+    ),
+    (
+      (across w s 6 2 12 2 c tt tt, (across w s 6 2 0 2 c tt tt, (across w s 6 2 8 4 c tt tt, (across w s 6 2 14 2 c tt tt, tt)))),
+      (
+        (scb-up w s 0 2 12 2 c tt tt, (scb-up w s 8 4 12 2 c tt tt, (scb-down w s 14 2 12 2 c tt tt, tt))),
+        ((scb-down w s 8 4 0 2 c tt tt, (scb-down w s 14 2 0 2 c tt tt, tt)), ((scb-down w s 14 2 8 4 c tt tt, tt), (tt, tt))),
+      ),
+    ),
   ),
 )
 
-closing-all : (w : World) (s : Storing) → Clear w s → NextClear w s
-    → NoOverlap (size w) (front w s (piece (inFrame w s 6) 2 ∷ piece (nextFirst w s) 2 ∷ piece (inScb w scbStatusAt) 2 ∷ piece (inScb w 8) 8 ∷ []))
-closing-all w s c k = (
+-- the SCB status, the four counters
+saved-all : (w : World) (s : Storing) → Clear w s → NoOverlap (size w) (front w s (piece (inFrame w s 6) 2 ∷ statusPiece w ∷ counters w))
+saved-all w s c = (
+  (frame-up w s 0 2 8 14 c tt tt, (frame-up w s 6 2 8 14 c tt tt, (across w s 8 14 0 2 c tt tt, (across w s 8 14 8 8 c tt tt, tt)))),
+  (
+    (frame-down w s 6 2 0 2 c tt tt, (across w s 0 2 0 2 c tt tt, (across w s 0 2 8 8 c tt tt, tt))),
+    ((across w s 6 2 0 2 c tt tt, (across w s 6 2 8 8 c tt tt, tt)), ((scb-down w s 8 8 0 2 c tt tt, tt), (tt, tt))),
+  ),
+)
+
+-- the same and +6 of the next frame descriptor
+onward-all : (w : World) (s : Storing) → Clear w s → NextClear w s
+    → NoOverlap (size w) (front w s (piece (inFrame w s 6) 2 ∷ piece (nextFirst w s) 2 ∷ statusPiece w ∷ counters w))
+onward-all w s c k = (
   (
     frame-up w s 0 2 8 14 c tt tt,
     (frame-up w s 6 2 8 14 c tt tt, (next-frame w s 8 14 k tt, (across w s 8 14 0 2 c tt tt, (across w s 8 14 8 8 c tt tt, tt)))),
@@ -138,41 +160,23 @@ closing-all w s c k = (
   ),
 )
 
-lacking-counters : (w : World) (s : Storing) → Clear w s
-    → NoOverlap (size w) (front w s (piece (inFrame w s 6) 2 ∷ piece (inScb w scbStatusAt) 2 ∷ piece (inScb w 8) 8 ∷ []))
-lacking-counters w s c = (
-  (frame-up w s 0 2 8 14 c tt tt, (frame-up w s 6 2 8 14 c tt tt, (across w s 8 14 0 2 c tt tt, (across w s 8 14 8 8 c tt tt, tt)))),
-  (
-    (frame-down w s 6 2 0 2 c tt tt, (across w s 0 2 0 2 c tt tt, (across w s 0 2 8 8 c tt tt, tt))),
-    ((across w s 6 2 0 2 c tt tt, (across w s 6 2 8 8 c tt tt, tt)), ((scb-down w s 8 8 0 2 c tt tt, tt), (tt, tt))),
-  ),
-)
+-- all is stored
+closing-by : (x : Bool) (w : World) (s : Storing) → Clear w s → (x ≡ false → NextClear w s)
+    → NoOverlap (size w) (storedPieces w s (onwardPiece x w s ++ statusPiece w ∷ []) ++ counters w)
+closing-by true w s c k = bare-less (isBare (s .frame)) w s (statusPiece w ∷ []) (counters w) (saved-all w s c)
+closing-by false w s c k =
+    bare-less (isBare (s .frame)) w s (piece (nextFirst w s) 2 ∷ statusPiece w ∷ []) (counters w) (onward-all w s c (k refl))
 
--- a good frame
-lacking-by : (saved : Bool) (w : World) (s : Storing) → Clear w s → NoOverlap (size w) (lackingPieces saved w s)
-lacking-by true w s c = bare-less (isBare (s .frame)) w s (piece (inScb w 12) 2 ∷ piece (inScb w scbStatusAt) 2 ∷ []) (lacking-all w s c)
-lacking-by false w s c =
-    less (size w) (piece (inFrame w s 0) 2 ∷ []) (piece (inFrame w s 6) 2) (piece (inScb w 12) 2 ∷ piece (inScb w scbStatusAt) 2 ∷ [])
-    (lacking-all w s c .1)
+pub closing-clear : (w : World) (s : Storing) (free : Offset) (full : Bool) → Clear w s → (s .el || full ≡ false → NextClear w s)
+    → NoOverlap (size w) (pieces (ru.Closing s free full) w)
+closing-clear w s free full c k = closing-by (s .el || full) w s c k
+
+-- out of buffers
+lacking-by : (good saved : Bool) (w : World) (s : Storing) → Clear w s → NoOverlap (size w) (lackingPieces good saved w s)
+lacking-by true true w s c = bare-less (isBare (s .frame)) w s (countPiece w ∷ statusPiece w ∷ []) (otherCounters w) (counted-all w s c)
+lacking-by true false w s c =
+    less (size w) (piece (inFrame w s 0) 2 ∷ []) (piece (inFrame w s 6) 2) (countPiece w ∷ statusPiece w ∷ otherCounters w) (counted-all w s c .1)
+lacking-by false saved w s c = bare-less (isBare (s .frame)) w s (statusPiece w ∷ []) (counters w) (saved-all w s c)
 
 pub lacking-clear : (w : World) (s : Storing) → Clear w s → NoOverlap (size w) (pieces (ru.Lacking s) w)
-lacking-clear w s c = lacking-by (s .frame .savebad) w s c
-
-pub closing-clear : (w : World) (s : Storing) (free : Offset) (full : Bool) → Clear w s → NextClear w s
-    → NoOverlap (size w) (pieces (ru.Closing s free full) w)
-closing-clear w s free full c k =
-    let ps = front w s (piece (inFrame w s 6) 2 ∷ piece (nextFirst w s) 2 ∷ piece (inScb w scbStatusAt) 2 ∷ []) in
-    let all = less (size w) ps (piece (inScb w 8) 8) [] (closing-all w s c k) in
-    bare-less (isBare (s .frame)) w s (onwardPiece (s .el || full) w s ++ piece (inScb w scbStatusAt) 2 ∷ [])
-    (onward-less (s .el || full) w s (piece (inScb w scbStatusAt) 2 ∷ []) all)
-
--- a bad one
-pub lacking-clear-bad : (w : World) (s : Storing) → Clear w s → NoOverlap (size w) (badPieces (ru.Lacking s) w)
-lacking-clear-bad w s c =
-    bare-less (isBare (s .frame)) w s (piece (inScb w scbStatusAt) 2 ∷ piece (inScb w 8) 8 ∷ []) (lacking-counters w s c)
-
-pub closing-clear-bad : (w : World) (s : Storing) (free : Offset) (full : Bool) → Clear w s → NextClear w s
-    → NoOverlap (size w) (badPieces (ru.Closing s free full) w)
-closing-clear-bad w s free full c k =
-    bare-less (isBare (s .frame)) w s (onwardPiece (s .el || full) w s ++ piece (inScb w scbStatusAt) 2 ∷ piece (inScb w 8) 8 ∷ [])
-    (onward-less (s .el || full) w s (piece (inScb w scbStatusAt) 2 ∷ piece (inScb w 8) 8 ∷ []) (closing-all w s c k))
+lacking-clear w s c = lacking-by (isGood (s .frame)) (s .frame .savebad) w s c

@@ -1,4 +1,5 @@
--- Demand 2 of frames, corollary: where no piece lies over another, stored and counted are facts about memory at exit. Assumes nothing.
+-- Demand 2 of frames, corollary: where no piece lies over another, stored and counted are facts about memory at exit, and no counter moves but the one
+-- that is counted. Assumes nothing.
 use mathlib.Core.Path.{_≡_, refl, sym, ap, ap₂, _∙_, subst}
 use mathlib.Core.Bool.{Bool, true, false, _||_}
 use mathlib.Core.List.{List, [], _∷_, _++_}
@@ -28,7 +29,9 @@ use Rattle.chip.specs.World.{World, Ran}
 use Rattle.frames.specs.Arrival.{RightLengths, inScb, unitOf}
 use Rattle.frames.specs.Held.{inFrame, headerTo, markTo, bareTo, described, onwardBy, onward, statusAfter, Stored, Counted, GoodFate, BadFate}
 use Rattle.frames.specs.Held as held
-use Rattle.frames.specs.Stands.{Separate, StoredStands, CountedStands, CountersStand, Piece, piece, Away, NoOverlap, nextFirst, barePiece, onwardPiece, lackingPieces, pieces, GoodExit, badPieces, SavedStands, BadExit}
+use Rattle.frames.specs.Stands.{Separate, StoredStands, ScbStands, CountersStand, CountedStands, Piece, piece, Away, NoOverlap, nextFirst}
+use Rattle.frames.specs.Stands.{barePiece, onwardPiece, storedPieces, countPiece, statusPiece, counters, otherCounters, lackingPieces, pieces}
+use Rattle.frames.specs.Stands.{GoodExit, BadExit}
 use Rattle.frames.specs.Stands as exit
 use Rattle.frames.proofs.Held.{good-held, bad-held}
 
@@ -120,15 +123,16 @@ stored-stands lacking s rest w r x h l p =
           (stands [] (headerTo w s) (markTo w s status ∷ rest) (w .memory) (omega arith) (p .0));
       status = e;
       complete = ap (λ (k : ℕ). bit k 15) e ∙ x .complete;
+      lacks = ap (λ (k : ℕ). bit k 9) e ∙ x .lacks;
     }
 
 -- ---- counted
 
-pub counted-stands : (others : List Write) (w : World) (r : Ran) → Counted others w r → 2 ≤ length (w .memory)
+pub one-more : (others : List Write) (w : World) (r : Ran) → Counted others w r → 2 ≤ length (w .memory)
     → Separate (length (w .memory)) (others ++ (countTo (apply others (w .memory)) (inScb w 12) ∷ statusAfter w r))
-    → CountedStands w r
+    → wordAt (r .memory) (inScb w 12) ≡ (wordAt (w .memory) (inScb w 12) + 1) % 65536
 unfolding fieldAt
-counted-stands others w r x l p =
+one-more others w r x l p =
     let a = inScb w 12 in
     let v = (wordAt (apply others (w .memory)) a + 1) % 65536 in
     let d = length-digits 2 v in
@@ -141,12 +145,13 @@ counted-stands others w r x l p =
     (subst (AllApart n (statusAfter w r) a) d (after-apart n others (wordTo a v) (statusAfter w r) p))
     ∙ omega (arith, same)
 
--- ---- no counter moves where all that is written is elsewhere
+-- ---- bytes of the SCB stay where all that is written is elsewhere
 
-pub counters-stand : (writes : List Write) (w : World) (r : Ran) → r .memory ≡ apply writes (w .memory)
-    → AllApart (length (w .memory)) writes (inScb w 8) 8
-    → CountersStand w r
-counters-stand writes w r e p = ap (λ (m : List ℕ). bytesAt m (inScb w 8) 8) e ∙ apply-other writes (w .memory) (inScb w 8) 8 p
+scb-stands : (field size : ℕ) (writes : List Write) (w : World) (r : Ran) → r .memory ≡ apply writes (w .memory)
+    → AllApart (length (w .memory)) writes (inScb w field) size
+    → ScbStands field size w r
+scb-stands field size writes w r e p =
+    ap (λ (m : List ℕ). bytesAt m (inScb w field) size) e ∙ apply-other writes (w .memory) (inScb w field) size p
 
 -- ---- the pieces by their places
 
@@ -167,6 +172,29 @@ unfolding piecesOf pieceOf
 separate n [] h = tt
 separate n (x ∷ xs) h = (away-apart n xs (pieceOf x) (h .0), separate n xs (h .1))
 
+-- pieces, and others behind them: those in front, those behind
+away-front : (n : ℕ) (ps qs : List Piece) (p : Piece) → Away n (ps ++ qs) p → Away n ps p
+away-front n [] qs p h = tt
+away-front n (x ∷ ps) qs p h = (h .0, away-front n ps qs p (h .1))
+
+away-behind : (n : ℕ) (ps qs : List Piece) (p : Piece) → Away n (ps ++ qs) p → Away n qs p
+away-behind n [] qs p h = h
+away-behind n (x ∷ ps) qs p h = away-behind n ps qs p (h .1)
+
+front : (n : ℕ) (ps qs : List Piece) → NoOverlap n (ps ++ qs) → NoOverlap n ps
+front n [] qs h = tt
+front n (p ∷ ps) qs h = (away-front n ps qs p (h .0), front n ps qs (h .1))
+
+-- all writes lie apart from a piece that is among those behind them
+behind : (n : ℕ) (xs : List Write) (qs : List Piece) (c : Piece) → ((p : Piece) → Away n qs p → Apart n (c .from) (c .size) (p .from) (p .size))
+    → NoOverlap n (piecesOf xs ++ qs)
+    → AllApart n xs (c .from) (c .size)
+unfolding piecesOf pieceOf
+behind n [] qs c pick h = tt
+behind n (x ∷ xs) qs c pick h =
+    let k = pick (pieceOf x) (away-behind n (piecesOf xs) qs (pieceOf x) (h .0)) in
+    (apart-sym n (c .from) (c .size) (x .to) (length (x .bytes)) k, behind n xs qs c pick (h .1))
+
 word-piece : (a v : ℕ) → pieceOf (wordTo a v) ≡ piece a 2
 unfolding pieceOf
 word-piece a v = ap (piece a) (length-digits 2 v)
@@ -175,7 +203,7 @@ header-piece : (w : World) (s : Storing) → length (w .holding) ≡ holdingSize
 unfolding pieceOf
 header-piece w s h = ap (piece (inFrame w s 8)) (length-take-le header (w .holding) (omega arith))
 
-status-piece : (w : World) (r : Ran) → piecesOf (statusAfter w r) ≡ piece (inScb w scbStatusAt) 2 ∷ []
+status-piece : (w : World) (r : Ran) → piecesOf (statusAfter w r) ≡ statusPiece w ∷ []
 unfolding piecesOf
 status-piece w r = ap (λ (p : Piece). p ∷ []) (word-piece (inScb w scbStatusAt) _)
 
@@ -197,178 +225,142 @@ ending-pieces true w s status rest ps h e =
 ending-pieces false w s status rest ps h e = front2 (header-piece w s h) (word-piece (inFrame w s 0) status) e
 
 onward-pieces : (x : Bool) (w : World) (r : Ran) (s : Storing) (free : Offset)
-    → piecesOf (onwardBy x w s free ++ statusAfter w r)
-    ≡ onwardPiece x w s ++ piece (inScb w scbStatusAt) 2 ∷ []
+    → piecesOf (onwardBy x w s free ++ statusAfter w r) ≡ onwardPiece x w s ++ statusPiece w ∷ []
 unfolding piecesOf
 onward-pieces true w r s free = status-piece w r
 onward-pieces false w r s free = ap₂ (λ (a : Piece) (l : List Piece). a ∷ l) (word-piece (nextFirst w s) (free .0)) (status-piece w r)
 
-count-pieces : (w : World) (r : Ran) (v : ℕ)
-    → piecesOf (wordTo (inScb w 12) v ∷ statusAfter w r) ≡ piece (inScb w 12) 2 ∷ piece (inScb w scbStatusAt) 2 ∷ []
+count-pieces : (w : World) (r : Ran) (v : ℕ) → piecesOf (wordTo (inScb w 12) v ∷ statusAfter w r) ≡ countPiece w ∷ statusPiece w ∷ []
 unfolding piecesOf
 count-pieces w r v = ap₂ (λ (a : Piece) (l : List Piece). a ∷ l) (word-piece (inScb w 12) v) (status-piece w r)
 
 counted-pieces : (w : World) (r : Ran) (s : Storing) (v : ℕ)
-    → piecesOf (markTo w s 0x0000 ∷ wordTo (inScb w 12) v ∷ statusAfter w r) ≡ lackingPieces false w s
+    → piecesOf (markTo w s 0x0000 ∷ wordTo (inScb w 12) v ∷ statusAfter w r) ≡ piece (inFrame w s 0) 2 ∷ countPiece w ∷ statusPiece w ∷ []
 unfolding piecesOf
 counted-pieces w r s v = front2 (word-piece (inFrame w s 0) 0x0000) (word-piece (inScb w 12) v) (status-piece w r)
 
--- ---- so where no piece lies over another, neither does a write
+-- ---- so where no piece lies over another, what is written stands, and so do the counters that are not
 
-closing-separate : (n : ℕ) (w : World) (r : Ran) (s : Storing) (free : Offset) (full : Bool) → length (w .holding) ≡ holdingSize
+-- in the pieces of a list of writes, and others behind them
+placed : (n : ℕ) (ps qs us : List Piece) → qs ≡ ps → NoOverlap n (ps ++ us) → NoOverlap n (qs ++ us)
+placed n ps qs us e p = subst (λ (l : List Piece). NoOverlap n (l ++ us)) (sym e) p
+
+counters-stand : (writes : List Write) (w : World) (r : Ran) → r .memory ≡ apply writes (w .memory)
+    → NoOverlap (length (w .memory)) (piecesOf writes ++ counters w)
+    → CountersStand w r
+counters-stand writes w r e p = scb-stands 8 8 writes w r e (behind (length (w .memory)) writes (counters w) (piece (inScb w 8) 8) (λ q h. h .0) p)
+
+counted-stands : (others : List Write) (w : World) (r : Ran) → Counted others w r → 2 ≤ length (w .memory)
+    → NoOverlap (length (w .memory))
+    (piecesOf (others ++ (countTo (apply others (w .memory)) (inScb w 12) ∷ statusAfter w r)) ++ otherCounters w)
+    → CountedStands w r
+counted-stands others w r x l p =
+    let n = length (w .memory) in
+    let writes = others ++ (countTo (apply others (w .memory)) (inScb w 12) ∷ statusAfter w r) in
+    record {
+      more = one-more others w r x l (separate n writes (front n (piecesOf writes) (otherCounters w) p));
+      before = scb-stands 8 4 writes w r (x .memory) (behind n writes (otherCounters w) (piece (inScb w 8) 4) (λ q h. h .0) p);
+      behind = scb-stands 14 2 writes w r (x .memory) (behind n writes (otherCounters w) (piece (inScb w 14) 2) (λ q h. h .1 .0) p);
+    }
+
+-- what is stored, with any pieces behind
+stored-front : (lacking : Bool) (s : Storing) (rest : List Write) (us : List Piece) (w : World) (r : Ran) → length (w .holding) ≡ holdingSize
+    → header ≤ length (w .memory)
+    → NoOverlap (length (w .memory)) (piecesOf (headerTo w s ∷ markTo w s (frameStatus lacking (s .frame)) ∷ rest) ++ us)
+    → Stored lacking s rest w r
+    → StoredStands lacking s w r
+stored-front lacking s rest us w r h l p k =
+    let writes = headerTo w s ∷ markTo w s (frameStatus lacking (s .frame)) ∷ rest in
+    stored-stands lacking s rest w r k h l (separate (length (w .memory)) writes (front (length (w .memory)) (piecesOf writes) us p))
+
+closing-placed : (n : ℕ) (w : World) (r : Ran) (s : Storing) (free : Offset) (full : Bool) → length (w .holding) ≡ holdingSize
     → NoOverlap n (pieces (ru.Closing s free full) w)
-    → Separate n (headerTo w s ∷ markTo w s (frameStatus false (s .frame)) ∷ (bareTo w s ++ (onward w s free full ++ statusAfter w r)))
-closing-separate n w r s free full h p =
-    separate n (headerTo w s ∷ markTo w s (frameStatus false (s .frame)) ∷ (bareTo w s ++ (onward w s free full ++ statusAfter w r)))
-    (subst (NoOverlap n)
-    (sym
+    → NoOverlap n
+    (piecesOf (headerTo w s ∷ markTo w s (frameStatus false (s .frame)) ∷ (bareTo w s ++ (onward w s free full ++ statusAfter w r))) ++ counters w)
+closing-placed n w r s free full h p =
+    let x = s .el || full in
+    placed n (storedPieces w s (onwardPiece x w s ++ statusPiece w ∷ [])) _ (counters w)
     (ending-pieces (isBare (s .frame)) w s (frameStatus false (s .frame)) (onward w s free full ++ statusAfter w r)
-    (onwardPiece (s .el || full) w s ++ piece (inScb w scbStatusAt) 2 ∷ []) h (onward-pieces (s .el || full) w r s free)))
-    p)
+    (onwardPiece x w s ++ statusPiece w ∷ []) h (onward-pieces x w r s free))
+    p
 
-both-separate : (n : ℕ) (w : World) (r : Ran) (s : Storing) (v : ℕ) → length (w .holding) ≡ holdingSize → NoOverlap n (lackingPieces true w s)
-    → Separate n (headerTo w s ∷ markTo w s (frameStatus true (s .frame)) ∷ (bareTo w s ++ (wordTo (inScb w 12) v ∷ statusAfter w r)))
-both-separate n w r s v h p =
-    separate n (headerTo w s ∷ markTo w s (frameStatus true (s .frame)) ∷ (bareTo w s ++ (wordTo (inScb w 12) v ∷ statusAfter w r)))
-    (subst (NoOverlap n)
-    (sym
-    (ending-pieces (isBare (s .frame)) w s (frameStatus true (s .frame)) (wordTo (inScb w 12) v ∷ statusAfter w r)
-    (piece (inScb w 12) 2 ∷ piece (inScb w scbStatusAt) 2 ∷ []) h (count-pieces w r v)))
-    p)
+-- out of buffers: which pieces there are is as the frame is
+lacking-good : (n : ℕ) (w : World) (s : Storing) (f : Frame) (saved : Bool) → unitOf w ≡ ru.Lacking s → s .frame ≡ f → isGood f ≡ true → f .savebad ≡ saved
+    → NoOverlap n (pieces (unitOf w) w)
+    → NoOverlap n (lackingPieces true saved w s)
+lacking-good n w s f saved e q g b p =
+    subst (λ (d : Bool). NoOverlap n (lackingPieces true d w s)) (ap (λ (x : Frame). x .savebad) q ∙ b)
+    (subst (λ (d : Bool). NoOverlap n (lackingPieces d (s .frame .savebad) w s)) (ap isGood q ∙ g) (subst (λ (u : Ru). NoOverlap n (pieces u w)) e p))
 
-counted-separate : (n : ℕ) (w : World) (r : Ran) (s : Storing) (v : ℕ) → NoOverlap n (lackingPieces false w s)
-    → Separate n (markTo w s 0x0000 ∷ wordTo (inScb w 12) v ∷ statusAfter w r)
-counted-separate n w r s v p =
-    separate n (markTo w s 0x0000 ∷ wordTo (inScb w 12) v ∷ statusAfter w r) (subst (NoOverlap n) (sym (counted-pieces w r s v)) p)
+lacking-bad : (n : ℕ) (w : World) (s : Storing) (f : Frame) → unitOf w ≡ ru.Lacking s → s .frame ≡ f → isGood f ≡ false
+    → NoOverlap n (pieces (unitOf w) w)
+    → NoOverlap n (storedPieces w s (statusPiece w ∷ []) ++ counters w)
+lacking-bad n w s f e q g p =
+    subst (λ (d : Bool). NoOverlap n (lackingPieces d (s .frame .savebad) w s)) (ap isGood q ∙ g) (subst (λ (u : Ru). NoOverlap n (pieces u w)) e p)
 
 -- ---- the demand, as facts about memory at exit
 
-exit-of : (c : Call) (w : World) (f : Frame) → length (w .holding) ≡ holdingSize → header ≤ length (w .memory)
+exit-of : (c : Call) (w : World) (f : Frame) → length (w .holding) ≡ holdingSize → header ≤ length (w .memory) → isGood f ≡ true
     → NoOverlap (length (w .memory)) (pieces (unitOf w) w)
     → GoodFate f c w
     → GoodExit f c w
-exit-of c w f h l p (held.stays a b k m) = exit.stays a b k m
-exit-of c w f h l p (held.stored s free full n e q x k z) =
-    let o = subst (λ (u : Ru). NoOverlap (length (w .memory)) (pieces u w)) e p in
-    exit.stored s free full n e q x
-    (stored-stands false s _ w (ran c w) k h l (closing-separate (length (w .memory)) w (ran c w) s free full h o)) z
-exit-of c w f h l p (held.counted s n e q b x k z) =
-    let o = subst (λ (u : Ru). NoOverlap (length (w .memory)) (pieces u w)) e p in
-    let unsaved = ap (λ (g : Frame). g .savebad) q ∙ b in
-    exit.counted s n e q b x
-    (counted-stands (markTo w s 0x0000 ∷ []) w (ran c w) k (omega arith)
-    (counted-separate (length (w .memory)) w (ran c w) s _
-    (subst (λ (d : Bool). NoOverlap (length (w .memory)) (lackingPieces d w s)) unsaved o)))
-    z
-exit-of c w f h l p (held.both s n e q b x k j z) =
-    let o = subst (λ (u : Ru). NoOverlap (length (w .memory)) (pieces u w)) e p in
-    let saved = ap (λ (g : Frame). g .savebad) q ∙ b in
-    let v = (wordAt (apply (described true w s) (w .memory)) (inScb w 12) + 1) % 65536 in
-    let d =
-    both-separate (length (w .memory)) w (ran c w) s v h
-    (subst (λ (d : Bool). NoOverlap (length (w .memory)) (lackingPieces d w s)) saved o)
+exit-of c w f h l g p (held.stays a b k m) = exit.stays a b k m
+exit-of c w f h l g p (held.stored s free full n e q x k z) =
+    let o =
+    closing-placed (length (w .memory)) w (ran c w) s free full h (subst (λ (u : Ru). NoOverlap (length (w .memory)) (pieces u w)) e p)
     in
-    exit.both s n e q b x (stored-stands true s _ w (ran c w) k h l d) (counted-stands (described true w s) w (ran c w) j (omega arith) d) z
-exit-of c w f h l p (held.lost a k) = exit.lost a k
+    exit.stored s free full n e q x (stored-front false s _ (counters w) w (ran c w) h l o k) (counters-stand _ w (ran c w) (k .memory) o) z
+exit-of c w f h l g p (held.counted s n e q b x k z) =
+    let o =
+    placed (length (w .memory)) (piece (inFrame w s 0) 2 ∷ countPiece w ∷ statusPiece w ∷ []) _ (otherCounters w)
+    (counted-pieces w (ran c w) s _) (lacking-good (length (w .memory)) w s f false e q g b p)
+    in
+    exit.counted s n e q b x (counted-stands (markTo w s 0x0000 ∷ []) w (ran c w) k (omega arith) o) z
+exit-of c w f h l g p (held.both s n e q b x k j z) =
+    let v = (wordAt (apply (described true w s) (w .memory)) (inScb w 12) + 1) % 65536 in
+    let o =
+    placed (length (w .memory)) (storedPieces w s (countPiece w ∷ statusPiece w ∷ [])) _ (otherCounters w)
+    (ending-pieces (isBare (s .frame)) w s (frameStatus true (s .frame)) (wordTo (inScb w 12) v ∷ statusAfter w (ran c w))
+    (countPiece w ∷ statusPiece w ∷ []) h (count-pieces w (ran c w) v))
+    (lacking-good (length (w .memory)) w s f true e q g b p)
+    in
+    exit.both s n e q b x (stored-front true s _ (otherCounters w) w (ran c w) h l o k)
+    (counted-stands (described true w s) w (ran c w) j (omega arith) o) z
+exit-of c w f h l g p (held.lost a k) = exit.lost a k
 
--- every call that is not refused, while a good frame is held, where no piece that is written lies over another
+-- every call that is not refused, while a good frame is held, where no piece that is written lies over another or over a counter
 pub good-exit : (c : Call) (w : World) (f : Frame) → RightLengths w [] → inRange (w .device) ≡ true → heldIn (unitOf w) ≡ f ∷ [] → isGood f ≡ true
     → NoOverlap (length (w .memory)) (pieces (unitOf w) w)
     → GoodExit f c w
 good-exit c w f l r h g p =
     let least = allowed (length (w .memory)) (l .size) .least in
-    exit-of c w f (l .area) (omega arith) p (good-held c w f r h g)
+    exit-of c w f (l .area) (omega arith) g p (good-held c w f r h g)
 
 -- ---- a bad frame
 
--- what lies apart from every piece
-away-last : (n : ℕ) (ps : List Piece) (c p : Piece) → Away n (ps ++ c ∷ []) p → Apart n (c .from) (c .size) (p .from) (p .size)
-away-last n [] c p h = h .0
-away-last n (q ∷ qs) c p h = away-last n qs c p (h .1)
-
-to-last : (n : ℕ) (xs : List Write) (c : Piece) → NoOverlap n (piecesOf xs ++ c ∷ []) → AllApart n xs (c .from) (c .size)
-unfolding piecesOf pieceOf
-to-last n [] c h = tt
-to-last n (x ∷ xs) c h =
-    (apart-sym n (c .from) (c .size) (x .to) (length (x .bytes)) (away-last n (piecesOf xs) c (pieceOf x) (h .0)), to-last n xs c (h .1))
-
-away-but : (n : ℕ) (ps : List Piece) (c p : Piece) → Away n (ps ++ c ∷ []) p → Away n ps p
-away-but n [] c p h = tt
-away-but n (q ∷ qs) c p h = (h .0, away-but n qs c p (h .1))
-
-but-last : (n : ℕ) (ps : List Piece) (c : Piece) → NoOverlap n (ps ++ c ∷ []) → NoOverlap n ps
-but-last n [] c h = tt
-but-last n (p ∷ ps) c h = (away-but n ps c p (h .0), but-last n ps c (h .1))
-
-closing-counters : (b x : Bool) (w : World) (s : Storing)
-    → barePiece b w s ++ (onwardPiece x w s ++ piece (inScb w scbStatusAt) 2 ∷ piece (inScb w 8) 8 ∷ [])
-    ≡ barePiece b w s ++ (onwardPiece x w s ++ piece (inScb w scbStatusAt) 2 ∷ []) ++ piece (inScb w 8) 8 ∷ []
-closing-counters true true w s = refl
-closing-counters true false w s = refl
-closing-counters false true w s = refl
-closing-counters false false w s = refl
-
-lacking-counters : (b : Bool) (w : World) (s : Storing)
-    → barePiece b w s ++ (piece (inScb w scbStatusAt) 2 ∷ piece (inScb w 8) 8 ∷ [])
-    ≡ barePiece b w s ++ (piece (inScb w scbStatusAt) 2 ∷ []) ++ piece (inScb w 8) 8 ∷ []
-lacking-counters true w s = refl
-lacking-counters false w s = refl
-
--- the writes of an end turn, and the counters behind them
-with-counters : (n : ℕ) (w : World) (s : Storing) (status : ℕ) (rest : List Write) (ps : List Piece) → length (w .holding) ≡ holdingSize
-    → piecesOf rest ≡ ps
-    → NoOverlap n (piece (inFrame w s 8) header ∷ piece (inFrame w s 0) 2 ∷ (barePiece (isBare (s .frame)) w s ++ ps ++ piece (inScb w 8) 8 ∷ []))
-    → NoOverlap n (piecesOf (headerTo w s ∷ markTo w s status ∷ (bareTo w s ++ rest)) ++ piece (inScb w 8) 8 ∷ [])
-with-counters n w s status rest ps h e p =
-    subst (λ (l : List Piece). NoOverlap n (l ++ piece (inScb w 8) 8 ∷ [])) (sym (ending-pieces (isBare (s .frame)) w s status rest ps h e)) p
-
-saved-stands : (lacking : Bool) (s : Storing) (rest : List Write) (w : World) (r : Ran) → length (w .holding) ≡ holdingSize → header ≤ length (w .memory)
-    → NoOverlap (length (w .memory))
-    (piecesOf (headerTo w s ∷ markTo w s (frameStatus lacking (s .frame)) ∷ rest) ++ piece (inScb w 8) 8 ∷ [])
-    → Stored lacking s rest w r
-    → SavedStands lacking s w r
-saved-stands lacking s rest w r h l p k =
-    let writes = headerTo w s ∷ markTo w s (frameStatus lacking (s .frame)) ∷ rest in
-    let apart = separate (length (w .memory)) writes (but-last (length (w .memory)) (piecesOf writes) (piece (inScb w 8) 8) p) in
-    let stored = stored-stands lacking s rest w r k h l apart in
-    record {
-      stored = stored;
-      lacks = ap (λ (n : ℕ). bit n 9) (stored .status) ∙ k .lacks;
-      counters = counters-stand writes w r (k .memory) (to-last (length (w .memory)) writes (piece (inScb w 8) 8) p);
-    }
-
-abbrev Behind : World → Storing → List Piece → Type 0
-Behind w s ps = NoOverlap (length (w .memory)) (piece (inFrame w s 8) header ∷ piece (inFrame w s 0) 2 ∷ ps)
-
-bad-exit-of : (c : Call) (w : World) (f : Frame) → length (w .holding) ≡ holdingSize → header ≤ length (w .memory)
-    → NoOverlap (length (w .memory)) (badPieces (unitOf w) w)
+bad-exit-of : (c : Call) (w : World) (f : Frame) → length (w .holding) ≡ holdingSize → header ≤ length (w .memory) → isGood f ≡ false
+    → NoOverlap (length (w .memory)) (pieces (unitOf w) w)
     → BadFate f c w
     → BadExit f c w
-bad-exit-of c w f h l p (held.stays a b k m) = exit.stays a b k m
-bad-exit-of c w f h l p (held.stored s free full n e q x k z) =
-    let o = subst (λ (u : Ru). NoOverlap (length (w .memory)) (badPieces u w)) e p in
-    let y = s .el || full in
-    exit.stored s free full n e q x
-    (saved-stands false s _ w (ran c w) h l
-    (with-counters (length (w .memory)) w s (frameStatus false (s .frame)) (onward w s free full ++ statusAfter w (ran c w))
-    (onwardPiece y w s ++ piece (inScb w scbStatusAt) 2 ∷ []) h (onward-pieces y w (ran c w) s free)
-    (subst (Behind w s) (closing-counters (isBare (s .frame)) y w s) o))
-    k)
-    z
-bad-exit-of c w f h l p (held.lacking s n e q x k z) =
-    let o = subst (λ (u : Ru). NoOverlap (length (w .memory)) (badPieces u w)) e p in
-    exit.lacking s n e q x
-    (saved-stands true s _ w (ran c w) h l
-    (with-counters (length (w .memory)) w s (frameStatus true (s .frame)) (statusAfter w (ran c w)) (piece (inScb w scbStatusAt) 2 ∷ []) h
-    (status-piece w (ran c w)) (subst (Behind w s) (lacking-counters (isBare (s .frame)) w s) o))
-    k)
-    z
-bad-exit-of c w f h l p (held.lost a k) = exit.lost a k
+bad-exit-of c w f h l g p (held.stays a b k m) = exit.stays a b k m
+bad-exit-of c w f h l g p (held.stored s free full n e q x k z) =
+    let o =
+    closing-placed (length (w .memory)) w (ran c w) s free full h (subst (λ (u : Ru). NoOverlap (length (w .memory)) (pieces u w)) e p)
+    in
+    exit.stored s free full n e q x (stored-front false s _ (counters w) w (ran c w) h l o k) (counters-stand _ w (ran c w) (k .memory) o) z
+bad-exit-of c w f h l g p (held.lacking s n e q x k z) =
+    let o =
+    placed (length (w .memory)) (storedPieces w s (statusPiece w ∷ [])) _ (counters w)
+    (ending-pieces (isBare (s .frame)) w s (frameStatus true (s .frame)) (statusAfter w (ran c w)) (statusPiece w ∷ []) h (status-piece w (ran c w)))
+    (lacking-bad (length (w .memory)) w s f e q g p)
+    in
+    exit.lacking s n e q x (stored-front true s _ (counters w) w (ran c w) h l o k) (counters-stand _ w (ran c w) (k .memory) o) z
+bad-exit-of c w f h l g p (held.lost a k) = exit.lost a k
 
 -- every call that is not refused, while a bad frame is held, where no piece that is written lies over another or over a counter
 pub bad-exit : (c : Call) (w : World) (f : Frame) → RightLengths w [] → inRange (w .device) ≡ true → heldIn (unitOf w) ≡ f ∷ [] → isGood f ≡ false
-    → NoOverlap (length (w .memory)) (badPieces (unitOf w) w)
+    → NoOverlap (length (w .memory)) (pieces (unitOf w) w)
     → BadExit f c w
 bad-exit c w f l r h g p =
     let least = allowed (length (w .memory)) (l .size) .least in
-    bad-exit-of c w f (l .area) (omega arith) p (bad-held c w f r h g)
+    bad-exit-of c w f (l .area) (omega arith) g p (bad-held c w f r h g)

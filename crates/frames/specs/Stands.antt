@@ -1,4 +1,4 @@
--- Stored and counted as facts about memory at exit, where no piece that the turn writes lies over another. Assumes nothing.
+-- Stored and counted as facts about memory at exit, where no piece that the turn writes lies over another or over a counter. Assumes nothing.
 use mathlib.Core.Path.{_≡_}
 use mathlib.Core.Bool.{Bool, true, false, _||_}
 use mathlib.Core.List.{List, [], _∷_, _++_}
@@ -10,6 +10,7 @@ use Rattle.memory.specs.declared.Offset.{Offset}
 use Rattle.memory.proofs.Fields.{Apart, AllApart}
 use Rattle.scb.specs.Words.{bit, scbStatusAt}
 use Rattle.device.specs.Limits.{header}
+use Rattle.device.specs.State.{isGood}
 use Rattle.device.specs.declared.Fate.the-variants as fate
 use Rattle.device.specs.declared.Frame.{Frame}
 use Rattle.device.specs.declared.Ru.{Ru}
@@ -27,19 +28,26 @@ abbrev pub Separate : ℕ → List Write → Type 0
 Separate n [] = Unit {0}
 Separate n (x ∷ xs) = AllApart n xs (x .to) (length (x .bytes)) × Separate n xs
 
--- the header bytes and the status word, with C, stand in the frame descriptor
+-- the header bytes and the status word, with C, and with bit 9 exactly if out of buffers, stand in the frame descriptor
 pub record StoredStands (lacking : Bool) (s : Storing) (w : World) (r : Ran) : Type 0 where
   pub bytes : bytesAt (r .memory) (inFrame w s 8) header ≡ take header (w .holding)
   pub status : wordAt (r .memory) (inFrame w s 0) ≡ frameStatus lacking (s .frame)
   pub complete : bit (wordAt (r .memory) (inFrame w s 0)) 15 ≡ true
+  pub lacks : bit (wordAt (r .memory) (inFrame w s 0)) 9 ≡ lacking
 
--- RSCERRS is one more (modulo 65,536) than at entry
-abbrev pub CountedStands : World → Ran → Type 0
-CountedStands w r = wordAt (r .memory) (inScb w 12) ≡ (wordAt (w .memory) (inScb w 12) + 1) % 65536
+-- so many bytes of the SCB are as at entry
+abbrev pub ScbStands : (field size : ℕ) → World → Ran → Type 0
+ScbStands field size w r = bytesAt (r .memory) (inScb w field) size ≡ bytesAt (w .memory) (inScb w field) size
 
--- the four counters are as at entry: CRCERRS, ALNERRS, RSCERRS, OVRNERRS, in this order from +8 on
+-- no counter moves: CRCERRS, ALNERRS, RSCERRS, OVRNERRS, in this order from +8 on, are as at entry
 abbrev pub CountersStand : World → Ran → Type 0
-CountersStand w r = bytesAt (r .memory) (inScb w 8) 8 ≡ bytesAt (w .memory) (inScb w 8) 8
+CountersStand = ScbStands 8 8
+
+-- exactly one counter moves: RSCERRS is one more (modulo 65,536) than at entry; CRCERRS and ALNERRS before it and OVRNERRS behind it are as at entry
+pub record CountedStands (w : World) (r : Ran) : Type 0 where
+  pub more : wordAt (r .memory) (inScb w 12) ≡ (wordAt (w .memory) (inScb w 12) + 1) % 65536
+  pub before : ScbStands 8 4 w r
+  pub behind : ScbStands 14 2 w r
 
 -- ---- the pieces by their places
 
@@ -77,12 +85,26 @@ onwardPiece false w s = piece (nextFirst w s) 2 ∷ []
 abbrev pub storedPieces : World → Storing → List Piece → List Piece
 storedPieces w s rest = piece (inFrame w s 8) header ∷ piece (inFrame w s 0) 2 ∷ (barePiece (isBare (s .frame)) w s ++ rest)
 
--- out of buffers: kept, or status 0000h alone; either way RSCERRS, then the SCB status
-abbrev pub lackingPieces : (saved : Bool) → World → Storing → List Piece
-lackingPieces true w s = storedPieces w s (piece (inScb w 12) 2 ∷ piece (inScb w scbStatusAt) 2 ∷ [])
-lackingPieces false w s = piece (inFrame w s 0) 2 ∷ piece (inScb w 12) 2 ∷ piece (inScb w scbStatusAt) 2 ∷ []
+-- RSCERRS, the SCB status; the four counters, and those beside RSCERRS
+abbrev pub countPiece : World → Piece
+countPiece w = piece (inScb w 12) 2
 
--- all that an end turn of a good frame writes
+abbrev pub statusPiece : World → Piece
+statusPiece w = piece (inScb w scbStatusAt) 2
+
+abbrev pub counters : World → List Piece
+counters w = piece (inScb w 8) 8 ∷ []
+
+abbrev pub otherCounters : World → List Piece
+otherCounters w = piece (inScb w 8) 4 ∷ piece (inScb w 14) 2 ∷ []
+
+-- out of buffers, a good frame: kept, or status 0000h alone; either way RSCERRS, then the SCB status. A bad one is kept, and no counter is written
+abbrev pub lackingPieces : (good saved : Bool) → World → Storing → List Piece
+lackingPieces true true w s = storedPieces w s (countPiece w ∷ statusPiece w ∷ []) ++ otherCounters w
+lackingPieces true false w s = piece (inFrame w s 0) 2 ∷ countPiece w ∷ statusPiece w ∷ otherCounters w
+lackingPieces false saved w s = storedPieces w s (statusPiece w ∷ []) ++ counters w
+
+-- all that an end turn writes, and the counters that it does not
 abbrev pub pieces : Ru → World → List Piece
 pieces ru.Idle w = []
 pieces ru.NoResources w = []
@@ -90,15 +112,16 @@ pieces (ru.Suspended fd) w = []
 pieces (ru.Ready fd) w = []
 pieces (ru.Held fd f p) w = []
 pieces (ru.Filling s k) w = []
-pieces (ru.Closing s free full) w = storedPieces w s (onwardPiece (s .el || full) w s ++ piece (inScb w scbStatusAt) 2 ∷ [])
-pieces (ru.Lacking s) w = lackingPieces (s .frame .savebad) w s
+pieces (ru.Closing s free full) w = storedPieces w s (onwardPiece (s .el || full) w s ++ statusPiece w ∷ []) ++ counters w
+pieces (ru.Lacking s) w = lackingPieces (isGood (s .frame)) (s .frame .savebad) w s
 
--- what becomes of a good frame, as facts about memory at exit
+-- what becomes of a good frame, as facts about memory at exit: if stored no counter moves, if counted exactly one
 pub data GoodExit (f : Frame) (c : Call) (w : World) : Type 0 where
   stays : loses c w ≡ false → ends c w ≡ false → StaysHeld f w (ran c w) → Meanwhile f c w → GoodExit f c w
   stored : (s : Storing) (free : Offset) (full : Bool) → ends c w ≡ true → unitOf w ≡ ru.Closing s free full → s .frame ≡ f
       → ran c w .outcome .fates ≡ fate.Stored ∷ []
       → StoredStands false s w (ran c w)
+      → CountersStand w (ran c w)
       → AtEnd true (unitAfter w s full) w (ran c w)
       → GoodExit f c w
   counted : (s : Storing) → ends c w ≡ true → unitOf w ≡ ru.Lacking s → s .frame ≡ f → f .savebad ≡ false
@@ -114,37 +137,19 @@ pub data GoodExit (f : Frame) (c : Call) (w : World) : Type 0 where
       → GoodExit f c w
   lost : loses c w ≡ true → Lost w c → GoodExit f c w
 
--- ---- a bad frame: no counter moves
-
--- all that an end turn of a bad frame writes, and the four counters, which it does not
-abbrev pub badPieces : Ru → World → List Piece
-badPieces ru.Idle w = []
-badPieces ru.NoResources w = []
-badPieces (ru.Suspended fd) w = []
-badPieces (ru.Ready fd) w = []
-badPieces (ru.Held fd f p) w = []
-badPieces (ru.Filling s k) w = []
-badPieces (ru.Closing s free full) w =
-    storedPieces w s (onwardPiece (s .el || full) w s ++ piece (inScb w scbStatusAt) 2 ∷ piece (inScb w 8) 8 ∷ [])
-badPieces (ru.Lacking s) w = storedPieces w s (piece (inScb w scbStatusAt) 2 ∷ piece (inScb w 8) 8 ∷ [])
-
--- header bytes and status stand, bit 9 is set exactly if out of buffers, and the counters are as at entry
-pub record SavedStands (lacking : Bool) (s : Storing) (w : World) (r : Ran) : Type 0 where
-  pub stored : StoredStands lacking s w r
-  pub lacks : bit (wordAt (r .memory) (inFrame w s 0)) 9 ≡ lacking
-  pub counters : CountersStand w r
-
--- what becomes of a bad frame, as facts about memory at exit
+-- what becomes of a bad frame, as facts about memory at exit: at its end no counter moves
 pub data BadExit (f : Frame) (c : Call) (w : World) : Type 0 where
   stays : loses c w ≡ false → ends c w ≡ false → StaysHeld f w (ran c w) → Meanwhile f c w → BadExit f c w
   stored : (s : Storing) (free : Offset) (full : Bool) → ends c w ≡ true → unitOf w ≡ ru.Closing s free full → s .frame ≡ f
       → ran c w .outcome .fates ≡ fate.Stored ∷ []
-      → SavedStands false s w (ran c w)
+      → StoredStands false s w (ran c w)
+      → CountersStand w (ran c w)
       → AtEnd true (unitAfter w s full) w (ran c w)
       → BadExit f c w
   lacking : (s : Storing) → ends c w ≡ true → unitOf w ≡ ru.Lacking s → s .frame ≡ f
       → ran c w .outcome .fates ≡ fate.Stored ∷ []
-      → SavedStands true s w (ran c w)
+      → StoredStands true s w (ran c w)
+      → CountersStand w (ran c w)
       → AtEnd true ru.NoResources w (ran c w)
       → BadExit f c w
   lost : loses c w ≡ true → Lost w c → BadExit f c w
