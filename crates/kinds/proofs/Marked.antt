@@ -138,7 +138,7 @@ measuring-nothing-is-of-its-kind =
       each =
           λ s report d m h out o k l c b e.
           ap (λ (r : Called). wordAt (r .areas .memory) (place (d .units .base) o argumentAt)) (is-spoilt report d m h out k l always unmeasured refl)
-          ∙ word-back report d m h out k l o b (left report d m h out k l .areas .memory) (as-long report (lentOf d m h out) l) (c .begun) e;
+          ∙ word-back report d m h out k l o b (left report d m h out k l .areas .memory) (as-long report (lentOf d m h out) l) (c .block) e;
     }
 
 pub sending-nothing-is-of-its-kind : SendsNothing sendingNothing
@@ -164,7 +164,7 @@ marking-only-is-of-its-kind =
             each =
                 λ s report d m h out o k l c b e.
                 ap (λ (r : Called). wordAt (r .areas .memory) (place (d .units .base) o argumentAt)) (is-spoilt report d m h out k l always unacted refl)
-                ∙ word-back report d m h out k l o b (left report d m h out k l .areas .memory) (as-long report (lentOf d m h out) l) (c .begun) e;
+                ∙ word-back report d m h out k l o b (left report d m h out k l .areas .memory) (as-long report (lentOf d m h out) l) (c .block) e;
           };
       sending =
           record {
@@ -221,12 +221,12 @@ module _ (report : ℕ) (given : Given (turn report)) where
 pub setting-nothing-completes :
     Completes (withUnit settingUp) zeros (settingNothing .calls tt (turn 0) (lentOf (withUnit settingUp) zeros heldArea sentArea)) block
 setting-nothing-completes =
-    record { begun = refl; before = not-done; after = same-c 0 settingUp setting-wide setting-range turning always unset refl refl setting-done }
+    record { block = refl; before = not-done; after = same-c 0 settingUp setting-wide setting-range turning always unset refl refl setting-done }
 
 pub sending-nothing-completes :
     Completes (withUnit sending) zeros (sendingNothing .calls tt (turn 0) (lentOf (withUnit sending) zeros heldArea sentArea)) block
 sending-nothing-completes =
-    record { begun = refl; before = not-done; after = same-c 0 sending sending-wide sending-range turning always (λ a. unsent) refl refl sending-done }
+    record { block = refl; before = not-done; after = same-c 0 sending sending-wide sending-range turning always (λ a. unsent) refl refl sending-done }
 
 measured-c : (report : ℕ) (given : Given (turn report)) (at : ℕ → Bool) (spoil : Areas → Called → Called) → at report ≡ true
     → ((a : Areas) (r : Called) → spoil a r .areas .memory ≡ unmeasured a r .areas .memory)
@@ -237,7 +237,7 @@ measured-c report given at spoil e same done =
     let l = handed report measuring measuring-wide measuring-range given in
     let a = areas report measuring measuring-wide measuring-range given in
     record {
-      begun = refl;
+      block = refl;
       before = not-done;
       after =
           ap (λ (r : Called). cIn report measuring measuring-wide measuring-range given (r .areas .memory))
@@ -277,6 +277,7 @@ marking-at-seven-is-of-its-kind =
     (is-spoilt 7 d zeros heldArea sentArea k l atSeven unacted refl)
     ∙ word-back 7 d zeros heldArea sentArea k l block begun (called (turn 7) a .areas .memory) (as-long 7 a l) refl refl
     in
+    let completes = measured-c 7 sevenths atSeven unacted refl (λ a r. refl) seven-done in
     record {
       inner = tt;
       report = 7;
@@ -287,6 +288,6 @@ marking-at-seven-is-of-its-kind =
       block = block;
       acceptable = k;
       lent = l;
-      completes = measured-c 7 sevenths atSeven unacted refl (λ a r. refl) seven-done;
+      marks = record { block = refl; before = completes .before; after = completes .after };
       undone = wordUndone (λ e. omega (arith, e, same, not-measured, seven-measured));
     }

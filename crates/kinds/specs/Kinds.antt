@@ -70,11 +70,25 @@ InWork (cu.Sending b w) o = b .block ≡ o
 InWork (cu.Ending b n) o = b .block ≡ o
 InWork (cu.Failing b) o = b .block ≡ o
 
--- a turn sets C in the block of the begun command
-pub record Completes (d : Device) (m : List ℕ) (r : Called) (o : Offset) : Type 0 where
-  pub begun : InWork (d .units .cu) o
+-- a block that is at hand: of a begun command, or the one before which the unit waits or is suspended
+abbrev pub AtHand : Cu → Offset → Type 0
+AtHand cu.Idle o = ⊥
+AtHand (cu.Suspended next) o = next ≡ o
+AtHand (cu.Waiting next) o = next ≡ o
+AtHand (cu.Acting b a) o = b .block ≡ o
+AtHand (cu.Sending b w) o = b .block ≡ o
+AtHand (cu.Ending b n) o = b .block ≡ o
+AtHand (cu.Failing b) o = b .block ≡ o
+
+-- a turn sets C in a block that is said to be the command unit's
+pub record SetsC (Of : Cu → Offset → Type 0) (d : Device) (m : List ℕ) (r : Called) (o : Offset) : Type 0 where
+  pub block : Of (d .units .cu) o
   pub before : bit (wordAt m (place (d .units .base) o blockStatusAt)) 15 ≡ false
   pub after : bit (wordAt (r .areas .memory) (place (d .units .base) o blockStatusAt)) 15 ≡ true
+
+-- in that of the begun command
+abbrev pub Completes : Device → List ℕ → Called → Offset → Type 0
+Completes d m r o = SetsC InWork d m r o
 
 -- at every such turn, something is so
 abbrev pub AtCompletion : (chip : Chip) → (Device → List ℕ → Offset → Called → Type 0) → Type 0
@@ -105,8 +119,9 @@ pub record MarksOnly (chip : Chip) : Type 0 where
   pub tdr : MeasuresNothing chip
   pub sending : SendsNothing chip
 
--- some completions are enough: at one, what the action is to leave is not there, be it the settings, TDR's word, the sent length or the frame's bytes
--- in the outgoing area. What was left as it was, where the definitions change it, is of this sort
+-- one marking is enough, be the command begun or not: what the action is to leave is not there, be it the settings, TDR's word, the sent length or the
+-- frame's bytes in the outgoing area; or C is not due, as at a begin turn, at a buffer turn and at a turn of the receive unit. What was left as it was,
+-- where the definitions change it, is of this sort
 pub data Undone (d : Device) (o : Offset) (said : Ran) (r : Called) : Type 0 where
   settingsUndone : (setupIn (r .areas .kept) ≡ setupIn (imageOf (said .outcome .device)) → ⊥) → Undone d o said r
   wordUndone : (wordAt (r .areas .memory) (place (d .units .base) o argumentAt) ≡ wordAt (said .memory) (place (d .units .base) o argumentAt) → ⊥)
@@ -114,6 +129,7 @@ pub data Undone (d : Device) (o : Offset) (said : Ran) (r : Called) : Type 0 whe
   lengthUndone : (sentLength (r .answer) ≡ sentLength (answerNumber (said .outcome .answer)) → ⊥) → Undone d o said r
   frameUndone : (take (sentLength (answerNumber (said .outcome .answer))) (r .areas .outgoing)
       ≡ take (sentLength (answerNumber (said .outcome .answer))) (said .outgoing) → ⊥) → Undone d o said r
+  notDue : bit (wordAt (said .memory) (place (d .units .base) o blockStatusAt)) 15 ≡ false → Undone d o said r
 
 pub record MarksSome (chip : Chip) : Type 0 where
   pub inner : chip .Inner
@@ -125,7 +141,7 @@ pub record MarksSome (chip : Chip) : Type 0 where
   pub block : Offset
   pub acceptable : Acceptable (turn report) device memory holding outgoing
   pub lent : Handed (turn report) (lentOf device memory holding outgoing)
-  pub completes : Completes device memory (chip .calls inner (turn report) (lentOf device memory holding outgoing)) block
+  pub marks : SetsC AtHand device memory (chip .calls inner (turn report) (lentOf device memory holding outgoing)) block
   pub undone : Undone device block (ran (turn report) (worldOf device memory holding outgoing))
       (chip .calls inner (turn report) (lentOf device memory holding outgoing))
 
@@ -195,7 +211,7 @@ pub record InventsInTrace (chip : Chip) : Type 0 where
   pub invented : InventedAlong scb (chipRun chip inner acts (shown world)) (chipAnswers chip inner acts (shown world))
       (run step (eventsIn acts) world) (answersOf (eventsIn acts) world)
 
--- ---- the list: a chip of any of these kinds; of one that marks commands complete, a third is enough, and so is one completion
+-- ---- the list: a chip of any of these kinds; of one that marks commands complete, a third is enough, and so is one marking
 
 pub data Wrong (chip : Chip) : Type 0 where
   refuses : RefusesAll chip → Wrong chip
