@@ -145,12 +145,12 @@ pub record MarksSome (chip : Chip) : Type 0 where
   pub undone : Undone device block (ran (turn report) (worldOf device memory holding outgoing))
       (chip .calls inner (turn report) (lentOf device memory holding outgoing))
 
--- ---- one that serves the first command only: whatever the turns after the start, the status of every block after the first stays as it was
+-- ---- one that serves the first command only: whatever the turns after the start, no block after the first gets C. It may begin the second
 pub record FirstOnly (chip : Chip) : Type 0 where
   pub each : (s : chip .Inner) (d : Device) (m h out : List ℕ) (b : Offset) (bs : List Offset) (reports : List ℕ)
       → Acceptable attention d m h out → Handed attention (lentOf d m h out) → Starting d m b bs → AllReports reports
-      → All (λ o. wordAt (started chip s (turnsOf reports) (lentOf d m h out) .memory) (place (d .units .base) o blockStatusAt)
-      ≡ wordAt m (place (d .units .base) o blockStatusAt)) bs
+      → All (λ o. bit (wordAt (started chip s (turnsOf reports) (lentOf d m h out) .memory) (place (d .units .base) o blockStatusAt)) 15 ≡ true
+      → bit (wordAt m (place (d .units .base) o blockStatusAt)) 15 ≡ true) bs
 
 -- ---- one that invents a counter or edge: at some call that is not to be refused
 
