@@ -89,7 +89,7 @@ use Rattle.kinds.specs.Demands.{Demand1, Demand2}
 use Rattle.kinds.specs.Lists.{turnsOf}
 use Rattle.kinds.specs.Third.{AsSaid, ListRun, ResumedRun, HeldRun, Demand3By, Demand3}
 use Rattle.kinds.specs.Kinds.{Wrong, LacksNamed, RefusesAll, OneAnswer, MemoryAsLent, SetsNothing, MeasuresNothing, SendsNothing, MarksOnly, MarksSome}
-use Rattle.kinds.specs.Kinds.{FirstOnly, Invents, InventsAlong, InventsInTrace}
+use Rattle.kinds.specs.Kinds.{FirstOnly, Invents, InventsAlong, InventsWhileHeld, InventsInTrace}
 use Rattle.kinds.specs.Spoiled.{AsOursBut, SpoiltTurn, always, atSeven, AfterFirst, ServesFirst}
 use Rattle.kinds.specs.Spoiled.{theLength, theEdge, OfAnswer, OfMemory, OfSetup, OfWord, OfAction, OfOverruns}
 use Rattle.kinds.specs.Spoiled.{asLent, withAnswer, withMemory, unset, unmeasured, unsent, unacted, turnedOver, countedOn}
@@ -498,15 +498,17 @@ a-chip-that-serves-the-first-command-only = (
   first.serving-first-is-no-worse,
 )
 
--- that invents an edge, at a call, along a trace and amid a list
+-- that invents an edge, at a call, along a trace, amid a list and while a frame is held
 pub a-chip-that-invents-an-edge : Invents inventing
     × InventsInTrace inventing
     × InventsAlong inventing
+    × InventsWhileHeld inventing
     × AsOursBut inventing (λ s c a p. SpoiltTurn atSeven c a × (p ≡ theEdge)) (λ a. turnedOver)
 a-chip-that-invents-an-edge = (
   invented.inventing-is-of-its-kind,
   invented.inventing-in-trace,
   invented.inventing-along,
+  invented.inventing-while-held,
   spoiled.inventing-is-no-worse,
 )
 
@@ -514,11 +516,13 @@ a-chip-that-invents-an-edge = (
 pub a-chip-that-invents-a-counter : Invents counting
     × InventsInTrace counting
     × InventsAlong counting
+    × InventsWhileHeld counting
     × AsOursBut counting (λ s c a p. SpoiltTurn atSeven c a × OfOverruns a p) countedOn
 a-chip-that-invents-a-counter = (
   invented.counting-is-of-its-kind,
   invented.counting-in-trace,
   invented.counting-along,
+  invented.counting-while-held,
   spoiled.counting-is-no-worse,
 )
 

@@ -143,7 +143,7 @@ begun = step (call attention) waits
 abbrev pub pair : List ℕ
 pair = 0x40 ∷ 0x50 ∷ []
 
-abbrev turns-of : List ℕ → List Event
+abbrev pub turns-of : List ℕ → List Event
 turns-of rs = eventsIn (turnsOf rs)
 
 -- after four turns both are done, whatever the first line report
@@ -167,11 +167,11 @@ right-two =
       range = idle-range;
     }
 
-acceptable-turns : (rs : List ℕ) → AllReports rs → AllAcceptable (turns-of rs)
+pub acceptable-turns : (rs : List ℕ) → AllReports rs → AllAcceptable (turns-of rs)
 acceptable-turns [] p = tt
 acceptable-turns (r ∷ rs) p = (record { frame = bytes-nil; numbers = p .0 }, omega arith, acceptable-turns rs (p .1))
 
-refused-turns : (rs : List ℕ) → AllRefused (turnsOf rs)
+pub refused-turns : (rs : List ℕ) → AllRefused (turnsOf rs)
 refused-turns [] = tt
 refused-turns (r ∷ rs) = refused-turns rs
 

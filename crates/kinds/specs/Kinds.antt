@@ -17,6 +17,7 @@ use Rattle.device.specs.declared.Counter.{Counter}
 use Rattle.device.specs.declared.Cu.{Cu}
 use Rattle.device.specs.declared.Cu.the-variants as cu
 use Rattle.device.specs.declared.Device.{Device}
+use Rattle.device.specs.declared.Frame.{Frame}
 use Rattle.device.specs.declared.Units.{Units}
 use Rattle.numerals.specs.Places.{bytesFrom}
 use Rattle.packed.specs.Record.{setupAt}
@@ -36,7 +37,7 @@ use Rattle.kinds.specs.Chips.{Chip, Handed, Act, does, eventsIn, chipRun
 use Rattle.kinds.specs.Closed.{Right}
 use Rattle.kinds.specs.Demands.{Demand1, Acceptable, lentOf, Demand2}
 use Rattle.kinds.specs.Lists.{All, Starting, turnsOf, AllReports, started}
-use Rattle.kinds.specs.Third.{AllAcceptable, ListRun, Demand3}
+use Rattle.kinds.specs.Third.{AllAcceptable, ListRun, HeldRun, Demand3}
 
 -- at every call that is not to be refused, something is so of what is lent and what is left; a chip of which it is so at every call is of the
 -- kind too
@@ -198,6 +199,17 @@ pub record InventsAlong (chip : Chip) : Type 0 where
       (chipAnswers chip inner (does (call attention) ∷ acts) (shown world))
       (run step (call attention ∷ eventsIn acts) world) (answersOf (call attention ∷ eventsIn acts) world)
 
+-- the same while a frame is held, as demand 3 has it, amid the same
+pub record InventsWhileHeld (chip : Chip) : Type 0 where
+  pub inner : chip .Inner
+  pub frame : Frame
+  pub acts : List Act
+  pub more : List Act
+  pub world : World
+  pub comes : HeldRun 132 frame (acts ++ more) world
+  pub invented : InventedAlong (world .device) (chipRun chip inner acts (shown world)) (chipAnswers chip inner acts (shown world))
+      (run step (eventsIn acts) world) (answersOf (eventsIn acts) world)
+
 -- the same along any trace of calls and host writes, from any state in range, whatever it does at calls that are to be refused: after it a counter of
 -- the SCB, where that was or where it is, or along it an edge, is not what the definitions leave
 pub record InventsInTrace (chip : Chip) : Type 0 where
@@ -225,6 +237,7 @@ pub data Wrong (chip : Chip) : Type 0 where
   firstOnly : FirstOnly chip → Wrong chip
   inventing : Invents chip → Wrong chip
   inventingAlong : InventsAlong chip → Wrong chip
+  inventingWhileHeld : InventsWhileHeld chip → Wrong chip
   inventingInTrace : InventsInTrace chip → Wrong chip
 
 -- the demand that document 01 names with each
@@ -240,4 +253,5 @@ LacksNamed chip (markingSome k) = Demand2 chip → ⊥
 LacksNamed chip (firstOnly k) = (Demand2 chip → ⊥) × (Demand3 chip → ⊥)
 LacksNamed chip (inventing k) = Demand2 chip → ⊥
 LacksNamed chip (inventingAlong k) = (Demand2 chip → ⊥) × (Demand3 chip → ⊥)
+LacksNamed chip (inventingWhileHeld k) = (Demand2 chip → ⊥) × (Demand3 chip → ⊥)
 LacksNamed chip (inventingInTrace k) = Demand2 chip → ⊥
