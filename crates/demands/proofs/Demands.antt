@@ -88,6 +88,7 @@ use Rattle.kinds.specs.Chips.{Chip, Meets, Says, Permits, Act, does, eventsIn}
 use Rattle.kinds.specs.Demands.{Demand1, Demand2}
 use Rattle.kinds.specs.Lists.{turnsOf}
 use Rattle.kinds.specs.Third.{AsSaid, ListRun, ResumedRun, HeldRun, Demand3By, Demand3}
+use Rattle.kinds.specs.Frames.{Demand2Frames}
 use Rattle.kinds.specs.Kinds.{Wrong, LacksNamed, RefusesAll, OneAnswer, MemoryAsLent, SetsNothing, MeasuresNothing, SendsNothing, MarksOnly, MarksSome}
 use Rattle.kinds.specs.Kinds.{FirstOnly, Invents, InventsAlong, InventsWhileHeld, InventsInTrace}
 use Rattle.kinds.specs.Spoiled.{AsOursBut, SpoiltTurn, always, atSeven, AfterFirst, ServesFirst}
@@ -99,6 +100,7 @@ use Rattle.kinds.proofs.Equal as equal
 use Rattle.kinds.proofs.Ours as demanded
 use Rattle.kinds.proofs.Inspected as inspected
 use Rattle.kinds.proofs.Closing as closing
+use Rattle.kinds.proofs.Frames as chip-frames
 use Rattle.kinds.proofs.Two.{pair, waits}
 use Rattle.kinds.proofs.Spoiled as spoiled
 use Rattle.kinds.proofs.Marked as marked
@@ -160,6 +162,11 @@ a-record-that-a-run-left-is-accepted = run-of-turns.run-again
 -- "After each call the memory, device record, outgoing frame, interrupt and answer are what document 01 says": of every chip that meets the promises
 pub as-document-01-says : (chip : Chip) → Meets chip → Demand2 chip
 as-document-01-says = demanded.has-demand2
+
+-- and of every such chip the sentences on frames, which follow: in its own run, whatever comes, from any state in range on, what becomes of every
+-- arrival, every held frame and every stored byte is what is said below
+pub as-document-01-says-of-frames : (chip : Chip) → Meets chip → Demand2Frames chip
+as-document-01-says-of-frames = chip-frames.has-demand2-frames
 
 -- "A good frame addressed to us, arriving while the receive unit is Ready, is held to be stored"
 pub a-good-frame-is-held : (w : World) (f : List ℕ) (v : ℕ) (fd : Offset) → arrival.RightLengths w f → arrival.Ours w f → arrival.Good w f v
@@ -447,12 +454,13 @@ one-outcome-of-a-run a report budget = equal.one-said (runCall a report budget)
 pub wrong-chips-are-excluded : (chip : Chip) → Wrong chip → Meets chip → ⊥
 wrong-chips-are-excluded = closing.none-meets
 
--- each lacks the demand that is named with it, and every chip that meets the promises has all three
+-- each lacks the demand that is named with it, and every chip that meets the promises has all three, the second with its sentences on frames
 pub each-lacks-its-demand : (chip : Chip) (w : Wrong chip) → LacksNamed chip w
 each-lacks-its-demand = inspected.lacks-named closing.closing
 
-pub promises-are-enough : (chip : Chip) → Meets chip → Demand1 chip × Demand2 chip × Demand3 chip
-promises-are-enough chip p = (demanded.has-demand1 chip p, demanded.has-demand2 chip p, closing.meets-demand3 chip p)
+pub promises-are-enough : (chip : Chip) → Meets chip → Demand1 chip × Demand2 chip × Demand2Frames chip × Demand3 chip
+promises-are-enough chip p =
+    (demanded.has-demand1 chip p, demanded.has-demand2 chip p, chip-frames.has-demand2-frames chip p, closing.meets-demand3 chip p)
 
 -- and each kind has a chip that is of it and no worse: ours, spoilt in one thing; every other piece of what it answers and leaves, at every call, is as
 -- ours, and what is spoilt is as said. One that refuses everything: with 1 what is not to be refused; and it changes nothing

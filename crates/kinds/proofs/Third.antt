@@ -50,7 +50,7 @@ right-handed c w g r =
     }
 
 -- what the host leaves is right, with a device that is
-hosted : (w : World) (m h out : List ℕ) → Hosted m h out → Right w → Right (worldOf (w .device) m h out)
+pub hosted : (w : World) (m h out : List ℕ) → Hosted m h out → Right w → Right (worldOf (w .device) m h out)
 hosted w m h out k r = record { areas = k; wide = r .wide; range = r .range }
 
 module _ (closed : Closed) where
@@ -113,7 +113,7 @@ module _ (chip : Chip) (p : Meets chip) where
   all-said (asks c a ∷ acts) s w g k = (as-called chip p s c a (g .0), all-said acts (chip .next s c a) w (g .2) k)
 
 module _ (closed : Closed) (chip : Chip) (p : Meets chip) where
-  as-said : (acts : List Act) (s : chip .Inner) (w : World) → AllAcceptable (eventsIn acts) → AllRefused acts → Right w → AsSaid chip s acts w
+  pub as-said : (acts : List Act) (s : chip .Inner) (w : World) → AllAcceptable (eventsIn acts) → AllRefused acts → Right w → AsSaid chip s acts w
   as-said acts s w f g r = all-said chip p acts s w g (along closed chip (has-demand2 chip p) acts s w f r)
 
   -- a list, however the attention sets it off
