@@ -92,10 +92,10 @@ use Rattle.kinds.specs.Frames.{Demand2Frames}
 use Rattle.kinds.specs.Kinds.{Wrong, LacksNamed, RefusesAll, OneAnswer, MemoryAsLent, SetsNothing, MeasuresNothing, SendsNothing, MarksOnly, MarksSome}
 use Rattle.kinds.specs.Kinds.{FirstOnly, Invents, InventsAlong, InventsWhileHeld, InventsInTrace}
 use Rattle.kinds.specs.Spoiled.{AsOursBut, SpoiltTurn, always, atSeven, AfterFirst, ServesFirst}
-use Rattle.kinds.specs.Spoiled.{theLength, theEdge, OfAnswer, OfMemory, OfSetup, OfWord, OfAction, OfOverruns}
-use Rattle.kinds.specs.Spoiled.{asLent, withAnswer, withMemory, unset, unmeasured, unsent, unacted, turnedOver, countedOn}
+use Rattle.kinds.specs.Spoiled.{theLength, theEdge, OfAnswer, OfMemory, OfSetup, OfWord, OfAction, OfMark, OfOverruns}
+use Rattle.kinds.specs.Spoiled.{asLent, withAnswer, withMemory, unset, unmeasured, unsent, unacted, markedAtOnce, turnedOver, countedOn}
 use Rattle.kinds.specs.Spoiled.{refusing, answering, leaving, markingOnly, markingAtSeven, settingNothing, measuringNothing, sendingNothing}
-use Rattle.kinds.specs.Spoiled.{servingFirst, inventing, counting}
+use Rattle.kinds.specs.Spoiled.{markingAtOnce, servingFirst, inventing, counting}
 use Rattle.kinds.proofs.Equal as equal
 use Rattle.kinds.proofs.Ours as demanded
 use Rattle.kinds.proofs.Inspected as inspected
@@ -483,6 +483,10 @@ a-chip-that-marks-only = (marked.marking-only-is-of-its-kind, spoiled.marking-on
 
 pub a-chip-that-marks-some : MarksSome markingAtSeven × AsOursBut markingAtSeven (λ s c a p. SpoiltTurn atSeven c a × OfAction a p) unacted
 a-chip-that-marks-some = (marked.marking-at-seven-is-of-its-kind, spoiled.marking-at-seven-is-no-worse)
+
+-- that marks a command complete before it acts, at some turns while the unit waits before it
+pub a-chip-that-marks-at-once : MarksSome markingAtOnce × AsOursBut markingAtOnce (λ s c a p. SpoiltTurn atSeven c a × OfMark a p) markedAtOnce
+a-chip-that-marks-at-once = (marked.marking-at-once-is-of-its-kind, spoiled.marking-at-once-is-no-worse)
 
 -- a third of it: that sets nothing, that measures nothing, that sends nothing
 pub a-chip-that-sets-nothing : SetsNothing settingNothing × AsOursBut settingNothing (λ s c a p. SpoiltTurn always c a × OfSetup p) unset
