@@ -90,17 +90,19 @@ use Rattle.kinds.specs.Chips.{Chip, Meets, Says, Permits, Act, does, eventsIn}
 use Rattle.kinds.specs.Demands.{Demand1, Demand2}
 use Rattle.kinds.specs.Lists.{turnsOf}
 use Rattle.kinds.specs.Third.{AsSaid, ListRun, ResumedRun, HeldRun, Demand3By, Demand3}
+use Rattle.kinds.specs.Frames.{Demand2Frames}
 use Rattle.kinds.specs.Kinds.{Wrong, LacksNamed, RefusesAll, OneAnswer, MemoryAsLent, SetsNothing, MeasuresNothing, SendsNothing, MarksOnly, MarksSome}
-use Rattle.kinds.specs.Kinds.{FirstOnly, Invents, InventsAlong, InventsInTrace}
+use Rattle.kinds.specs.Kinds.{FirstOnly, Invents, InventsAlong, InventsWhileHeld, InventsInTrace}
 use Rattle.kinds.specs.Spoiled.{AsOursBut, SpoiltTurn, always, atSeven, AfterFirst, ServesFirst}
-use Rattle.kinds.specs.Spoiled.{theLength, theEdge, OfAnswer, OfMemory, OfSetup, OfWord, OfAction, OfOverruns}
-use Rattle.kinds.specs.Spoiled.{asLent, withAnswer, withMemory, unset, unmeasured, unsent, unacted, turnedOver, countedOn}
+use Rattle.kinds.specs.Spoiled.{theLength, theEdge, OfAnswer, OfMemory, OfSetup, OfWord, OfAction, OfMark, OfOverruns}
+use Rattle.kinds.specs.Spoiled.{asLent, withAnswer, withMemory, unset, unmeasured, unsent, unacted, markedAtOnce, turnedOver, countedOn}
 use Rattle.kinds.specs.Spoiled.{refusing, answering, leaving, markingOnly, markingAtSeven, settingNothing, measuringNothing, sendingNothing}
-use Rattle.kinds.specs.Spoiled.{servingFirst, inventing, counting}
+use Rattle.kinds.specs.Spoiled.{markingAtOnce, servingFirst, inventing, counting}
 use Rattle.kinds.proofs.Equal as equal
 use Rattle.kinds.proofs.Ours as demanded
 use Rattle.kinds.proofs.Inspected as inspected
 use Rattle.kinds.proofs.Closing as closing
+use Rattle.kinds.proofs.Frames as chip-frames
 use Rattle.kinds.proofs.Two.{pair, waits}
 use Rattle.kinds.proofs.Spoiled as spoiled
 use Rattle.kinds.proofs.Marked as marked
@@ -162,6 +164,11 @@ a-record-that-a-run-left-is-accepted = run-of-turns.run-again
 -- "After each call the memory, device record, outgoing frame, interrupt and answer are what document 01 says": of every chip that meets the promises
 pub as-document-01-says : (chip : Chip) → Meets chip → Demand2 chip
 as-document-01-says = demanded.has-demand2
+
+-- and of every such chip the sentences on frames, which follow: in its own run, whatever comes, from any state in range on, what becomes of every
+-- arrival, every held frame and every stored byte is what is said below
+pub as-document-01-says-of-frames : (chip : Chip) → Meets chip → Demand2Frames chip
+as-document-01-says-of-frames = chip-frames.has-demand2-frames
 
 -- "A good frame addressed to us, arriving while the receive unit is Ready, is held to be stored"
 pub a-good-frame-is-held : (w : World) (f : List ℕ) (v : ℕ) (fd : Offset) → arrival.RightLengths w f → arrival.Ours w f → arrival.Good w f v
@@ -465,12 +472,13 @@ one-outcome-of-a-run a report budget = equal.one-said (runCall a report budget)
 pub wrong-chips-are-excluded : (chip : Chip) → Wrong chip → Meets chip → ⊥
 wrong-chips-are-excluded = closing.none-meets
 
--- each lacks the demand that is named with it, and every chip that meets the promises has all three
+-- each lacks the demand that is named with it, and every chip that meets the promises has all three, the second with its sentences on frames
 pub each-lacks-its-demand : (chip : Chip) (w : Wrong chip) → LacksNamed chip w
 each-lacks-its-demand = inspected.lacks-named closing.closing
 
-pub promises-are-enough : (chip : Chip) → Meets chip → Demand1 chip × Demand2 chip × Demand3 chip
-promises-are-enough chip p = (demanded.has-demand1 chip p, demanded.has-demand2 chip p, closing.meets-demand3 chip p)
+pub promises-are-enough : (chip : Chip) → Meets chip → Demand1 chip × Demand2 chip × Demand2Frames chip × Demand3 chip
+promises-are-enough chip p =
+    (demanded.has-demand1 chip p, demanded.has-demand2 chip p, chip-frames.has-demand2-frames chip p, closing.meets-demand3 chip p)
 
 -- and each kind has a chip that is of it and no worse: ours, spoilt in one thing; every other piece of what it answers and leaves, at every call, is as
 -- ours, and what is spoilt is as said. One that refuses everything: with 1 what is not to be refused; and it changes nothing
@@ -494,6 +502,10 @@ a-chip-that-marks-only = (marked.marking-only-is-of-its-kind, spoiled.marking-on
 pub a-chip-that-marks-some : MarksSome markingAtSeven × AsOursBut markingAtSeven (λ s c a p. SpoiltTurn atSeven c a × OfAction a p) unacted
 a-chip-that-marks-some = (marked.marking-at-seven-is-of-its-kind, spoiled.marking-at-seven-is-no-worse)
 
+-- that marks a command complete before it acts, at some turns while the unit waits before it
+pub a-chip-that-marks-at-once : MarksSome markingAtOnce × AsOursBut markingAtOnce (λ s c a p. SpoiltTurn atSeven c a × OfMark a p) markedAtOnce
+a-chip-that-marks-at-once = (marked.marking-at-once-is-of-its-kind, spoiled.marking-at-once-is-no-worse)
+
 -- a third of it: that sets nothing, that measures nothing, that sends nothing
 pub a-chip-that-sets-nothing : SetsNothing settingNothing × AsOursBut settingNothing (λ s c a p. SpoiltTurn always c a × OfSetup p) unset
 a-chip-that-sets-nothing = (marked.setting-nothing-is-of-its-kind, spoiled.setting-nothing-is-no-worse)
@@ -516,15 +528,17 @@ a-chip-that-serves-the-first-command-only = (
   first.serving-first-is-no-worse,
 )
 
--- that invents an edge, at a call, along a trace and amid a list
+-- that invents an edge, at a call, along a trace, amid a list and while a frame is held
 pub a-chip-that-invents-an-edge : Invents inventing
     × InventsInTrace inventing
     × InventsAlong inventing
+    × InventsWhileHeld inventing
     × AsOursBut inventing (λ s c a p. SpoiltTurn atSeven c a × (p ≡ theEdge)) (λ a. turnedOver)
 a-chip-that-invents-an-edge = (
   invented.inventing-is-of-its-kind,
   invented.inventing-in-trace,
   invented.inventing-along,
+  invented.inventing-while-held,
   spoiled.inventing-is-no-worse,
 )
 
@@ -532,11 +546,13 @@ a-chip-that-invents-an-edge = (
 pub a-chip-that-invents-a-counter : Invents counting
     × InventsInTrace counting
     × InventsAlong counting
+    × InventsWhileHeld counting
     × AsOursBut counting (λ s c a p. SpoiltTurn atSeven c a × OfOverruns a p) countedOn
 a-chip-that-invents-a-counter = (
   invented.counting-is-of-its-kind,
   invented.counting-in-trace,
   invented.counting-along,
+  invented.counting-while-held,
   spoiled.counting-is-no-worse,
 )
 

@@ -1,5 +1,6 @@
 -- The inspector's list: which demand a chip of each wrong kind lacks, and that none meets the promises. Assumes nothing.
 use mathlib.Core.Path.{_≡_, refl, sym, ap, _∙_}
+use mathlib.Core.Bool.{false≢true}
 use mathlib.Core.List.{List}
 use Prim.Native.Nat.{ℕ, _<_}
 use native.Mathlib.Omega.{arith}
@@ -7,13 +8,14 @@ use lib.ListN.{getD, take}
 use Rattle.memory.specs.Memory.{wordAt}
 use Rattle.memory.specs.Address.{place}
 use Rattle.memory.specs.declared.Offset.{Offset}
+use Rattle.scb.specs.Words.{bit}
 use Rattle.device.specs.State.{fresh}
 use Rattle.device.specs.Numbers.{counterPlace}
 use Rattle.device.specs.declared.Device.{Device}
 use Rattle.image.specs.Image.{imageOf}
 use Rattle.image.proofs.Exact.{fresh-range, fresh-wide}
 use Rattle.image.proofs.Steps.{length-image}
-use Rattle.actions.specs.Block.{argumentAt}
+use Rattle.actions.specs.Block.{blockStatusAt, argumentAt}
 use Rattle.control.specs.Obey.{ofScb}
 use Rattle.chip.specs.World.{Ran}
 use Rattle.chip.specs.Call.{attention, turn}
@@ -22,7 +24,7 @@ use Rattle.traces.specs.Bytes.{number, sentLength}
 use Rattle.closure.proofs.Refusals.{gives-none}
 use Rattle.kinds.specs.Chips.{Chip, Meets}
 use Rattle.kinds.specs.Demands.{Demand1, lentOf, AsDefined, Demand2}
-use Rattle.kinds.specs.Kinds.{RefusesAll, OneAnswer, MemoryAsLent, setupIn, SetsNothing, MeasuresNothing, SendsNothing, MarksOnly, Undone, settingsUndone, wordUndone, lengthUndone, frameUndone, MarksSome, Invented, anotherCounter, anotherEdge, fromEdge, Invents}
+use Rattle.kinds.specs.Kinds.{RefusesAll, OneAnswer, MemoryAsLent, setupIn, SetsNothing, MeasuresNothing, SendsNothing, MarksOnly, Undone, settingsUndone, wordUndone, lengthUndone, frameUndone, notDue, AtHand, SetsC, MarksSome, Invented, anotherCounter, anotherEdge, fromEdge, Invents}
 use Rattle.kinds.proofs.Ours.{has-demand1, has-demand2}
 use Rattle.kinds.proofs.Witness.{zeros, heldArea, sentArea, attending, turning, acceptable-on, handed-on, firstly, idly, first-answer, idle-answer, first-status, zero-status, block, withUnit, turned, settingUp, setting-wide, setting-range, setting-done, was-set, is-set, measuring, measuring-wide, measuring-range, measuring-done, measured, begun, sending, sending-wide, sending-range, sending-done, sent-length, not-done, not-measured}
 
@@ -106,7 +108,7 @@ module _ (chip : Chip) where
       let r = d .each (chip .first) (turn 0) (withUnit settingUp) zeros heldArea sentArea s l in
       let x =
       k .each (chip .first) 0 (withUnit settingUp) zeros heldArea sentArea block s l
-      (record { begun = refl; before = not-done; after = rw (r .memory) setting-done })
+      (record { block = refl; before = not-done; after = rw (r .memory) setting-done })
       in
       let e : setupIn (imageOf (turned settingUp .outcome .device)) ≡ setupIn (imageOf (withUnit settingUp)) =
       sym (ap setupIn (r .kept)) ∙ x
@@ -121,7 +123,7 @@ module _ (chip : Chip) where
       let r = d .each (chip .first) (turn 0) (withUnit measuring) zeros heldArea sentArea s l in
       let x =
       k .each (chip .first) 0 (withUnit measuring) zeros heldArea sentArea block s l
-      (record { begun = refl; before = not-done; after = rw (r .memory) measuring-done }) begun refl
+      (record { block = refl; before = not-done; after = rw (r .memory) measuring-done }) begun refl
       in
       let z = sym (ap (λ (m : List ℕ). wordAt m (place (record { 0 = 0 }) block 6)) (r .memory)) ∙ x in
       omega (arith, z, measured, not-measured)
@@ -133,7 +135,7 @@ module _ (chip : Chip) where
       let r = d .each (chip .first) (turn 0) (withUnit sending) zeros heldArea sentArea s l in
       let x =
       k .each (chip .first) 0 (withUnit sending) zeros heldArea sentArea block s l
-      (record { begun = refl; before = not-done; after = rw (r .memory) sending-done })
+      (record { block = refl; before = not-done; after = rw (r .memory) sending-done })
       in
       let z = sym (ap sentLength (r .answer)) ∙ x in
       omega (arith, z, sent-length)
@@ -153,19 +155,22 @@ module _ (chip : Chip) where
   pub no-marks-only : MarksOnly chip → Meets chip → ⊥
   no-marks-only k p = marks-only-lacks-2 k (has-demand2 chip p)
 
-  -- one completion at which the action is not done
+  -- one marking at which the action is not done, or C not due
 
-  module _ (x : Device) (o : Offset) (said : Ran) (r : Called) (p : AsDefined said r) where
+  module _ (x : Device) (m : List ℕ) (o : Offset) (said : Ran) (r : Called) (p : AsDefined said r) (marks : SetsC AtHand x m r o) where
     all-done : Undone x o said r → ⊥
     all-done (settingsUndone differs) = differs (ap setupIn (p .kept))
-    all-done (wordUndone differs) = differs (ap (λ (m : List ℕ). wordAt m (place (x .units .base) o argumentAt)) (p .memory))
+    all-done (wordUndone differs) = differs (ap (λ (q : List ℕ). wordAt q (place (x .units .base) o argumentAt)) (p .memory))
     all-done (lengthUndone differs) = differs (ap sentLength (p .answer))
     all-done (frameUndone differs) = differs (ap (take (sentLength (answerNumber (said .outcome .answer)))) (p .outgoing))
+    all-done (notDue none) =
+        false≢true
+        (sym none ∙ ap (λ (q : List ℕ). bit (wordAt q (place (x .units .base) o blockStatusAt)) 15) (sym (p .memory)) ∙ marks .after)
 
   pub marks-some-lacks-2 : MarksSome chip → Demand2 chip → ⊥
   marks-some-lacks-2 k d =
       let r = d .each (k .inner) (turn (k .report)) (k .device) (k .memory) (k .holding) (k .outgoing) (k .acceptable) (k .lent) in
-      all-done (k .device) (k .block) _ _ r (k .undone)
+      all-done (k .device) (k .memory) (k .block) _ _ r (k .marks) (k .undone)
 
   pub no-marks-some : MarksSome chip → Meets chip → ⊥
   no-marks-some k p = marks-some-lacks-2 k (has-demand2 chip p)

@@ -11,6 +11,7 @@ use Rattle.memory.specs.Memory.{wordAt}
 use Rattle.memory.specs.declared.Offset.{Offset}
 use Rattle.memory.specs.declared.RealAddress.{RealAddress}
 use Rattle.memory.proofs.Bytes.{bytes-nil}
+use Rattle.scb.specs.Words.{bit}
 use Rattle.device.specs.State.{cuWorks, ruWorks}
 use Rattle.device.specs.declared.Device.{Device}
 use Rattle.image.specs.Image.{imageOf}
@@ -248,13 +249,20 @@ module _ (d : Device) (m h out : List ℕ) (b : Offset) (bs : List Offset) (repo
 pub serving-first-serves-the-first : ServesFirst servingFirst
 serving-first-serves-the-first = record { each = λ s d m h out b bs reports k l start p. to-the-end-turn d m h out b bs reports k l start p s }
 
+-- a status that stays gets no C
+no-c : (base : RealAddress) (m q : List ℕ) (cs : List Offset) → Same base m q cs
+    → All (λ c. bit (wordAt m (place base c blockStatusAt)) 15 ≡ true → bit (wordAt q (place base c blockStatusAt)) 15 ≡ true) cs
+no-c base m q [] f = tt
+no-c base m q (c ∷ cs) f = (λ e. ap (λ (x : ℕ). bit x 15) (sym (f .0)) ∙ e, no-c base m q cs (f .1))
+
 pub serving-first-is-of-its-kind : FirstOnly servingFirst
 serving-first-is-of-its-kind =
     record {
       each =
           λ s d m h out b bs reports k l start p.
-          subst (λ (a : Areas). Same (d .units .base) (a .memory) m bs) (sym (to-the-end-turn d m h out b bs reports k l start p s))
-          (later-stay d m h out b bs reports k l start);
+          no-c (d .units .base) _ m bs
+          (subst (λ (a : Areas). Same (d .units .base) (a .memory) m bs) (sym (to-the-end-turn d m h out b bs reports k l start p s))
+          (later-stay d m h out b bs reports k l start));
     }
 
 -- of two NOPs the first is done, by the second turn

@@ -1,6 +1,7 @@
--- The chip that tells an edge where there is none, at report 7, invents: at a call, along a trace, and in the run of a list. So does the one that counts
--- an overrun more. Assumes nothing.
+-- The chip that tells an edge where there is none, at report 7, invents: at a call, along a trace, in the run of a list, and while a frame is held.
+-- So does the one that counts an overrun more. Assumes nothing.
 use mathlib.Core.Path.{_≡_, refl, sym, ap, _∙_}
+use mathlib.Core.Bool.{true, false}
 use mathlib.Core.List.{List, [], _∷_}
 use mathlib.Core.Logic.{inl}
 use Prim.Native.Nat.{ℕ, _+_, _-_, _%_}
@@ -11,26 +12,37 @@ use Rattle.memory.specs.Memory.{wordAt}
 use Rattle.memory.proofs.Fields.{word-same}
 use Rattle.device.specs.Numbers.{counterPlace}
 use Rattle.device.specs.State.{fresh}
+use Rattle.device.specs.Change.{withRu}
 use Rattle.device.specs.declared.Counter.the-variants as counter
+use Rattle.device.specs.declared.Cu.the-variants as cu
 use Rattle.device.specs.declared.Device.{Device}
+use Rattle.device.specs.declared.Frame.{Frame}
+use Rattle.device.specs.declared.Ru.{Ru}
+use Rattle.device.specs.declared.Ru.the-variants as ru
+use Rattle.device.specs.declared.Verdict.the-variants as verdict
+use Rattle.phases.specs.Phases.{ruWord}
+use Rattle.image.specs.Ranges.{unitsFit, cuFits, frameFits, ruFits, initialisedOrFresh, inRange, Wide}
 use Rattle.image.proofs.Exact.{fresh-range, fresh-wide}
 use Rattle.control.specs.Obey.{ofScb}
 use Rattle.chip.specs.World.{World, worldOf}
 use Rattle.chip.specs.Call.{Call, attention, turn, ran}
 use Rattle.calls.specs.Calls.{Areas, Called, answerNumber}
+use Rattle.progress.specs.Trace.{AllMay}
 use Rattle.traces.specs.Areas.{shown}
 use Rattle.traces.specs.Bytes.{called}
+use Rattle.traces.specs.Event.{call, step, WhileHeld}
 use Rattle.kinds.specs.Chips.{Handed}
 use Rattle.kinds.specs.Closed.{Right}
 use Rattle.kinds.specs.Demands.{Acceptable}
 use Rattle.kinds.specs.Lists.{turnsOf}
-use Rattle.kinds.specs.Kinds.{fromEdge, anotherCounter, anotherEdge, Invents, anotherCount, anotherEdges, InventsInTrace, InventsAlong}
+use Rattle.kinds.specs.Third.{HeldRun}
+use Rattle.kinds.specs.Kinds.{fromEdge, anotherCounter, anotherEdge, Invents, anotherCount, anotherEdges, InventsInTrace, InventsAlong, InventsWhileHeld}
 use Rattle.kinds.specs.Spoiled.{atSeven, turnedOver, countedOn, inventing, counting}
 use Rattle.kinds.proofs.Accepted.{accepted-call}
 use Rattle.kinds.proofs.Third.{right-acceptable, right-handed}
 use Rattle.kinds.proofs.Closing.{closing}
-use Rattle.kinds.proofs.Witness.{zeros, heldArea, sentArea, attending, acceptable-on, handed-on}
-use Rattle.kinds.proofs.Two.{two, idle, two-size, acceptable-two, idle-wide, idle-range, waits, begun, pair, right-two, two-run, begun-device}
+use Rattle.kinds.proofs.Witness.{zeros, heldArea, sentArea, attending, acceptable-on, handed-on, unitsWith}
+use Rattle.kinds.proofs.Two.{two, idle, two-size, acceptable-two, idle-wide, idle-range, waits, begun, pair, right-two, two-run, begun-device, zero-reports, turns-of, acceptable-turns, refused-turns}
 use Rattle.kinds.proofs.Spoiled.{over-edge, as-long}
 use Rattle.kinds.proofs.Marked.{is-spoilt, units-said, sevenths}
 
@@ -210,4 +222,81 @@ counting-along =
           (λ e.
           count-differs begun after-acceptable after-handed
           (same-place _ ∙ ap (λ (a : Areas). overruns idle (counting .calls tt (turn 7) a .areas .memory)) (sym after-lent) ∙ e ∙ sym (same-place _)));
+    }
+
+-- ---- while a frame is held, its begin turn next: the first of 132 turns
+
+abbrev sixty : Frame
+sixty = record { length = 60; verdict = verdict.Good; short = false; savebad = false }
+
+abbrev unit : Ru
+unit = ru.Held (record { 0 = 0x60 }) sixty false
+
+abbrev holder : Device
+holder = record { units = withRu (unitsWith cu.Idle) unit; own = replicate 6 255; listed = replicate 96 0 }
+
+holder-wide : Wide holder
+unfolding ruWord
+holder-wide =
+    record {
+      scb = idle-wide .scb;
+      minimum = idle-wide .minimum;
+      cu = idle-wide .cu;
+      ru = record { at = omega arith; kind = omega arith; size = omega arith; next = omega arith };
+      own = refl;
+      listed = refl;
+      own-bytes = idle-wide .own-bytes;
+      listed-bytes = idle-wide .listed-bytes;
+    }
+
+holder-range : inRange holder ≡ true
+unfolding inRange unitsFit cuFits ruFits frameFits initialisedOrFresh
+holder-range = refl
+
+abbrev holds : World
+holds = worldOf holder zeros heldArea sentArea
+
+holds-acceptable : Acceptable (turn 7) holder zeros heldArea sentArea
+holds-acceptable = acceptable-on (turn 7) holder (omega arith) holder-wide holder-range
+
+holds-handed : Handed (turn 7) (shown holds)
+holds-handed = handed-on (turn 7) holder sevenths holder-wide
+
+calm : (rs : List ℕ) (w : World) → AllMay WhileHeld step (turns-of rs) w
+calm [] w = tt
+calm (r ∷ rs) w = (refl, calm rs (step (call (turn r)) w))
+
+held-run : HeldRun 132 sixty (turnsOf (7 ∷ replicate 131 0)) holds
+held-run =
+    record {
+      right = acceptable-right (turn 7) holds holds-acceptable holds-handed;
+      holds = refl;
+      acceptable = acceptable-turns (7 ∷ replicate 131 0) (omega arith, zero-reports 131);
+      refused = refused-turns (7 ∷ replicate 131 0);
+      events = calm (7 ∷ replicate 131 0) holds;
+      turns = lit≤ tt;
+    }
+
+pub inventing-while-held : InventsWhileHeld inventing
+inventing-while-held =
+    record {
+      inner = tt;
+      frame = sixty;
+      acts = turnsOf (7 ∷ []);
+      more = turnsOf (replicate 131 0);
+      world = holds;
+      comes = held-run;
+      invented = anotherEdges (λ e. edge-differs holds holds-acceptable holds-handed (ap (λ (xs : List ℕ). getD xs 0 0) e));
+    }
+
+pub counting-while-held : InventsWhileHeld counting
+counting-while-held =
+    record {
+      inner = tt;
+      frame = sixty;
+      acts = turnsOf (7 ∷ []);
+      more = turnsOf (replicate 131 0);
+      world = holds;
+      comes = held-run;
+      invented = anotherCount counter.Overruns refl (λ e. count-differs holds holds-acceptable holds-handed e);
     }

@@ -13,6 +13,7 @@ pub mod Third
 pub mod Traced
 pub mod Inspected
 pub mod Closing
+pub mod Frames
 pub mod Spoiled
 pub mod Marked
 pub mod Inventing

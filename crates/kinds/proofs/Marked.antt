@@ -1,4 +1,4 @@
--- The chips that mark commands complete without acting are of their kinds, and do complete. Assumes nothing.
+-- The chips that mark commands complete without acting, or before it, are of their kinds, and do complete. Assumes nothing.
 use mathlib.Core.Path.{_≡_, refl, sym, ap, _∙_}
 use mathlib.Core.Bool.{Bool, true, false, not}
 use mathlib.Core.List.{List, [], _∷_, _++_, append-assoc}
@@ -14,7 +14,7 @@ use Rattle.memory.specs.declared.RealAddress.{RealAddress}
 use Rattle.memory.proofs.Bytes.{Bytes, bytes-nil, field-bound}
 use Rattle.memory.proofs.Fields.{word-same, word-other}
 use Rattle.memory.proofs.Places.{place-down}
-use Rattle.scb.specs.Words.{bit}
+use Rattle.scb.specs.Words.{bit, bitsAt}
 use Rattle.device.specs.declared.Action.the-variants as action
 use Rattle.device.specs.declared.Begun.{Begun}
 use Rattle.device.specs.declared.Cu.{Cu}
@@ -22,10 +22,11 @@ use Rattle.device.specs.declared.Cu.the-variants as cu
 use Rattle.device.specs.declared.Device.{Device}
 use Rattle.numerals.specs.Places.{bytesFrom}
 use Rattle.numerals.proofs.Laws.{length-from, first-of, second-of}
+use Rattle.phases.specs.Phases.{cuWord}
 use Rattle.packed.specs.Record.{setupAt}
 use Rattle.packed.specs.SetUp.{setupSize}
 use Rattle.image.specs.Image.{imageOf}
-use Rattle.image.specs.Ranges.{inRange, Wide}
+use Rattle.image.specs.Ranges.{cuFits, inRange, Wide}
 use Rattle.image.proofs.Exact.{decode-image}
 use Rattle.image.proofs.Steps.{length-image}
 use Rattle.actions.specs.Block.{blockStatusAt, argumentAt}
@@ -39,12 +40,12 @@ use Rattle.closure.proofs.Carried.{areas-as-long}
 use Rattle.lists.proofs.Tests.{keptb}
 use Rattle.kinds.specs.Chips.{Given, Handed}
 use Rattle.kinds.specs.Demands.{Acceptable, lentOf}
-use Rattle.kinds.specs.Kinds.{InWork, Completes, setupIn, SetsNothing, MeasuresNothing, SendsNothing, MarksOnly, wordUndone, MarksSome}
-use Rattle.kinds.specs.Spoiled.{spoiling, always, atSeven, unset, measuredIn, wordsBack, unmeasured, unsent, unacted, settingNothing, measuringNothing, sendingNothing, markingOnly, markingAtSeven}
+use Rattle.kinds.specs.Kinds.{InWork, Completes, setupIn, SetsNothing, MeasuresNothing, SendsNothing, MarksOnly, wordUndone, notDue, MarksSome}
+use Rattle.kinds.specs.Spoiled.{spoiling, always, atSeven, unset, measuredIn, wordsBack, unmeasured, unsent, unacted, markedAtOnce, settingNothing, measuringNothing, sendingNothing, markingOnly, markingAtSeven, markingAtOnce}
 use Rattle.kinds.proofs.Ours.{called-tabled}
 use Rattle.kinds.proofs.Accepted.{accepted-call}
 use Rattle.kinds.proofs.Spoiled.{as-long, unsent-length}
-use Rattle.kinds.proofs.Witness.{zeros, heldArea, sentArea, turning, acceptable-on, handed-on, block, begun, withUnit, settingUp, setting-wide, setting-range, setting-done, measuring, measuring-wide, measuring-range, measuring-done, sending, sending-wide, sending-range, sending-done, not-done, not-measured}
+use Rattle.kinds.proofs.Witness.{zeros, heldArea, sentArea, turning, acceptable-on, handed-on, block, begun, withUnit, wide-with, range-with, settingUp, setting-wide, setting-range, setting-done, measuring, measuring-wide, measuring-range, measuring-done, sending, sending-wide, sending-range, sending-done, not-done, not-measured}
 
 -- ---- bytes and words put back
 
@@ -138,7 +139,7 @@ measuring-nothing-is-of-its-kind =
       each =
           λ s report d m h out o k l c b e.
           ap (λ (r : Called). wordAt (r .areas .memory) (place (d .units .base) o argumentAt)) (is-spoilt report d m h out k l always unmeasured refl)
-          ∙ word-back report d m h out k l o b (left report d m h out k l .areas .memory) (as-long report (lentOf d m h out) l) (c .begun) e;
+          ∙ word-back report d m h out k l o b (left report d m h out k l .areas .memory) (as-long report (lentOf d m h out) l) (c .block) e;
     }
 
 pub sending-nothing-is-of-its-kind : SendsNothing sendingNothing
@@ -164,7 +165,7 @@ marking-only-is-of-its-kind =
             each =
                 λ s report d m h out o k l c b e.
                 ap (λ (r : Called). wordAt (r .areas .memory) (place (d .units .base) o argumentAt)) (is-spoilt report d m h out k l always unacted refl)
-                ∙ word-back report d m h out k l o b (left report d m h out k l .areas .memory) (as-long report (lentOf d m h out) l) (c .begun) e;
+                ∙ word-back report d m h out k l o b (left report d m h out k l .areas .memory) (as-long report (lentOf d m h out) l) (c .block) e;
           };
       sending =
           record {
@@ -221,12 +222,12 @@ module _ (report : ℕ) (given : Given (turn report)) where
 pub setting-nothing-completes :
     Completes (withUnit settingUp) zeros (settingNothing .calls tt (turn 0) (lentOf (withUnit settingUp) zeros heldArea sentArea)) block
 setting-nothing-completes =
-    record { begun = refl; before = not-done; after = same-c 0 settingUp setting-wide setting-range turning always unset refl refl setting-done }
+    record { block = refl; before = not-done; after = same-c 0 settingUp setting-wide setting-range turning always unset refl refl setting-done }
 
 pub sending-nothing-completes :
     Completes (withUnit sending) zeros (sendingNothing .calls tt (turn 0) (lentOf (withUnit sending) zeros heldArea sentArea)) block
 sending-nothing-completes =
-    record { begun = refl; before = not-done; after = same-c 0 sending sending-wide sending-range turning always (λ a. unsent) refl refl sending-done }
+    record { block = refl; before = not-done; after = same-c 0 sending sending-wide sending-range turning always (λ a. unsent) refl refl sending-done }
 
 measured-c : (report : ℕ) (given : Given (turn report)) (at : ℕ → Bool) (spoil : Areas → Called → Called) → at report ≡ true
     → ((a : Areas) (r : Called) → spoil a r .areas .memory ≡ unmeasured a r .areas .memory)
@@ -237,7 +238,7 @@ measured-c report given at spoil e same done =
     let l = handed report measuring measuring-wide measuring-range given in
     let a = areas report measuring measuring-wide measuring-range given in
     record {
-      begun = refl;
+      block = refl;
       before = not-done;
       after =
           ap (λ (r : Called). cIn report measuring measuring-wide measuring-range given (r .areas .memory))
@@ -277,6 +278,7 @@ marking-at-seven-is-of-its-kind =
     (is-spoilt 7 d zeros heldArea sentArea k l atSeven unacted refl)
     ∙ word-back 7 d zeros heldArea sentArea k l block begun (called (turn 7) a .areas .memory) (as-long 7 a l) refl refl
     in
+    let completes = measured-c 7 sevenths atSeven unacted refl (λ a r. refl) seven-done in
     record {
       inner = tt;
       report = 7;
@@ -287,6 +289,58 @@ marking-at-seven-is-of-its-kind =
       block = block;
       acceptable = k;
       lent = l;
-      completes = measured-c 7 sevenths atSeven unacted refl (λ a r. refl) seven-done;
+      marks = record { block = refl; before = completes .before; after = completes .after };
       undone = wordUndone (λ e. omega (arith, e, same, not-measured, seven-measured));
+    }
+
+-- ---- at a begin turn, at which C is not due
+
+abbrev waiting : Cu
+waiting = cu.Waiting block
+
+waiting-wide : Wide (withUnit waiting)
+unfolding cuWord
+waiting-wide = wide-with waiting (record { at = omega arith; kind = omega arith; size = omega arith; next = omega arith })
+
+waiting-range : inRange (withUnit waiting) ≡ true
+unfolding cuFits
+waiting-range = range-with waiting refl
+
+-- the definitions write 4000h
+begun-not-done : cIn 7 waiting waiting-wide waiting-range sevenths (ran (turn 7) (worldOf (withUnit waiting) zeros heldArea sentArea) .memory) ≡ false
+unfolding keptb
+begun-not-done = refl
+
+pub marking-at-once-is-of-its-kind : MarksSome markingAtOnce
+unfolding bitsAt
+marking-at-once-is-of-its-kind =
+    let d = withUnit waiting in
+    let k = fits 7 waiting waiting-wide waiting-range sevenths in
+    let l = handed 7 waiting waiting-wide waiting-range sevenths in
+    let a = areas 7 waiting waiting-wide waiting-range sevenths in
+    let q = called (turn 7) a .areas .memory in
+    let c = cIn 7 waiting waiting-wide waiting-range sevenths in
+    let room : 2 ≤ length q = omega (arith, as-long 7 a l, k .size .least) in
+    let word : wordAt (markedAtOnce a (called (turn 7) a) .areas .memory) (place (record { 0 = 0 }) block blockStatusAt) ≡ 0xA000 =
+    rw (units-said 7 d zeros heldArea sentArea k l) (word-same q (place (record { 0 = 0 }) block blockStatusAt) 0xA000 room)
+    in
+    record {
+      inner = tt;
+      report = 7;
+      device = d;
+      memory = zeros;
+      holding = heldArea;
+      outgoing = sentArea;
+      block = block;
+      acceptable = k;
+      lent = l;
+      marks =
+          record {
+            block = refl;
+            before = not-done;
+            after =
+                ap (λ (r : Called). c (r .areas .memory)) (is-spoilt 7 d zeros heldArea sentArea k l atSeven markedAtOnce refl)
+                ∙ ap (λ (x : ℕ). bit x 15) word;
+          };
+      undone = notDue begun-not-done;
     }

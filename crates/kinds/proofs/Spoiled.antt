@@ -15,10 +15,11 @@ use Rattle.memory.specs.declared.Offset.{Offset}
 use Rattle.memory.specs.declared.RealAddress.{RealAddress}
 use Rattle.memory.proofs.Laws.{length-putBytes, length-apply}
 use Rattle.scb.specs.Words.{bitsAt}
+use Rattle.device.specs.declared.Cu.{Cu}
 use Rattle.numerals.proofs.Laws.{length-from}
 use Rattle.packed.specs.Record.{setupAt}
 use Rattle.packed.specs.SetUp.{setupSize}
-use Rattle.actions.specs.Block.{argumentAt}
+use Rattle.actions.specs.Block.{blockStatusAt, argumentAt}
 use Rattle.chip.specs.Call.{Call, reset, attention, arrive, turn}
 use Rattle.calls.specs.Calls.{Areas, Called}
 use Rattle.traces.specs.Areas.{unitsIn}
@@ -29,7 +30,7 @@ use Rattle.closure.proofs.Carried.{areas-as-long}
 use Rattle.kinds.specs.Chips.{Handed}
 use Rattle.kinds.specs.Demands.{lentOf}
 use Rattle.kinds.specs.Kinds.{setupIn, fromEdge, RefusesAll, OneAnswer, MemoryAsLent}
-use Rattle.kinds.specs.Spoiled.{Piece, theNumber, theLength, theEdge, memoryByte, holdingByte, outgoingByte, recordByte, byteIn, pieceOf, AsOursBut, plain, asLent, refusing, withAnswer, answering, OfAnswer, withMemory, leaving, OfMemory, spoiling, SpoiltTurn, always, atSeven, unset, OfSetup, measuredIn, wordsBack, unmeasured, ByteOfWord, ByteOfWords, OfWord, unsent, unacted, OfAction, turnedOver, overrunsIn, countedOn, OfOverruns, settingNothing, measuringNothing, sendingNothing, markingOnly, markingAtSeven, inventing, counting}
+use Rattle.kinds.specs.Spoiled.{Piece, theNumber, theLength, theEdge, memoryByte, holdingByte, outgoingByte, recordByte, byteIn, pieceOf, AsOursBut, plain, asLent, refusing, withAnswer, answering, OfAnswer, withMemory, leaving, OfMemory, spoiling, SpoiltTurn, always, atSeven, unset, OfSetup, measuredIn, wordsTo, unmeasured, ByteOfWord, ByteOfWords, OfWords, OfWord, waitedIn, markedAtOnce, OfMark, unsent, unacted, OfAction, turnedOver, overrunsIn, countedOn, OfOverruns, settingNothing, measuringNothing, sendingNothing, markingOnly, markingAtSeven, markingAtOnce, inventing, counting}
 
 -- ---- the pieces are all: what has the same pieces is the same
 
@@ -185,7 +186,7 @@ unset-rest a r (recordByte i) h =
     at-index i (sets k setupAt s) k (length-sets k setupAt s)
     (sets-other s k setupAt i (λ q. h (q .0, omega (arith, q .1, length-from (a .kept) setupAt setupSize))))
 
--- TDR's word
+-- words of blocks, TDR's among them
 word-elsewhere : (m : List ℕ) (at w i : ℕ) → (ByteOfWord (length m) at i → ⊥) → getD (putBytes m at (digits 2 w)) i 0 ≡ getD m i 0
 unfolding putBytes putByte digits
 word-elsewhere m at w i h =
@@ -194,30 +195,36 @@ word-elsewhere m at w i h =
     let one : suc at ≡ at + 1 = omega arith in
     getD-set-other x (suc at % length x) i (w / 256 % 256) 0 (λ e. h (inr (rw (n, one) at e))) ∙ getD-set-other m (at % length m) i (w % 256) 0 (λ e. h (inl e))
 
-words-elsewhere : (base : RealAddress) (was : List ℕ) (os : List Offset) (m : List ℕ) (i : ℕ) → (ByteOfWords (length m) base os i → ⊥)
-    → getD (apply (wordsBack base was os) m) i 0 ≡ getD m i 0
-words-elsewhere base was [] m i h = refl
-words-elsewhere base was (o ∷ os) m i h =
-    let at = place base o argumentAt in
-    let w = wordAt was at in
-    let n : length (putBytes m at (digits 2 w)) ≡ length m = length-putBytes m at (digits 2 w) in
-    words-elsewhere base was os (putBytes m at (digits 2 w)) i (λ k. h (inr (rw n at k)))
-    ∙ word-elsewhere m at w i (λ e. h (inl e))
+words-elsewhere : (base : RealAddress) (field : ℕ) (value : Offset → ℕ) (os : List Offset) (m : List ℕ) (i : ℕ)
+    → (ByteOfWords (length m) base field os i → ⊥)
+    → getD (apply (wordsTo base field value os) m) i 0 ≡ getD m i 0
+words-elsewhere base field value [] m i h = refl
+words-elsewhere base field value (o ∷ os) m i h =
+    let at = place base o field in
+    let n : length (putBytes m at (digits 2 (value o))) ≡ length m = length-putBytes m at (digits 2 (value o)) in
+    words-elsewhere base field value os (putBytes m at (digits 2 (value o))) i (λ k. h (inr (rw n at k)))
+    ∙ word-elsewhere m at (value o) i (λ e. h (inl e))
+
+words-rest : (field : ℕ) (value : Offset → ℕ) (blocks : Cu → List Offset) (a : Areas) (r : Called) (p : Piece)
+    → length (r .areas .memory) ≡ length (a .memory) → (OfWords field blocks a p → ⊥)
+    → let u = unitsIn (a .kept) in
+    pieceOf p (withMemory (apply (wordsTo (u .base) field value (blocks (u .cu))) (r .areas .memory)) r) ≡ pieceOf p r
+words-rest field value blocks a r theNumber n h = refl
+words-rest field value blocks a r theLength n h = refl
+words-rest field value blocks a r theEdge n h = refl
+words-rest field value blocks a r (memoryByte i) n h =
+    let u = unitsIn (a .kept) in
+    let os = blocks (u .cu) in
+    let m = r .areas .memory in
+    at-index i (apply (wordsTo (u .base) field value os) m) m (length-apply (wordsTo (u .base) field value os) m)
+    (words-elsewhere (u .base) field value os m i (λ k. h (rw n at k)))
+words-rest field value blocks a r (holdingByte i) n h = refl
+words-rest field value blocks a r (outgoingByte i) n h = refl
+words-rest field value blocks a r (recordByte i) n h = refl
 
 unmeasured-rest : (a : Areas) (r : Called) (p : Piece) → length (r .areas .memory) ≡ length (a .memory) → (OfWord a p → ⊥)
     → pieceOf p (unmeasured a r) ≡ pieceOf p r
-unmeasured-rest a r theNumber n h = refl
-unmeasured-rest a r theLength n h = refl
-unmeasured-rest a r theEdge n h = refl
-unmeasured-rest a r (memoryByte i) n h =
-    let u = unitsIn (a .kept) in
-    let os = measuredIn (u .cu) in
-    let m = r .areas .memory in
-    at-index i (apply (wordsBack (u .base) (a .memory) os) m) m (length-apply (wordsBack (u .base) (a .memory) os) m)
-    (words-elsewhere (u .base) (a .memory) os m i (λ k. h (rw n at k)))
-unmeasured-rest a r (holdingByte i) n h = refl
-unmeasured-rest a r (outgoingByte i) n h = refl
-unmeasured-rest a r (recordByte i) n h = refl
+unmeasured-rest a r p n h = words-rest argumentAt (λ o. wordAt (a .memory) (place (unitsIn (a .kept) .base) o argumentAt)) measuredIn a r p n h
 
 -- the length
 unsent-number : (x : ℕ) → number (number x + fromEdge x * 2 ^ 32) ≡ number x
@@ -304,6 +311,11 @@ marking-only-is-no-worse =
 pub marking-at-seven-is-no-worse : AsOursBut markingAtSeven (λ s c a p. SpoiltTurn atSeven c a × OfAction a p) unacted
 marking-at-seven-is-no-worse =
     spoils-no-more atSeven unacted OfAction (λ report a p l. unacted-rest a (called (turn report) a) p (as-long report a l))
+
+pub marking-at-once-is-no-worse : AsOursBut markingAtOnce (λ s c a p. SpoiltTurn atSeven c a × OfMark a p) markedAtOnce
+marking-at-once-is-no-worse =
+    spoils-no-more atSeven markedAtOnce OfMark
+    (λ report a p l. words-rest blockStatusAt (λ o. 0xA000) waitedIn a (called (turn report) a) p (as-long report a l))
 
 pub inventing-is-no-worse : AsOursBut inventing (λ s c a p. SpoiltTurn atSeven c a × (p ≡ theEdge)) (λ a. turnedOver)
 inventing-is-no-worse = spoils-no-more atSeven (λ a. turnedOver) (λ a p. p ≡ theEdge) (λ report a p l. over-rest (called (turn report) a) p)

@@ -23,7 +23,7 @@ use Rattle.kinds.specs.Chips.{Chip, ours, Given, Handed, Meets, Act, doe
 use Rattle.kinds.specs.Demands.{Acceptable, Demand2}
 use Rattle.kinds.specs.Closed.{Right, Closed}
 use Rattle.kinds.specs.Third.{AllAcceptable, AllRefused, AsSaid, RunBy, ResumedRun, Demand3}
-use Rattle.kinds.specs.Kinds.{InventedAlong, anotherCount, anotherEdges, fromEdge, InventsAlong}
+use Rattle.kinds.specs.Kinds.{InventedAlong, anotherCount, anotherEdges, fromEdge, InventsAlong, InventsWhileHeld}
 use Rattle.kinds.proofs.Equal.{ours-meets, as-called}
 use Rattle.kinds.proofs.Ours.{has-demand2, defined-kept}
 use Rattle.kinds.proofs.Witness.{attending}
@@ -50,7 +50,7 @@ right-handed c w g r =
     }
 
 -- what the host leaves is right, with a device that is
-hosted : (w : World) (m h out : List ℕ) → Hosted m h out → Right w → Right (worldOf (w .device) m h out)
+pub hosted : (w : World) (m h out : List ℕ) → Hosted m h out → Right w → Right (worldOf (w .device) m h out)
 hosted w m h out k r = record { areas = k; wide = r .wide; range = r .range }
 
 module _ (closed : Closed) where
@@ -113,7 +113,7 @@ module _ (chip : Chip) (p : Meets chip) where
   all-said (asks c a ∷ acts) s w g k = (as-called chip p s c a (g .0), all-said acts (chip .next s c a) w (g .2) k)
 
 module _ (closed : Closed) (chip : Chip) (p : Meets chip) where
-  as-said : (acts : List Act) (s : chip .Inner) (w : World) → AllAcceptable (eventsIn acts) → AllRefused acts → Right w → AsSaid chip s acts w
+  pub as-said : (acts : List Act) (s : chip .Inner) (w : World) → AllAcceptable (eventsIn acts) → AllRefused acts → Right w → AsSaid chip s acts w
   as-said acts s w f g r = all-said chip p acts s w g (along closed chip (has-demand2 chip p) acts s w f r)
 
   -- a list, however the attention sets it off
@@ -168,7 +168,7 @@ module _ (chip : Chip) where
   said-before (does (host m h out) ∷ acts) more s w k = said-before acts more s (step (host m h out) w) k
   said-before (asks c a ∷ acts) more s w k = (k .0, said-before acts more (chip .next s c a) w (k .1))
 
--- ---- a counter or an edge that the definitions do not have, in the run of a list: demand 3, which means done as in 2
+-- ---- a counter or an edge that the definitions do not have, in the run of a list or while a frame is held: demand 3, which means done as in 2
 
 -- all bytes and answers are the definitions': nothing is invented
 pub none-along : (d : Device) (after : Areas) (answers : List ℕ) (w : World) (said : List ℕ) → after ≡ shown w → answers ≡ said
@@ -183,4 +183,12 @@ invents-along-lacks-3 chip k d =
     let acts = does (call attention) ∷ k .acts in
     let same = said-before chip acts (k .more) (k .inner) (k .world) all in
     none-along (k .world .device) _ _ _ _ (said-left chip acts (k .inner) (k .world) same) (said-answers chip acts (k .inner) (k .world) same)
+    (k .invented)
+
+-- and while a frame is held
+pub invents-while-held-lacks-3 : (chip : Chip) → InventsWhileHeld chip → Demand3 chip → ⊥
+invents-while-held-lacks-3 chip k d =
+    let all = d .frame (k .inner) (k .frame) (k .acts ++ k .more) (k .world) (k .comes) .1 in
+    let same = said-before chip (k .acts) (k .more) (k .inner) (k .world) all in
+    none-along (k .world .device) _ _ _ _ (said-left chip (k .acts) (k .inner) (k .world) same) (said-answers chip (k .acts) (k .inner) (k .world) same)
     (k .invented)

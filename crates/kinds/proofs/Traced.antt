@@ -9,7 +9,7 @@ use Rattle.kinds.specs.Chips.{Chip, Act, does, asks, eventsIn}
 use Rattle.kinds.specs.Demands.{Demand2}
 use Rattle.kinds.specs.Closed.{Closed}
 use Rattle.kinds.specs.Third.{AllAcceptable}
-use Rattle.kinds.specs.Kinds.{InventsAlong, InventsInTrace}
+use Rattle.kinds.specs.Kinds.{InventsAlong, InventsWhileHeld, InventsInTrace}
 use Rattle.kinds.proofs.Witness.{attending}
 use Rattle.kinds.proofs.Third.{along, run-left, run-answers, none-along}
 
@@ -42,3 +42,20 @@ module _ (closed : Closed) (chip : Chip) where
 
   pub invents-along-lacks-2 : InventsAlong chip → Demand2 chip → ⊥
   invents-along-lacks-2 k q = invents-in-trace-lacks-2 (in-trace k) q
+
+  -- and so is the run of a held frame
+  pub held-in-trace : InventsWhileHeld chip → InventsInTrace chip
+  held-in-trace k =
+      record {
+        inner = k .inner;
+        world = k .world;
+        acts = k .acts;
+        right = k .comes .right;
+        all-acceptable = acceptable-before (k .acts) (k .more) (k .comes .acceptable);
+        scb = k .world .device;
+        before-or-after = inl refl;
+        invented = k .invented;
+      }
+
+  pub invents-while-held-lacks-2 : InventsWhileHeld chip → Demand2 chip → ⊥
+  invents-while-held-lacks-2 k q = invents-in-trace-lacks-2 (held-in-trace k) q

@@ -1,6 +1,6 @@
--- A list of two NOPs: a chip that serves the first command only lacks demand 3. Assumes nothing.
-use mathlib.Core.Path.{_≡_, refl, ap, _∙_}
-use mathlib.Core.Bool.{true, false}
+-- A list of two NOPs: a chip that serves the first command only lacks demands 2 and 3. Assumes nothing.
+use mathlib.Core.Path.{_≡_, refl, sym, ap, _∙_}
+use mathlib.Core.Bool.{Bool, true, false, false≢true}
 use mathlib.Core.List.{List, [], _∷_}
 use Prim.Native.Nat.{ℕ, zero, suc, _+_, _^_, _≤_, _<_}
 use native.Mathlib.Omega.{arith}
@@ -12,22 +12,21 @@ use Rattle.memory.specs.declared.Offset.{Offset}
 use Rattle.memory.proofs.Bytes.{Bytes, bytes-nil, apply-bytes, digits-bytes}
 use Rattle.memory.proofs.Fields.{Apart, up, down}
 use Rattle.memory.proofs.Laws.{length-apply}
+use Rattle.scb.specs.Words.{bit}
 use Rattle.device.specs.Limits.{holdingSize, outgoingSize}
 use Rattle.device.specs.State.{cuWorks, ruWorks}
-use Rattle.device.specs.declared.Action.the-variants as action
-use Rattle.device.specs.declared.Cu.{Cu}
 use Rattle.device.specs.declared.Cu.the-variants as cu
 use Rattle.device.specs.declared.Device.{Device}
 use Rattle.phases.specs.Phases.{cuWord}
-use Rattle.image.specs.Image.{imageOf}
 use Rattle.image.specs.Ranges.{cuFits, inRange, Wide}
 use Rattle.image.proofs.Exact.{image-bytes}
 use Rattle.actions.specs.Setup.{setupOf}
 use Rattle.chip.specs.World.{World, worldOf}
-use Rattle.chip.specs.Call.{Call, attention, turn, ran}
+use Rattle.chip.specs.Call.{Call, attention}
 use Rattle.calls.specs.Calls.{Areas}
 use Rattle.progress.specs.Trace.{run}
 use Rattle.progress.specs.Machine.{Undisturbed}
+use Rattle.traces.specs.Areas.{shown}
 use Rattle.traces.specs.Event.{Event, call, step}
 use Rattle.lists.specs.Uses.{Listed}
 use Rattle.lists.specs.Unit.{machine}
@@ -35,16 +34,15 @@ use Rattle.lists.specs.Done.{Starts, enough}
 use Rattle.lists.specs.Done as lists
 use Rattle.lists.proofs.Tests.{keptb, kept-ok, clash-ok, calls-ok, idle-turn, idle-kept}
 use Rattle.closure.specs.Refusals.{FrameRight}
-use Rattle.kinds.specs.Chips.{Chip, Given, Handed, Meets, Act, does, eventsIn, chipRun}
+use Rattle.kinds.specs.Chips.{Chip, Given, Handed, Meets, does, eventsIn, chipRun}
 use Rattle.kinds.specs.Demands.{Acceptable, lentOf, Demand2}
-use Rattle.kinds.specs.Closed.{Right}
-use Rattle.kinds.specs.Lists.{Starting, turnsOf, AllReports, started}
+use Rattle.kinds.specs.Closed.{Right, Closed}
+use Rattle.kinds.specs.Lists.{Starting, turnsOf, AllReports}
 use Rattle.kinds.specs.Third.{AllAcceptable, AllRefused, ListRun, Demand3}
 use Rattle.kinds.specs.Kinds.{FirstOnly}
-use Rattle.kinds.proofs.Equal.{all-areas}
 use Rattle.kinds.proofs.Ours.{has-demand2}
-use Rattle.kinds.proofs.Third.{said-left}
-use Rattle.kinds.proofs.Witness.{zeros, heldArea, sentArea, zero-bytes, smallest, attending, turning, withUnit, wide-with, range-with}
+use Rattle.kinds.proofs.Third.{along, run-left, said-left}
+use Rattle.kinds.proofs.Witness.{zeros, heldArea, sentArea, zero-bytes, smallest, attending, withUnit, wide-with, range-with}
 
 -- ---- the memory: SCB at 30h with START and the CBL offset 40h; NOPs at 40h and, with EL, at 50h
 
@@ -130,10 +128,6 @@ starting =
       );
     }
 
-pub other-clear : wordAt two (place (record { 0 = 0 }) other 0) ≡ 0
-unfolding keptb
-other-clear = refl
-
 -- ---- what demand 3 asks of it: the list, 264 turns
 
 pub zero-reports : (n : ℕ) → AllReports (replicate n 0)
@@ -149,7 +143,7 @@ begun = step (call attention) waits
 abbrev pub pair : List ℕ
 pair = 0x40 ∷ 0x50 ∷ []
 
-abbrev turns-of : List ℕ → List Event
+abbrev pub turns-of : List ℕ → List Event
 turns-of rs = eventsIn (turnsOf rs)
 
 -- after four turns both are done, whatever the first line report
@@ -173,11 +167,11 @@ right-two =
       range = idle-range;
     }
 
-acceptable-turns : (rs : List ℕ) → AllReports rs → AllAcceptable (turns-of rs)
+pub acceptable-turns : (rs : List ℕ) → AllReports rs → AllAcceptable (turns-of rs)
 acceptable-turns [] p = tt
 acceptable-turns (r ∷ rs) p = (record { frame = bytes-nil; numbers = p .0 }, omega arith, acceptable-turns rs (p .1))
 
-refused-turns : (rs : List ℕ) → AllRefused (turnsOf rs)
+pub refused-turns : (rs : List ℕ) → AllRefused (turnsOf rs)
 refused-turns [] = tt
 refused-turns (r ∷ rs) = refused-turns rs
 
@@ -216,10 +210,6 @@ over-free : (r : ℕ) → ruWorks (over r .device .units .ru) ≡ false
 unfolding keptb
 over-free r = refl
 
-over-done : (r : ℕ) → wordAt (over r .memory) (place (record { 0 = 0 }) other 0) ≡ 0xA000
-unfolding keptb
-over-done r = refl
-
 pub two-run : (r : ℕ) → r < 2 ^ 16 → ListRun enough pair (turnsOf (r ∷ replicate 263 0)) waits
 unfolding keptb
 two-run r p =
@@ -241,156 +231,46 @@ two-run r p =
           };
     }
 
+-- the definitions set C in the second block
+clear-before : bit (wordAt two (place (record { 0 = 0 }) other 0)) 15 ≡ false
+unfolding keptb
+clear-before = refl
+
+set-after : bit (wordAt (over 0 .memory) (place (record { 0 = 0 }) other 0)) 15 ≡ true
+unfolding keptb
+set-after = refl
+
+pub begun-device : begun .device ≡ withUnit (cu.Waiting one)
+unfolding keptb
+begun-device = refl
+
 module _ (chip : Chip) where
-  -- ---- serves the first command only: demand 3. The second block's status is 0 before and would stay so, but becomes A000h
+  -- ---- serves the first command only: the second block would not get C, but gets it by the fourth turn
+  gets-c : FirstOnly chip → (reports : List ℕ) → AllReports reports
+      → chipRun chip (chip .first) (does (call attention) ∷ turnsOf reports) (shown waits) ≡ shown (run step (turns-of reports) begun)
+      → run step (turns-of reports) begun ≡ over 0 → ⊥
+  gets-c k reports p left ends =
+      let s = acceptable-two attention idle two (omega arith) two-size idle-wide idle-range in
+      let l = handed-two attention idle two attending two-bytes idle-wide in
+      let never = k .each (chip .first) idle two heldArea sentArea one (other ∷ []) reports s l starting p .0 in
+      let c : Areas → Bool = λ a. bit (wordAt (a .memory) (place (record { 0 = 0 }) other 0)) 15 in
+      false≢true (sym clear-before ∙ never (ap c (left ∙ ap shown ends) ∙ set-after))
+
+  -- demand 3
   pub first-only-lacks-3 : FirstOnly chip → Demand3 chip → ⊥
   first-only-lacks-3 k d =
       let reports : List ℕ = 0 ∷ replicate 263 0 in
-      let s = acceptable-two attention idle two (omega arith) two-size idle-wide idle-range in
-      let l = handed-two attention idle two attending two-bytes idle-wide in
-      let same = k .each (chip .first) idle two heldArea sentArea one (other ∷ []) reports s l starting (zero-reports 264) .0 in
       let said = d .list (chip .first) pair (turnsOf reports) waits (two-run 0 (omega arith)) .1 in
-      let left = said-left chip (does (call attention) ∷ turnsOf reports) (chip .first) waits said in
-      let stays : run step (turns-of reports) begun ≡ over 0 = idle-run (over 0) (over-idle 0) (over-free 0) (replicate 260 0) in
-      let ends =
-      ap (λ (a : Areas). wordAt (a .memory) (place (record { 0 = 0 }) other 0)) left
-      ∙ ap (λ (w : World). wordAt (w .memory) (place (record { 0 = 0 }) other 0)) stays
-      in
-      omega (arith, same, other-clear, ends, over-done 0)
+      gets-c k reports (zero-reports 264) (said-left chip (does (call attention) ∷ turnsOf reports) (chip .first) waits said)
+      (idle-run (over 0) (over-idle 0) (over-free 0) (replicate 260 0))
 
--- ---- and demand 2: the third turn after the start begins the second command
+  -- and demand 2, since every state that a call leaves is in range
+  pub first-only-lacks-2 : Closed → FirstOnly chip → Demand2 chip → ⊥
+  first-only-lacks-2 closed k q =
+      let reports : List ℕ = replicate 4 0 in
+      let acts = does (call attention) ∷ turnsOf reports in
+      let same = along closed chip q acts (chip .first) waits (attending, lit≤ tt, acceptable-turns reports (zero-reports 4)) right-two in
+      gets-c k reports (zero-reports 4) (run-left chip acts (chip .first) waits same) refl
 
-abbrev nop : Cu
-nop = cu.Acting (record { block = one; el = false; suspend = false; interrupt = false; pausing = false }) action.Nop
-
-abbrev m1 : List ℕ
-m1 = apply (wordTo 0x30 0x0200 ∷ wordTo 0x32 0 ∷ []) two
-
-abbrev m2 : List ℕ
-m2 = apply (wordTo 0x40 0x4000 ∷ []) m1
-
-abbrev m3 : List ℕ
-m3 = apply (wordTo 0x40 0xA000 ∷ []) m2
-
-abbrev m4 : List ℕ
-m4 = apply (wordTo 0x50 0x4000 ∷ []) m3
-
--- a call takes the one state and memory to the other, and leaves the zero areas
-record Goes (c : Call) (d : Device) (m : List ℕ) (d′ : Device) (m′ : List ℕ) : Type 0 where
-  pub device : ran c (worldOf d m heldArea sentArea) .outcome .device ≡ d′
-  pub memory : ran c (worldOf d m heldArea sentArea) .memory ≡ m′
-  pub holding : ran c (worldOf d m heldArea sentArea) .holding ≡ heldArea
-  pub outgoing : ran c (worldOf d m heldArea sentArea) .outgoing ≡ sentArea
-
-starts : Goes attention idle two (withUnit (cu.Waiting one)) m1
-unfolding keptb
-starts = record { device = refl; memory = refl; holding = refl; outgoing = refl }
-
-pub begun-device : begun .device ≡ withUnit (cu.Waiting one)
-begun-device = starts .device
-
-begins : Goes (turn 0) (withUnit (cu.Waiting one)) m1 (withUnit nop) m2
-unfolding keptb
-begins = record { device = refl; memory = refl; holding = refl; outgoing = refl }
-
-ends : Goes (turn 0) (withUnit nop) m2 (withUnit (cu.Waiting other)) m3
-unfolding keptb
-ends = record { device = refl; memory = refl; holding = refl; outgoing = refl }
-
-goes-on : ran (turn 0) (worldOf (withUnit (cu.Waiting other)) m3 heldArea sentArea) .memory ≡ m4
-unfolding keptb
-goes-on = refl
-
-begun-other : wordAt m4 (place (record { 0 = 0 }) other 0) ≡ 0x4000
-unfolding keptb
-begun-other = refl
-
-waiting-wide : (o : Offset) → o .0 < 65536 → Wide (withUnit (cu.Waiting o))
-unfolding cuWord
-waiting-wide o p = wide-with (cu.Waiting o) (record { at = p; kind = omega arith; size = omega arith; next = omega arith })
-
-waiting-range : (o : Offset) → inRange (withUnit (cu.Waiting o)) ≡ true
-unfolding cuFits
-waiting-range o = range-with (cu.Waiting o) refl
-
-nop-wide : Wide (withUnit nop)
-unfolding cuWord
-nop-wide = wide-with nop (record { at = omega arith; kind = omega arith; size = omega arith; next = omega arith })
-
-nop-range : inRange (withUnit nop) ≡ true
-unfolding cuFits
-nop-range = range-with nop refl
-
-bytes1 : Bytes m1
-bytes1 = apply-bytes (wordTo 0x30 0x0200 ∷ wordTo 0x32 0 ∷ []) two (digits-bytes 2 0x0200, (digits-bytes 2 0, tt)) two-bytes
-
-bytes2 : Bytes m2
-bytes2 = apply-bytes (wordTo 0x40 0x4000 ∷ []) m1 (digits-bytes 2 0x4000, tt) bytes1
-
-bytes3 : Bytes m3
-bytes3 = apply-bytes (wordTo 0x40 0xA000 ∷ []) m2 (digits-bytes 2 0xA000, tt) bytes2
-
-size1 : length m1 ≡ 8192
-size1 = length-apply (wordTo 0x30 0x0200 ∷ wordTo 0x32 0 ∷ []) two ∙ two-size
-
-size2 : length m2 ≡ 8192
-size2 = length-apply (wordTo 0x40 0x4000 ∷ []) m1 ∙ size1
-
-size3 : length m3 ≡ 8192
-size3 = length-apply (wordTo 0x40 0xA000 ∷ []) m2 ∙ size2
-
-module _ (chip : Chip) (q : Demand2 chip) where
-  -- a chip that has demand 2 goes the same way
-  leads : (s : chip .Inner) (c : Call) (cs : List Act) (d : Device) (m : List ℕ) (d′ : Device) (m′ : List ℕ) → Goes c d m d′ m′
-      → Acceptable c d m heldArea sentArea → Handed c (lentOf d m heldArea sentArea)
-      → chipRun chip s (does (call c) ∷ cs) (lentOf d m heldArea sentArea) ≡ chipRun chip (chip .next s c (lentOf d m heldArea sentArea)) cs (lentOf d′ m′ heldArea sentArea)
-  leads s c cs d m d′ m′ g k l =
-      let r = q .each s c d m heldArea sentArea k l in
-      ap (chipRun chip (chip .next s c (lentOf d m heldArea sentArea)) cs)
-      (all-areas (chip .calls s c (lentOf d m heldArea sentArea) .areas) m′ heldArea sentArea (imageOf d′) (r .memory ∙ g .memory) (r .holding ∙ g .holding)
-      (r .outgoing ∙ g .outgoing) (r .kept ∙ ap imageOf (g .device)))
-
-  first-three : (s : chip .Inner)
-      → wordAt (started chip s (turnsOf (0 ∷ 0 ∷ 0 ∷ [])) (lentOf idle two heldArea sentArea) .memory) (place (record { 0 = 0 }) other 0) ≡ 0x4000
-  first-three s =
-      let e1 =
-      leads s attention (turnsOf (0 ∷ 0 ∷ 0 ∷ [])) idle two (withUnit (cu.Waiting one)) m1 starts
-      (acceptable-two attention idle two (omega arith) two-size idle-wide idle-range) (handed-two attention idle two attending two-bytes idle-wide)
-      in
-      let s1 = chip .next s attention (lentOf idle two heldArea sentArea) in
-      let w1 = waiting-wide one (omega arith) in
-      let e2 =
-      leads s1 (turn 0) (turnsOf (0 ∷ 0 ∷ [])) (withUnit (cu.Waiting one)) m1 (withUnit nop) m2 begins
-      (acceptable-two (turn 0) (withUnit (cu.Waiting one)) m1 (omega arith) size1 w1 (waiting-range one))
-      (handed-two (turn 0) (withUnit (cu.Waiting one)) m1 turning bytes1 w1)
-      in
-      let s2 = chip .next s1 (turn 0) (lentOf (withUnit (cu.Waiting one)) m1 heldArea sentArea) in
-      let e3 =
-      leads s2 (turn 0) (turnsOf (0 ∷ [])) (withUnit nop) m2 (withUnit (cu.Waiting other)) m3 ends
-      (acceptable-two (turn 0) (withUnit nop) m2 (omega arith) size2 nop-wide nop-range)
-      (handed-two (turn 0) (withUnit nop) m2 turning bytes2 nop-wide)
-      in
-      let s3 = chip .next s2 (turn 0) (lentOf (withUnit nop) m2 heldArea sentArea) in
-      let w3 = waiting-wide other (omega arith) in
-      let last =
-      q .each s3 (turn 0) (withUnit (cu.Waiting other)) m3 heldArea sentArea
-      (acceptable-two (turn 0) (withUnit (cu.Waiting other)) m3 (omega arith) size3 w3 (waiting-range other))
-      (handed-two (turn 0) (withUnit (cu.Waiting other)) m3 turning bytes3 w3)
-      in
-      let e : started chip s (turnsOf (0 ∷ 0 ∷ 0 ∷ [])) (lentOf idle two heldArea sentArea) .memory ≡ m4 =
-      ap (λ (a : Areas). a .memory) (e1 ∙ e2 ∙ e3) ∙ last .memory ∙ goes-on
-      in
-      ap (λ (m : List ℕ). wordAt m (place (record { 0 = 0 }) other 0)) e ∙ begun-other
-
-module _ (chip : Chip) where
-  pub first-only-lacks-2 : FirstOnly chip → Demand2 chip → ⊥
-  first-only-lacks-2 k d =
-      let same =
-      k .each (chip .first) idle two heldArea sentArea one (other ∷ []) (0 ∷ 0 ∷ 0 ∷ [])
-      (acceptable-two attention idle two (omega arith) two-size idle-wide idle-range)
-      (handed-two attention idle two attending two-bytes idle-wide) starting (zero-reports 3) .0
-      in
-      omega (arith, same, other-clear, first-three chip d (chip .first))
-
-  pub no-first-only : FirstOnly chip → Meets chip → ⊥
-  no-first-only k p = first-only-lacks-2 k (has-demand2 chip p)
+  pub no-first-only : Closed → FirstOnly chip → Meets chip → ⊥
+  no-first-only closed k p = first-only-lacks-2 closed k (has-demand2 chip p)

@@ -17,6 +17,7 @@ use Rattle.device.specs.declared.Counter.{Counter}
 use Rattle.device.specs.declared.Cu.{Cu}
 use Rattle.device.specs.declared.Cu.the-variants as cu
 use Rattle.device.specs.declared.Device.{Device}
+use Rattle.device.specs.declared.Frame.{Frame}
 use Rattle.device.specs.declared.Units.{Units}
 use Rattle.numerals.specs.Places.{bytesFrom}
 use Rattle.packed.specs.Record.{setupAt}
@@ -36,7 +37,7 @@ use Rattle.kinds.specs.Chips.{Chip, Handed, Act, does, eventsIn, chipRun
 use Rattle.kinds.specs.Closed.{Right}
 use Rattle.kinds.specs.Demands.{Demand1, Acceptable, lentOf, Demand2}
 use Rattle.kinds.specs.Lists.{All, Starting, turnsOf, AllReports, started}
-use Rattle.kinds.specs.Third.{AllAcceptable, ListRun, Demand3}
+use Rattle.kinds.specs.Third.{AllAcceptable, ListRun, HeldRun, Demand3}
 
 -- at every call that is not to be refused, something is so of what is lent and what is left; a chip of which it is so at every call is of the
 -- kind too
@@ -70,11 +71,25 @@ InWork (cu.Sending b w) o = b .block ≡ o
 InWork (cu.Ending b n) o = b .block ≡ o
 InWork (cu.Failing b) o = b .block ≡ o
 
--- a turn sets C in the block of the begun command
-pub record Completes (d : Device) (m : List ℕ) (r : Called) (o : Offset) : Type 0 where
-  pub begun : InWork (d .units .cu) o
+-- a block that is at hand: of a begun command, or the one before which the unit waits or is suspended
+abbrev pub AtHand : Cu → Offset → Type 0
+AtHand cu.Idle o = ⊥
+AtHand (cu.Suspended next) o = next ≡ o
+AtHand (cu.Waiting next) o = next ≡ o
+AtHand (cu.Acting b a) o = b .block ≡ o
+AtHand (cu.Sending b w) o = b .block ≡ o
+AtHand (cu.Ending b n) o = b .block ≡ o
+AtHand (cu.Failing b) o = b .block ≡ o
+
+-- a turn sets C in a block that is said to be the command unit's
+pub record SetsC (Of : Cu → Offset → Type 0) (d : Device) (m : List ℕ) (r : Called) (o : Offset) : Type 0 where
+  pub block : Of (d .units .cu) o
   pub before : bit (wordAt m (place (d .units .base) o blockStatusAt)) 15 ≡ false
   pub after : bit (wordAt (r .areas .memory) (place (d .units .base) o blockStatusAt)) 15 ≡ true
+
+-- in that of the begun command
+abbrev pub Completes : Device → List ℕ → Called → Offset → Type 0
+Completes d m r o = SetsC InWork d m r o
 
 -- at every such turn, something is so
 abbrev pub AtCompletion : (chip : Chip) → (Device → List ℕ → Offset → Called → Type 0) → Type 0
@@ -105,8 +120,9 @@ pub record MarksOnly (chip : Chip) : Type 0 where
   pub tdr : MeasuresNothing chip
   pub sending : SendsNothing chip
 
--- some completions are enough: at one, what the action is to leave is not there, be it the settings, TDR's word, the sent length or the frame's bytes
--- in the outgoing area. What was left as it was, where the definitions change it, is of this sort
+-- one marking is enough, be the command begun or not: what the action is to leave is not there, be it the settings, TDR's word, the sent length or the
+-- frame's bytes in the outgoing area; or C is not due, as at a begin turn, at a buffer turn and at a turn of the receive unit. What was left as it was,
+-- where the definitions change it, is of this sort
 pub data Undone (d : Device) (o : Offset) (said : Ran) (r : Called) : Type 0 where
   settingsUndone : (setupIn (r .areas .kept) ≡ setupIn (imageOf (said .outcome .device)) → ⊥) → Undone d o said r
   wordUndone : (wordAt (r .areas .memory) (place (d .units .base) o argumentAt) ≡ wordAt (said .memory) (place (d .units .base) o argumentAt) → ⊥)
@@ -114,6 +130,7 @@ pub data Undone (d : Device) (o : Offset) (said : Ran) (r : Called) : Type 0 whe
   lengthUndone : (sentLength (r .answer) ≡ sentLength (answerNumber (said .outcome .answer)) → ⊥) → Undone d o said r
   frameUndone : (take (sentLength (answerNumber (said .outcome .answer))) (r .areas .outgoing)
       ≡ take (sentLength (answerNumber (said .outcome .answer))) (said .outgoing) → ⊥) → Undone d o said r
+  notDue : bit (wordAt (said .memory) (place (d .units .base) o blockStatusAt)) 15 ≡ false → Undone d o said r
 
 pub record MarksSome (chip : Chip) : Type 0 where
   pub inner : chip .Inner
@@ -125,16 +142,16 @@ pub record MarksSome (chip : Chip) : Type 0 where
   pub block : Offset
   pub acceptable : Acceptable (turn report) device memory holding outgoing
   pub lent : Handed (turn report) (lentOf device memory holding outgoing)
-  pub completes : Completes device memory (chip .calls inner (turn report) (lentOf device memory holding outgoing)) block
+  pub marks : SetsC AtHand device memory (chip .calls inner (turn report) (lentOf device memory holding outgoing)) block
   pub undone : Undone device block (ran (turn report) (worldOf device memory holding outgoing))
       (chip .calls inner (turn report) (lentOf device memory holding outgoing))
 
--- ---- one that serves the first command only: whatever the turns after the start, the status of every block after the first stays as it was
+-- ---- one that serves the first command only: whatever the turns after the start, no block after the first gets C. It may begin the second
 pub record FirstOnly (chip : Chip) : Type 0 where
   pub each : (s : chip .Inner) (d : Device) (m h out : List ℕ) (b : Offset) (bs : List Offset) (reports : List ℕ)
       → Acceptable attention d m h out → Handed attention (lentOf d m h out) → Starting d m b bs → AllReports reports
-      → All (λ o. wordAt (started chip s (turnsOf reports) (lentOf d m h out) .memory) (place (d .units .base) o blockStatusAt)
-      ≡ wordAt m (place (d .units .base) o blockStatusAt)) bs
+      → All (λ o. bit (wordAt (started chip s (turnsOf reports) (lentOf d m h out) .memory) (place (d .units .base) o blockStatusAt)) 15 ≡ true
+      → bit (wordAt m (place (d .units .base) o blockStatusAt)) 15 ≡ true) bs
 
 -- ---- one that invents a counter or edge: at some call that is not to be refused
 
@@ -182,6 +199,17 @@ pub record InventsAlong (chip : Chip) : Type 0 where
       (chipAnswers chip inner (does (call attention) ∷ acts) (shown world))
       (run step (call attention ∷ eventsIn acts) world) (answersOf (call attention ∷ eventsIn acts) world)
 
+-- the same while a frame is held, as demand 3 has it, amid the same
+pub record InventsWhileHeld (chip : Chip) : Type 0 where
+  pub inner : chip .Inner
+  pub frame : Frame
+  pub acts : List Act
+  pub more : List Act
+  pub world : World
+  pub comes : HeldRun 132 frame (acts ++ more) world
+  pub invented : InventedAlong (world .device) (chipRun chip inner acts (shown world)) (chipAnswers chip inner acts (shown world))
+      (run step (eventsIn acts) world) (answersOf (eventsIn acts) world)
+
 -- the same along any trace of calls and host writes, from any state in range, whatever it does at calls that are to be refused: after it a counter of
 -- the SCB, where that was or where it is, or along it an edge, is not what the definitions leave
 pub record InventsInTrace (chip : Chip) : Type 0 where
@@ -195,7 +223,7 @@ pub record InventsInTrace (chip : Chip) : Type 0 where
   pub invented : InventedAlong scb (chipRun chip inner acts (shown world)) (chipAnswers chip inner acts (shown world))
       (run step (eventsIn acts) world) (answersOf (eventsIn acts) world)
 
--- ---- the list: a chip of any of these kinds; of one that marks commands complete, a third is enough, and so is one completion
+-- ---- the list: a chip of any of these kinds; of one that marks commands complete, a third is enough, and so is one marking
 
 pub data Wrong (chip : Chip) : Type 0 where
   refuses : RefusesAll chip → Wrong chip
@@ -209,6 +237,7 @@ pub data Wrong (chip : Chip) : Type 0 where
   firstOnly : FirstOnly chip → Wrong chip
   inventing : Invents chip → Wrong chip
   inventingAlong : InventsAlong chip → Wrong chip
+  inventingWhileHeld : InventsWhileHeld chip → Wrong chip
   inventingInTrace : InventsInTrace chip → Wrong chip
 
 -- the demand that document 01 names with each
@@ -224,4 +253,5 @@ LacksNamed chip (markingSome k) = Demand2 chip → ⊥
 LacksNamed chip (firstOnly k) = (Demand2 chip → ⊥) × (Demand3 chip → ⊥)
 LacksNamed chip (inventing k) = Demand2 chip → ⊥
 LacksNamed chip (inventingAlong k) = (Demand2 chip → ⊥) × (Demand3 chip → ⊥)
+LacksNamed chip (inventingWhileHeld k) = (Demand2 chip → ⊥) × (Demand3 chip → ⊥)
 LacksNamed chip (inventingInTrace k) = Demand2 chip → ⊥

@@ -4,5 +4,6 @@ pub mod Demands
 pub mod Closed
 pub mod Lists
 pub mod Third
+pub mod Frames
 pub mod Kinds
 pub mod Spoiled

@@ -20,7 +20,7 @@ use Rattle.device.specs.declared.Cu.the-variants as cu
 use Rattle.device.specs.declared.Device.{Device}
 use Rattle.packed.specs.Record.{setupAt}
 use Rattle.packed.specs.SetUp.{setupSize}
-use Rattle.actions.specs.Block.{argumentAt}
+use Rattle.actions.specs.Block.{blockStatusAt, argumentAt}
 use Rattle.control.specs.Obey.{ofScb}
 use Rattle.chip.specs.Call.{Call, reset, attention, arrive, turn}
 use Rattle.chip.specs.Turn.{servedOf, isCommand, turnOf}
@@ -172,9 +172,13 @@ measuredIn (cu.Sending g w) = []
 measuredIn (cu.Ending g n) = []
 measuredIn (cu.Failing g) = []
 
+-- a word at a field of some blocks
+abbrev pub wordsTo : RealAddress → (field : ℕ) → (Offset → ℕ) → List Offset → List Write
+wordsTo base field value [] = []
+wordsTo base field value (o ∷ os) = wordTo (place base o field) (value o) ∷ wordsTo base field value os
+
 abbrev pub wordsBack : RealAddress → List ℕ → List Offset → List Write
-wordsBack base m [] = []
-wordsBack base m (o ∷ os) = wordTo (place base o argumentAt) (wordAt m (place base o argumentAt)) ∷ wordsBack base m os
+wordsBack base m os = wordsTo base argumentAt (λ o. wordAt m (place base o argumentAt)) os
 
 abbrev pub unmeasured : Areas → Called → Called
 unmeasured a r =
@@ -184,18 +188,39 @@ unmeasured a r =
 abbrev pub ByteOfWord : ℕ → ℕ → ℕ → Type 0
 ByteOfWord n at i = (i ≡ at % n) ⊎ (i ≡ (at + 1) % n)
 
-abbrev pub ByteOfWords : ℕ → RealAddress → List Offset → ℕ → Type 0
-ByteOfWords n base [] i = ⊥
-ByteOfWords n base (o ∷ os) i = ByteOfWord n (place base o argumentAt) i ⊎ ByteOfWords n base os i
+abbrev pub ByteOfWords : ℕ → RealAddress → (field : ℕ) → List Offset → ℕ → Type 0
+ByteOfWords n base field [] i = ⊥
+ByteOfWords n base field (o ∷ os) i = ByteOfWord n (place base o field) i ⊎ ByteOfWords n base field os i
+
+abbrev pub OfWords : (field : ℕ) → (Cu → List Offset) → Areas → Piece → Type 0
+OfWords field blocks a theNumber = ⊥
+OfWords field blocks a theLength = ⊥
+OfWords field blocks a theEdge = ⊥
+OfWords field blocks a (memoryByte i) =
+    let u = unitsIn (a .kept) in ByteOfWords (length (a .memory)) (u .base) field (blocks (u .cu)) i
+OfWords field blocks a (holdingByte i) = ⊥
+OfWords field blocks a (outgoingByte i) = ⊥
+OfWords field blocks a (recordByte i) = ⊥
 
 abbrev pub OfWord : Areas → Piece → Type 0
-OfWord a theNumber = ⊥
-OfWord a theLength = ⊥
-OfWord a theEdge = ⊥
-OfWord a (memoryByte i) = ByteOfWords (length (a .memory)) (unitsIn (a .kept) .base) (measuredIn (unitsIn (a .kept) .cu)) i
-OfWord a (holdingByte i) = ⊥
-OfWord a (outgoingByte i) = ⊥
-OfWord a (recordByte i) = ⊥
+OfWord a p = OfWords argumentAt measuredIn a p
+
+-- the status of the block before which the unit waits is A000h, be the turn its begin turn or the receive unit's
+abbrev pub waitedIn : Cu → List Offset
+waitedIn cu.Idle = []
+waitedIn (cu.Suspended o) = []
+waitedIn (cu.Waiting o) = o ∷ []
+waitedIn (cu.Acting g a) = []
+waitedIn (cu.Sending g w) = []
+waitedIn (cu.Ending g n) = []
+waitedIn (cu.Failing g) = []
+
+abbrev pub markedAtOnce : Areas → Called → Called
+markedAtOnce a r =
+    let u = unitsIn (a .kept) in withMemory (apply (wordsTo (u .base) blockStatusAt (λ o. 0xA000) (waitedIn (u .cu))) (r .areas .memory)) r
+
+abbrev pub OfMark : Areas → Piece → Type 0
+OfMark a p = OfWords blockStatusAt waitedIn a p
 
 -- length 0 is told
 abbrev pub unsent : Called → Called
@@ -242,6 +267,9 @@ markingOnly = plain (spoiling always unacted)
 
 abbrev pub markingAtSeven : Chip
 markingAtSeven = plain (spoiling atSeven unacted)
+
+abbrev pub markingAtOnce : Chip
+markingAtOnce = plain (spoiling atSeven markedAtOnce)
 
 abbrev pub inventing : Chip
 inventing = plain (spoiling atSeven (λ a. turnedOver))
