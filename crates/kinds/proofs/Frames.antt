@@ -69,7 +69,7 @@ frames-said es w a r =
       calls = fates.all-fates (deedsIn es) w (r .range);
       one-fate = λ k h. fates.exactly-one-fate w (deedsIn es) k (r .range) (unaltered es) h;
       accounted = fates.conserved (deedsIn es) (opening w) (r .range);
-      fated = fates.all-fated (deedsIn es) (opening w) (unaltered es);
+      fated = fates.all-fated (deedsIn es) (opening w) (r .range) (unaltered es);
       stored =
           λ before bs v c meanwhile report after e.
           data-said before bs v c meanwhile report (meanwhile ++ (call (turn report) ∷ after)) w (subst AllAcceptable e a) r;

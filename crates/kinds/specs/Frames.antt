@@ -60,9 +60,10 @@ pub record FramesAsSaid (es : List Event) (w : World) : Type 0 where
   -- "only an abort, a reset or the host's altering of the record may lose a held one": one that was held, under its number, has exactly one fate
   -- or is held still
   pub one-fate : (k : ℕ) → 0 < times k (heldOver es w) → timesFated k (endedOver es w) + times k (stillAfter es w) ≡ 1
-  -- frame by frame and in order: those that ended and those that are held still are those that were held; and each end is by a held frame's fate
+  -- frame by frame and in order: those that ended and those that are held still are those that were held; and each end is by a held frame's fate, lost
+  -- exactly at a call that aborts or resets
   pub accounted : namesOf (endedOver es w) ++ stillAfter es w ≡ heldOver es w
-  pub fated : AllProper ⊥ (endedOver es w)
+  pub fated : AllProper ⊥ (deedsIn es) (opening w)
   -- "held to be stored": what the buffers get of one that arrived, and what its end writes, are its own bytes, while the host keeps the holding area
   pub stored : (before : List Event) (bs : List ℕ) (v : ℕ) (c : Counter) (meanwhile : List Event) (report : ℕ) (after : List Event)
       → es ≡ before ++ (call (arrive bs v) ∷ (meanwhile ++ (call (turn report) ∷ after)))
