@@ -1,6 +1,6 @@
 -- Demand 1: each number is given exactly when the table says, and a refusal changes nothing lent. 01, "Calls, lent areas, refusals". First any
 -- list of rows, then each row's test, then the calls. Assumes nothing.
-use mathlib.Core.Path.{_≡_, refl, sym, ap, _∙_, subst}
+use mathlib.Core.Path.{_≡_, refl, sym, ap, ap₂, _∙_, subst}
 use mathlib.Core.Bool.{Bool, true, false, not, cond, true≢false, false≢true}
 use mathlib.Core.List.{List, [], _∷_}
 use mathlib.Core.Logic.{_⊎_, inl, inr}
@@ -244,3 +244,8 @@ untouched reset a h = reset-untouched a (eqb (length (a .kept)) recordSize) h
 untouched attention a h = run-untouched a attentionOf (number-accepted attention) (refusalOf a []) h
 untouched (arrive f v) a h = run-untouched a (λ w. arrivalOf w f v) (number-accepted (arrive f v)) (refusalOf a f) h
 untouched (turn report) a h = run-untouched a (λ w. turnOf w report) (number-accepted (turn report)) (refusalOf a []) h
+
+-- so all of it is its number, and what was lent
+pub refused-whole : (c : Call) (a : Areas) → isRefused (called c a) ≡ true → called c a ≡ record { answer = number (called c a .answer); areas = a }
+refused-whole c a h =
+    let u = untouched c a h in ap₂ (λ (n : ℕ) (b : Areas). record { answer = n; areas = b }) (u .whole) (u .areas)

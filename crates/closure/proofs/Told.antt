@@ -27,7 +27,7 @@ use Rattle.traces.specs.Areas.{FrameBytes, AreBytes, Shows}
 use Rattle.traces.specs.Driven.{Lending, refusedAt, leftBy, left, hostOf, eventsBy, eventsOf, Drive, calls, runs, takenIn, leftDriven, turnsFrom, unrolled, Fair, AllFair, AllFairDrive}
 use Rattle.traces.specs.Told.{frameOf, framesAlong, frameTold, framesTold, framesDriven, edgesAlong, edgesTold, edgesDriven, Said, AllSaid}
 use Rattle.closure.specs.Turns.{turnsOn, lastAnswer, sent, edged, AsTurns}
-use Rattle.closure.proofs.Refusals.{untouched}
+use Rattle.closure.proofs.Refusals.{untouched, refused-whole}
 use Rattle.closure.proofs.Carried.{carry, answer-parts, shows-world}
 use Rattle.closure.proofs.Turns.{run-is-turns, run-accepted, taken-accepted}
 use Rattle.closure.proofs.Driven.{lent-shows, next-shows}
@@ -67,7 +67,7 @@ module _ (May : Event → World → Type 0) where
   said-by : (x : Bool) (l : Lending) (ls : List Lending) (a : Areas) (w : World) → refusedAt l ≡ x → Fair May l a → Shows a w
       → AllFair May ls (leftBy x l a) → ((b : Areas) (v : World) → AllFair May ls b → Shows b v → AllSaid ls v)
       → Said x l w × AllSaid ls (run step (eventsBy x l []) w)
-  said-by true l ls a w e k s m f = (untouched (l .made) (l .lent) e .areas, f a w m s)
+  said-by true l ls a w e k s m f = (refused-whole (l .made) (l .lent) e, f a w m s)
   said-by false l ls a w e k s m f =
       let h = k e in (
         said-shown l (step (hostOf (l .lent)) w) (h .bytes) (lent-shows May l a w h s) e (h .frame),

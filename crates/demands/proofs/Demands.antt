@@ -70,7 +70,7 @@ use Rattle.frames.proofs.DataWitness as data-run
 use Rattle.frames.proofs.DataBytesWitness as data-bytes-run
 use Rattle.frames.proofs.BytesWitness as bytes-run
 use Rattle.lists.specs.Uses.{Listed, firstOf}
-use Rattle.lists.specs.Done.{Starts, Resumes, enough, Premises, Done}
+use Rattle.lists.specs.Done.{Starts, Resumes, Started, enough, Premises, Done}
 use Rattle.lists.specs.OnBytes.{PremisesOnBytes, DoneOnBytes, PremisesByRuns, DoneByRuns}
 use Rattle.lists.proofs.Whole as whole
 use Rattle.lists.proofs.Bytes as list-bytes
@@ -165,8 +165,8 @@ a-record-that-a-run-left-is-accepted = run-of-turns.run-again
 pub as-document-01-says : (chip : Chip) → Meets chip → Demand2 chip
 as-document-01-says = demanded.has-demand2
 
--- and of every such chip the sentences on frames, which follow: in its own run, whatever comes, from any state in range on, what becomes of every
--- arrival, every held frame and every stored byte is what is said below
+-- and of every such chip the sentences on frames, which follow: in its own run, whatever comes while the host keeps the record, from any state in range
+-- on, what becomes of every arrival and of every held frame, and what is stored of those that arrive in it, is what is said below
 pub as-document-01-says-of-frames : (chip : Chip) → Meets chip → Demand2Frames chip
 as-document-01-says-of-frames = chip-frames.has-demand2-frames
 
@@ -369,7 +369,7 @@ pub a-list-is-done : (bs : List ℕ) (es : List Event) (w : World) → Starts w
     → Done bs es (step (call attention) w)
 a-list-is-done = whole.attention-list-done
 
--- an attention starts a list by RESUME too, from the block before which the unit was suspended
+-- the sentence can be read of START alone. The same of RESUME, which goes on at the block before which the unit was suspended
 pub a-resumed-list-is-done : (bs : List ℕ) (es : List Event) (w : World) → Resumes (firstOf bs) w
     → Listed (step (call attention) w .device .units .base) (step (call attention) w .memory) bs
     → Premises DuringList enough bs es (step (call attention) w)
@@ -442,7 +442,7 @@ no-fewer-for-a-frame = held-exact.exact
 pub as-demand-3-says : (chip : Chip) → Meets chip → Demand3 chip
 as-demand-3-says = closing.meets-demand3
 
--- the same of a list that is resumed, which the sentence does not speak of
+-- the same of a list that is resumed
 pub as-demand-3-says-of-resumed-lists : (chip : Chip) → Meets chip → (s : chip .Inner) (bs : List ℕ) (acts : List Act) (w : World)
     → ResumedRun enough bs acts w
     → Done bs (eventsIn acts) (step (call attention) w) × AsSaid chip s (does (call attention) ∷ acts) w
@@ -584,7 +584,7 @@ bits-read-as-joined = bit-fields.bits-of-joined
 pub bits-below-stay : (w at v k bits : ℕ) → bits + k ≤ at → bitsAt (joined w at v) k bits ≡ bitsAt w k bits
 bits-below-stay = bit-fields.bits-kept
 
--- ---- no premise is empty: each is met by a run that is computed
+-- ---- the premises are met, each by a run that is computed
 
 -- demand 2: 60 bytes arrive, and 46 of them get to three buffers, or 40 to two
 pub a-frame-whose-data-is-stored : data-run.Seen 0xA0 (replicate 4 (call (turn 0))) 46
@@ -606,9 +606,9 @@ pub frames-on-bytes : AllGiven bytes-run.calls
 frames-on-bytes = (bytes-run.all-given, bytes-run.its-story)
 
 -- demand 3, first half: a Transmit, a TDR and a NOP, while two frames are stored and the host writes; on bytes, with a refused call; and by runs
-pub a-list-that-is-run : Starts list-run.before × Premises DuringList enough list-run.three list-run.trace list-run.begun
+pub a-list-that-is-run : Starts list-run.before × Started list-run.three list-run.begun × Premises DuringList enough list-run.three list-run.trace list-run.begun
     × Done list-run.three list-run.trace list-run.begun
-a-list-that-is-run = (list-run.starts, list-run.premises, list-run.witness-done)
+a-list-that-is-run = (list-run.starts, list-run.is-started, list-run.premises, list-run.witness-done)
 
 pub a-list-that-is-run-on-bytes :
     let a = called attention list-bytes-run.first .areas in
@@ -626,9 +626,11 @@ a-list-that-is-run-by-runs = (list-drives.runs-met, list-drives.runs-done)
 pub a-list-at-an-unruly-start : suspended-run.Unruly
 a-list-at-an-unruly-start = suspended-run.unruly
 
-pub a-list-that-is-resumed : Resumes 0x20 resumed-run.before × Premises DuringList enough resumed-run.behind resumed-run.trace resumed-run.begun
+pub a-list-that-is-resumed : Resumes 0x20 resumed-run.before
+    × Listed (resumed-run.begun .device .units .base) (resumed-run.begun .memory) resumed-run.behind
+    × Premises DuringList enough resumed-run.behind resumed-run.trace resumed-run.begun
     × Done resumed-run.behind resumed-run.trace resumed-run.begun
-a-list-that-is-resumed = (resumed-run.resumes, resumed-run.premises, resumed-run.resumed-done)
+a-list-that-is-resumed = (resumed-run.resumes, resumed-run.listed, resumed-run.premises, resumed-run.resumed-done)
 
 -- second half: among refusals, with another memory and other areas at each call
 pub a-frame-that-is-settled :

@@ -51,7 +51,7 @@ use Rattle.frames.specs.Arrival.{RightLengths, unitOf, judgedAs, shortBy
 use Rattle.frames.specs.Arrival as arrival
 use Rattle.frames.specs.Held.{loses, isServed, ends, endIsNext, begunUnit, bufferIn, dataTo, filledUnit, Serves, Waits, untouched, suspends, Meanwhile, served, unserved}
 use Rattle.frames.specs.Held as held
-use Rattle.frames.specs.Data.{Staying, fillsBy, fillsAt, fillsAlong, together, AllMeanwhile, dataWithin, dataOf, Got, all, beginning, Delivered, ArrivedDelivered, EndLent, upTo, AsSaid, DeliveredOnBytes, ArrivedOnBytes}
+use Rattle.frames.specs.Data.{Staying, fillsBy, fillsAt, fillsAlong, together, AllMeanwhile, dataWithin, dataOf, Got, all, beginning, Delivered, ArrivedDelivered, EndLent, upTo, SaidToTheEnd, DeliveredOnBytes, ArrivedOnBytes}
 use Rattle.frames.proofs.Arrival.{arrival-fate}
 use Rattle.frames.proofs.Held.{HeldFate, stays, closing, lacking, lost, held-fate}
 use Rattle.frames.proofs.Sound.{Sound, in-range-sound, sound-initialised, call-sound, good-sound, bad-sound}
@@ -379,7 +379,7 @@ run-append (e ∷ es) fs w = run-append es fs (step e w)
 record Driven (b : Areas) (w : World) (ls : List Lending) (report : ℕ) : Type 0 where
   may : AllMay Staying step (upTo ls b) w
   ends : ends (turn report) (run step (upTo ls b) w) ≡ true
-  calls : AsSaid ls b w report
+  calls : SaidToTheEnd ls b w report
 
 driven : (a b : Areas) (w : World) (ls : List Lending) (report : ℕ) → Shows a w → AllFair Staying ls a → EndLent b report (run left ls a)
     → ends (turn report) (worldSaid b) ≡ true → Driven b w ls report

@@ -25,7 +25,7 @@ use Rattle.traces.specs.Told.{Said}
 use Rattle.closure.specs.Carried.{Carried}
 use Rattle.closure.specs.Refusals.{TakesAll}
 use Rattle.closure.specs.Turns.{turnsOn}
-use Rattle.closure.proofs.Refusals.{holds-of, foreign-holds, untouched}
+use Rattle.closure.proofs.Refusals.{holds-of, foreign-holds, refused-whole}
 use Rattle.closure.proofs.Carried.{carry, carry-reset, not-refused, lent-kept, holds-decoded, holds-back}
 use Rattle.closure.proofs.Turns.{run-accepted, run-is-turns, taken-accepted, turn-again}
 use Rattle.frames.specs.Fates.{Deed, event, alter, opening, worldAfter, namesOf, times, timesFated, timesAltered, isUnaltered, AllProper, AllFates}
@@ -145,7 +145,7 @@ along-by : (x : Bool) (l : Lending) (ls : List Lending) (a : Areas) (w : World) 
     × Shows (run left ls (leftBy x l a)) (run worldAfter (deedsBy x l a ++ deedsOf ls (leftBy x l a)) w)
 along-by true l ls a w e g s f =
     let rest = f a w s in
-    ((untouched (l .made) (l .lent) e .areas, rest .0), rest .1)
+    ((refused-whole (l .made) (l .lent) e, rest .0), rest .1)
 along-by false l ls a w e g s f =
     let b = g e in
     let v : World = run worldAfter (altering l a) w in

@@ -119,7 +119,7 @@ upTo ls b = eventsOf ls ++ (hostOf b ∷ [])
 
 -- each call on the way, refused or not, answers and leaves what the definitions say, so that the buffers' bytes are those that are said; and so does the
 -- turn that ends it, which is lent what shows the state
-pub record AsSaid (ls : List Lending) (b : Areas) (w : World) (report : ℕ) : Type 0 where
+pub record SaidToTheEnd (ls : List Lending) (b : Areas) (w : World) (report : ℕ) : Type 0 where
   pub said : AllSaid ls w
   pub shows : Shows b (run step (upTo ls b) w)
   pub last : called (turn report) b ≡ onBytes (ran (turn report) (run step (upTo ls b) w))
@@ -127,10 +127,10 @@ pub record AsSaid (ls : List Lending) (b : Areas) (w : World) (report : ℕ) : T
 -- of the frame that is held at first
 pub record DeliveredOnBytes (f : Frame) (whole : List ℕ) (ls : List Lending) (b : Areas) (w : World) (report : ℕ) : Type 0 where
   pub delivered : Delivered f whole (upTo ls b) w report
-  pub calls : AsSaid ls b w report
+  pub calls : SaidToTheEnd ls b w report
 
 -- of the bytes that a call on the areas a brings, w being the world before it
 pub record ArrivedOnBytes (bs : List ℕ) (v : ℕ) (a : Areas) (ls : List Lending) (b : Areas) (w : World) (report : ℕ) : Type 0 where
   pub arrival : called (arrive bs v) a ≡ onBytes (arrivalOf w bs v)
   pub delivered : ArrivedDelivered bs (upTo ls b) (step (call (arrive bs v)) w) report
-  pub calls : AsSaid ls b (step (call (arrive bs v)) w) report
+  pub calls : SaidToTheEnd ls b (step (call (arrive bs v)) w) report

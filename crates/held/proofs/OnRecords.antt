@@ -41,7 +41,7 @@ use Rattle.traces.specs.Areas.{FrameBytes, AreBytes, unitsBy, unitsIn, worldSai
 use Rattle.traces.specs.Driven.{Lending, lending, refusedAt, leftBy, left, isTaken, Lends, Fair, AllFair}
 use Rattle.held.specs.Held.{framesIn, isToHold}
 use Rattle.held.specs.Held as held
-use Rattle.held.specs.OnRecords.{framesKept, fatesBy, fatesAt, HeldAlong, MeanwhileBy, AllMeanwhile, Settled, Within}
+use Rattle.held.specs.OnRecords.{framesKept, fatesBy, fatesAt, HeldAlong, MeanwhileBy, AllMeanwhileOn, Settled, Within}
 use Rattle.progress.proofs.Trace.{may-before}
 use Rattle.progress.proofs.Holder.{ends-within}
 use Rattle.held.proofs.Service.{leftOf, left-positive, left-most}
@@ -302,7 +302,7 @@ meanwhile-by false f l a e y h g =
     let none = sym (ap (λ (q : Bool). fatesBy q (l .made) (worldSaid (l .lent))) e) ∙ g in
     (t .leaves, meanwhile (l .made) (worldSaid (l .lent)) f (z .may) now none)
 
-all-meanwhile : (f : Frame) (ls : List Lending) (a : Areas) → AllFair WhileHeld ls a → HeldAlong f ls a → AllMeanwhile f ls
+all-meanwhile : (f : Frame) (ls : List Lending) (a : Areas) → AllFair WhileHeld ls a → HeldAlong f ls a → AllMeanwhileOn f ls
 all-meanwhile f [] a y h = tt
 all-meanwhile f (l ∷ ls) a y h =
     (meanwhile-by (refusedAt l) f l a refl (y .0) (h .0) (h .1), all-meanwhile f ls (left l a) (y .1) (h .2))

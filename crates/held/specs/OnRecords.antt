@@ -43,9 +43,9 @@ MeanwhileBy true f l = Unit {0}
 MeanwhileBy false f l =
     (called (l .made) (l .lent) ≡ onBytes (ran (l .made) (worldSaid (l .lent)))) × Meanwhile f (l .made) (worldSaid (l .lent))
 
-abbrev pub AllMeanwhile : Frame → List Lending → Type 0
-AllMeanwhile f [] = Unit {0}
-AllMeanwhile f (l ∷ ls) = MeanwhileBy (refusedAt l) f l × AllMeanwhile f ls
+abbrev pub AllMeanwhileOn : Frame → List Lending → Type 0
+AllMeanwhileOn f [] = Unit {0}
+AllMeanwhileOn f (l ∷ ls) = MeanwhileBy (refusedAt l) f l × AllMeanwhileOn f ls
 
 -- ---- the statement
 
@@ -59,7 +59,7 @@ pub record Settled (n : ℕ) (f : Frame) (ls : List Lending) (a : Areas) : Type 
   pub split : ls ≡ before ++ (lending (turn report) areas ∷ after)
   pub soon : turns isTaken before < n
   pub holds : HeldAlong f before a
-  pub meanwhile : AllMeanwhile f before
+  pub meanwhile : AllMeanwhileOn f before
   pub accepted : refusedAt (lending (turn report) areas) ≡ false
   pub kept : areas .kept ≡ run left before a .kept
   pub leaves : turnCall areas report ≡ onBytes (turnOf (worldSaid areas) report)

@@ -24,7 +24,7 @@ use Rattle.traces.specs.Bytes.{number, sentLength}
 use Rattle.closure.proofs.Refusals.{gives-none}
 use Rattle.kinds.specs.Chips.{Chip, Meets}
 use Rattle.kinds.specs.Demands.{Demand1, lentOf, AsDefined, Demand2}
-use Rattle.kinds.specs.Kinds.{RefusesAll, OneAnswer, MemoryAsLent, setupIn, SetsNothing, MeasuresNothing, SendsNothing, MarksOnly, Undone, settingsUndone, wordUndone, lengthUndone, frameUndone, notDue, AtHand, SetsC, MarksSome, Invented, anotherCounter, anotherEdge, fromEdge, Invents}
+use Rattle.kinds.specs.Kinds.{RefusesAll, OneAnswer, MemoryAsLent, setupIn, SetsNothing, MeasuresNothing, SendsNothing, MarksOnly, Undone, settingsUndone, wordUndone, lengthUndone, frameUndone, notDue, anyBlock, SetsC, MarksSome, Invented, anotherCounter, anotherEdge, fromEdge, Invents}
 use Rattle.kinds.proofs.Ours.{has-demand1, has-demand2}
 use Rattle.kinds.proofs.Witness.{zeros, heldArea, sentArea, attending, turning, acceptable-on, handed-on, firstly, idly, first-answer, idle-answer, first-status, zero-status, block, withUnit, turned, settingUp, setting-wide, setting-range, setting-done, was-set, is-set, measuring, measuring-wide, measuring-range, measuring-done, measured, begun, sending, sending-wide, sending-range, sending-done, sent-length, not-done, not-measured}
 
@@ -157,7 +157,7 @@ module _ (chip : Chip) where
 
   -- one marking at which the action is not done, or C not due
 
-  module _ (x : Device) (m : List ℕ) (o : Offset) (said : Ran) (r : Called) (p : AsDefined said r) (marks : SetsC AtHand x m r o) where
+  module _ (x : Device) (m : List ℕ) (o : Offset) (said : Ran) (r : Called) (p : AsDefined said r) (marks : SetsC anyBlock x m r o) where
     all-done : Undone x o said r → ⊥
     all-done (settingsUndone differs) = differs (ap setupIn (p .kept))
     all-done (wordUndone differs) = differs (ap (λ (q : List ℕ). wordAt q (place (x .units .base) o argumentAt)) (p .memory))
@@ -169,7 +169,7 @@ module _ (chip : Chip) where
 
   pub marks-some-lacks-2 : MarksSome chip → Demand2 chip → ⊥
   marks-some-lacks-2 k d =
-      let r = d .each (k .inner) (turn (k .report)) (k .device) (k .memory) (k .holding) (k .outgoing) (k .acceptable) (k .lent) in
+      let r = d .each (k .inner) (k .call) (k .device) (k .memory) (k .holding) (k .outgoing) (k .acceptable) (k .lent) in
       all-done (k .device) (k .memory) (k .block) _ _ r (k .marks) (k .undone)
 
   pub no-marks-some : MarksSome chip → Meets chip → ⊥

@@ -281,7 +281,7 @@ marking-at-seven-is-of-its-kind =
     let completes = measured-c 7 sevenths atSeven unacted refl (λ a r. refl) seven-done in
     record {
       inner = tt;
-      report = 7;
+      call = turn 7;
       device = d;
       memory = zeros;
       holding = heldArea;
@@ -289,7 +289,7 @@ marking-at-seven-is-of-its-kind =
       block = block;
       acceptable = k;
       lent = l;
-      marks = record { block = refl; before = completes .before; after = completes .after };
+      marks = record { block = tt; before = completes .before; after = completes .after };
       undone = wordUndone (λ e. omega (arith, e, same, not-measured, seven-measured));
     }
 
@@ -326,7 +326,7 @@ marking-at-once-is-of-its-kind =
     in
     record {
       inner = tt;
-      report = 7;
+      call = turn 7;
       device = d;
       memory = zeros;
       holding = heldArea;
@@ -336,7 +336,7 @@ marking-at-once-is-of-its-kind =
       lent = l;
       marks =
           record {
-            block = refl;
+            block = tt;
             before = not-done;
             after =
                 ap (λ (r : Called). c (r .areas .memory)) (is-spoilt 7 d zeros heldArea sentArea k l atSeven markedAtOnce refl)

@@ -71,23 +71,17 @@ InWork (cu.Sending b w) o = b .block ≡ o
 InWork (cu.Ending b n) o = b .block ≡ o
 InWork (cu.Failing b) o = b .block ≡ o
 
--- a block that is at hand: of a begun command, or the one before which the unit waits or is suspended
-abbrev pub AtHand : Cu → Offset → Type 0
-AtHand cu.Idle o = ⊥
-AtHand (cu.Suspended next) o = next ≡ o
-AtHand (cu.Waiting next) o = next ≡ o
-AtHand (cu.Acting b a) o = b .block ≡ o
-AtHand (cu.Sending b w) o = b .block ≡ o
-AtHand (cu.Ending b n) o = b .block ≡ o
-AtHand (cu.Failing b) o = b .block ≡ o
+-- any block, whatever the unit is at
+abbrev pub anyBlock : Cu → Offset → Type 0
+anyBlock unit o = Unit {0}
 
--- a turn sets C in a block that is said to be the command unit's
+-- a call sets C in a block, of those that are said
 pub record SetsC (Of : Cu → Offset → Type 0) (d : Device) (m : List ℕ) (r : Called) (o : Offset) : Type 0 where
   pub block : Of (d .units .cu) o
   pub before : bit (wordAt m (place (d .units .base) o blockStatusAt)) 15 ≡ false
   pub after : bit (wordAt (r .areas .memory) (place (d .units .base) o blockStatusAt)) 15 ≡ true
 
--- in that of the begun command
+-- a turn, in that of the begun command
 abbrev pub Completes : Device → List ℕ → Called → Offset → Type 0
 Completes d m r o = SetsC InWork d m r o
 
@@ -120,9 +114,9 @@ pub record MarksOnly (chip : Chip) : Type 0 where
   pub tdr : MeasuresNothing chip
   pub sending : SendsNothing chip
 
--- one marking is enough, be the command begun or not: what the action is to leave is not there, be it the settings, TDR's word, the sent length or the
--- frame's bytes in the outgoing area; or C is not due, as at a begin turn, at a buffer turn and at a turn of the receive unit. What was left as it was,
--- where the definitions change it, is of this sort
+-- one marking is enough, at any call and of any block: what the action is to leave is not there, be it the settings, TDR's word, the sent length or the
+-- frame's bytes in the outgoing area; or C is not due, as at a begin turn, at a turn of the receive unit, at an attention. What was left as it was, where
+-- the definitions change it, is of this sort
 pub data Undone (d : Device) (o : Offset) (said : Ran) (r : Called) : Type 0 where
   settingsUndone : (setupIn (r .areas .kept) ≡ setupIn (imageOf (said .outcome .device)) → ⊥) → Undone d o said r
   wordUndone : (wordAt (r .areas .memory) (place (d .units .base) o argumentAt) ≡ wordAt (said .memory) (place (d .units .base) o argumentAt) → ⊥)
@@ -134,17 +128,17 @@ pub data Undone (d : Device) (o : Offset) (said : Ran) (r : Called) : Type 0 whe
 
 pub record MarksSome (chip : Chip) : Type 0 where
   pub inner : chip .Inner
-  pub report : ℕ
+  pub call : Call
   pub device : Device
   pub memory : List ℕ
   pub holding : List ℕ
   pub outgoing : List ℕ
   pub block : Offset
-  pub acceptable : Acceptable (turn report) device memory holding outgoing
-  pub lent : Handed (turn report) (lentOf device memory holding outgoing)
-  pub marks : SetsC AtHand device memory (chip .calls inner (turn report) (lentOf device memory holding outgoing)) block
-  pub undone : Undone device block (ran (turn report) (worldOf device memory holding outgoing))
-      (chip .calls inner (turn report) (lentOf device memory holding outgoing))
+  pub acceptable : Acceptable call device memory holding outgoing
+  pub lent : Handed call (lentOf device memory holding outgoing)
+  pub marks : SetsC anyBlock device memory (chip .calls inner call (lentOf device memory holding outgoing)) block
+  pub undone : Undone device block (ran call (worldOf device memory holding outgoing))
+      (chip .calls inner call (lentOf device memory holding outgoing))
 
 -- ---- one that serves the first command only: whatever the turns after the start, no block after the first gets C. It may begin the second
 pub record FirstOnly (chip : Chip) : Type 0 where

@@ -10,7 +10,7 @@ use Rattle.chip.specs.World.{World}
 use Rattle.chip.specs.Call.{ran}
 use Rattle.calls.specs.Calls.{Called, onBytes, runCall}
 use Rattle.progress.specs.Trace.{run}
-use Rattle.traces.specs.Bytes.{called, sentLength, edge}
+use Rattle.traces.specs.Bytes.{called, number, sentLength, edge}
 use Rattle.traces.specs.Event.{Event, call, host, step}
 use Rattle.traces.specs.Driven.{Lending, refusedAt, hostOf, eventsBy, Drive, calls, runs}
 
@@ -64,11 +64,11 @@ abbrev pub edgesDriven : List Drive → ℕ
 edgesDriven [] = 0
 edgesDriven (d ∷ ds) = edgeDriven d + edgesDriven ds
 
--- ---- every answer and every lent byte: of a call that is not refused what the definitions say in the world in which it comes; a refused one has its
--- number by the table of refusals and leaves all as it was lent
+-- ---- every answer and every lent byte: of a call that is not refused what the definitions say in the world in which it comes; a refused one answers its
+-- number and nothing else, which the table of refusals says, and leaves all as it was lent
 
 abbrev pub Said : (refused : Bool) → Lending → World → Type 0
-Said true l w = called (l .made) (l .lent) .areas ≡ l .lent
+Said true l w = called (l .made) (l .lent) ≡ record { answer = number (called (l .made) (l .lent) .answer); areas = l .lent }
 Said false l w = called (l .made) (l .lent) ≡ onBytes (ran (l .made) (step (hostOf (l .lent)) w))
 
 abbrev pub AllSaid : List Lending → World → Type 0

@@ -13,6 +13,7 @@ use Rattle.chip.specs.World.{World}
 use Rattle.traces.specs.Event.{Event, call, host, step, DuringList}
 use Rattle.progress.specs.Trace.{run}
 use Rattle.progress.specs.Machine.{log}
+use Rattle.lists.specs.Uses.{Listed}
 use Rattle.lists.specs.Unit.{machine, began, ended}
 use Rattle.lists.specs.Done.{Resumes, enough, Premises, Done, bytesOf}
 use Rattle.lists.proofs.Whole.{resumed-list-done}
@@ -70,7 +71,11 @@ noted : log machine (replicate 2 (call (turn 0))) begun ≡ began 0x20 ∷ ended
 unfolding keptb
 noted = refl
 
+pub listed : Listed (begun .device .units .base) (begun .memory) behind
+unfolding keptb
+listed = refl
+
 -- so the command behind is done
 pub resumed-done : Done behind trace begun
 unfolding keptb
-resumed-done = resumed-list-done behind trace before resumes refl premises
+resumed-done = resumed-list-done behind trace before resumes listed premises

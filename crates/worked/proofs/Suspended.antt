@@ -8,12 +8,14 @@ use Prim.Native.Nat.{ℕ}
 use lib.Dec.{lit≤}
 use lib.ListN.{length, replicate}
 use Rattle.memory.specs.Memory.{wordAt}
+use Rattle.scb.specs.Words.{cblAt}
 use Rattle.device.specs.Change.{withUnits, initialisedAt}
 use Rattle.device.specs.Limits.{holdingSize, outgoingSize}
 use Rattle.device.specs.State.{cuState, isActive, isHolding, fresh}
 use Rattle.device.specs.declared.Cu.the-variants as cu
 use Rattle.device.specs.declared.Ru.the-variants as ru
 use Rattle.actions.specs.Setup.{setupOf}
+use Rattle.control.specs.Obey.{ofScb}
 use Rattle.chip.specs.Cases.{Word, _is_, put}
 use Rattle.chip.specs.Call.{attention, arrive, turn}
 use Rattle.chip.specs.World.{World, worldOf}
@@ -21,7 +23,7 @@ use Rattle.traces.specs.Event.{Event, call, host, step, DuringList}
 use Rattle.progress.specs.Trace.{run, turns}
 use Rattle.progress.specs.Machine.{Undisturbed, log}
 use Rattle.progress.proofs.Trace.{may-append}
-use Rattle.lists.specs.Uses.{Listed}
+use Rattle.lists.specs.Uses.{Listed, firstOf}
 use Rattle.lists.specs.Unit.{machine, began, ended}
 use Rattle.lists.specs.Done.{Starts, due, Premises, enough, Done, bytesOf}
 use Rattle.lists.proofs.Whole.{attention-list-done}
@@ -147,13 +149,17 @@ unfolding keptb
 left = (refl, refl)
 
 -- so both commands are done
+its-first : firstOf two ≡ wordAt (before .memory) (ofScb (before .device .units) cblAt)
+unfolding keptb
+its-first = refl
+
 is-listed : Listed (begun .device .units .base) (begun .memory) two
 unfolding keptb
 is-listed = (refl, refl, refl)
 
 pub suspended-done : Done two trace begun
 unfolding keptb
-suspended-done = attention-list-done two trace before starts refl is-listed premises
+suspended-done = attention-list-done two trace before starts its-first is-listed premises
 
 -- ---- all of it in one
 
@@ -165,6 +171,7 @@ pub record Unruly : Type 0 where
   pub starts : Starts before
   pub aborted : (begun .device .units .ru ≡ ru.Idle) × (wordAt (begun .memory) 0x40 ≡ 0x0000) × (wordAt (begun .memory) 0x08 ≡ 0x1200)
   -- what is asked of the list and of the trace
+  pub first : firstOf two ≡ wordAt (before .memory) (ofScb (before .device .units) cblAt)
   pub listed : Listed (begun .device .units .base) (begun .memory) two
   pub premises : Premises DuringList enough two trace begun
   -- the Transmit sends the 4000h of its own status word, the last NOP suspends the list
@@ -179,6 +186,7 @@ unruly =
       storing = was-storing;
       starts = starts;
       aborted = aborted;
+      first = its-first;
       listed = is-listed;
       premises = premises;
       noted = noted;
