@@ -6,6 +6,7 @@ use mathlib.Core.List.{List, [], _∷_, _++_, map}
 use Prim.Native.Nat.{ℕ, _+_, _*_, _%_, _^_, _≤_, _<_}
 use lib.Dec.{T}
 use lib.ListN.{length, replicate}
+use Rattle.memory.specs.Address.{none}
 use Rattle.memory.specs.Memory.{putBytes, digits, fieldAt, wordAt}
 use Rattle.memory.specs.declared.Offset.{Offset}
 use Rattle.memory.proofs.Bytes.{Bytes}
@@ -56,7 +57,7 @@ use Rattle.frames.specs.Held.{ends, heldFates, FatesOfHeld, GoodFate, BadFate}
 use Rattle.frames.specs.Fates.{Deed, alter, Scene, namesOf, opening, still, advance, beginnings, endings, times, timesFated, timesAltered, AllFates}
 use Rattle.frames.specs.Fates.{by-call, by-altering, isUnaltered, AllProper}
 use Rattle.frames.specs.OnBytes.{ArrivedOn, altering, deedsOf, AllGiven, AllGivenDrive, AllKept, AllSaidOf, worldAt, heldOf, endedOf, stillOf}
-use Rattle.frames.specs.Stands.{NoOverlap, pieces, GoodExit, BadExit, Clear, NextClear}
+use Rattle.frames.specs.Stands.{NoOverlap, pieces, counters, otherCounters, lackingCounters, Each, Spared, GoodExit, BadExit, Clear, NextClear}
 use Rattle.frames.specs.Data.{Staying, dataOf, Delivered, ArrivedDelivered, EndLent, DeliveredOnBytes, ArrivedOnBytes}
 use Rattle.frames.proofs.Arrival as arrivals
 use Rattle.frames.proofs.Arrived as arrived
@@ -201,30 +202,40 @@ pub a-held-bad-frame : (c : Call) (w : World) (f : Frame) → inRange (w .device
     → BadFate f c w
 a-held-bad-frame = holdings.bad-held
 
--- stored and counted as facts about memory at exit, where nothing that the turn writes lies over another piece of it or over a counter. Stored: the
--- header bytes and the status word stand, and no counter moves. Counted, kept or not: RSCERRS is one more, and the other three are as at entry, so that
--- it "adds one to exactly one counter"
+-- stored and counted as facts about memory at exit, where no piece that the turn writes lies over another. Stored: the header bytes and the status word
+-- stand. Counted, kept or not: RSCERRS is one more; if not kept, 0000h stands in the descriptor. Every other counter is as at entry, if no piece lies over
+-- it: no counter moves if stored alone, and what is counted "adds one to exactly one counter"
 pub stored-and-counted-at-exit : (c : Call) (w : World) (f : Frame) → arrival.RightLengths w [] → inRange (w .device) ≡ true
     → heldIn (arrival.unitOf w) ≡ f ∷ [] → isGood f ≡ true
     → NoOverlap (length (w .memory)) (pieces (arrival.unitOf w) w)
     → GoodExit f c w
 stored-and-counted-at-exit = exits.good-exit
 
--- a bad one, which its arrival has counted unless it is short: its header bytes and status word stand, and no counter moves
+-- a bad one, which its arrival has counted unless it is short: its header bytes and status word stand, and every counter is as at entry, if no piece lies
+-- over it
 pub a-bad-frame-at-exit : (c : Call) (w : World) (f : Frame) → arrival.RightLengths w [] → inRange (w .device) ≡ true
     → heldIn (arrival.unitOf w) ≡ f ∷ [] → isGood f ≡ false
     → NoOverlap (length (w .memory)) (pieces (arrival.unitOf w) w)
     → BadExit f c w
 a-bad-frame-at-exit = exits.bad-exit
 
--- nothing lies so wherever the frame descriptor's 22 bytes and the SCB's 16 have no byte in common, nor, unless No Resources follows, has +6 of the next
--- frame descriptor with either
+-- no piece lies over another wherever the frame descriptor's 22 bytes and the SCB's 16 have no byte in common, nor, unless No Resources follows, has +6 of
+-- the next frame descriptor with either
 pub no-piece-over-another : (w : World) (s : Storing) (free : Offset) (full : Bool) → Clear w s → (s .el || full ≡ false → NextClear w s)
     → NoOverlap (length (w .memory)) (pieces (ru.Closing s free full) w)
 no-piece-over-another = clear.closing-clear
 
 pub no-piece-over-another-out-of-buffers : (w : World) (s : Storing) → Clear w s → NoOverlap (length (w .memory)) (pieces (ru.Lacking s) w)
 no-piece-over-another-out-of-buffers = clear.lacking-clear
+
+-- nor lies a piece over a counter there, but RSCERRS's own if a good frame ends out of buffers
+pub no-piece-over-a-counter : (w : World) (s : Storing) (free : Offset) (full : Bool) → Clear w s → (s .el || full ≡ false → NextClear w s)
+    → Each (Spared (ru.Closing s free full) w) counters
+no-piece-over-a-counter = clear.closing-spared
+
+pub no-piece-over-a-counter-out-of-buffers : (w : World) (s : Storing) → Clear w s
+    → Each (Spared (ru.Lacking s) w) (lackingCounters (isGood (s .frame)))
+no-piece-over-a-counter-out-of-buffers = clear.lacking-spared
 
 -- "is held to be stored": while it stays held, what its own turns write to the buffers is its data, byte for byte. With buffers enough all of it, out of
 -- buffers a proper beginning of it, by the turn that ends it; whatever else is called that neither loses it nor ends it, and whatever the host makes of
@@ -599,6 +610,14 @@ a-frame-whose-data-is-stored-on-bytes = data-bytes-run.met-enough
 
 pub a-frame-out-of-buffers-on-bytes : data-bytes-run.Met 0xFFFF 3
 a-frame-out-of-buffers-on-bytes = data-bytes-run.met-too-few
+
+-- before the turn that ends the first of them, or the second: frame descriptor, SCB and +6 of the next frame descriptor lie apart, so no piece lies over
+-- another, nor over a counter that is not written, and the facts at exit are there
+pub a-frame-stored-at-exit : data-run.Exits (data-run.atEnd 0xA0 4) (ru.Closing data-run.storing none false) counters
+a-frame-stored-at-exit = data-run.enough-exits
+
+pub a-frame-counted-at-exit : data-run.Exits (data-run.atEnd 0xFFFF 3) (ru.Lacking data-run.storing) otherCounters
+a-frame-counted-at-exit = data-run.too-few-exits
 
 -- six calls, one of them refused: of two held frames one ends by a record that is lent otherwise, and one is stored
 pub frames-on-bytes : AllGiven bytes-run.calls

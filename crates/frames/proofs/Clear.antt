@@ -1,4 +1,4 @@
--- When no piece of an end turn lies over another or over a counter: it is enough that the frame descriptor, the SCB and, if it is written, +6 of the
+-- When no piece of an end turn lies over another, nor over a counter that it does not write: it is enough that the frame descriptor, the SCB and, if it is written, +6 of the
 -- next frame descriptor lie apart. Assumes nothing.
 use mathlib.Core.Path.{_≡_, refl, sym, ap, _∙_}
 use mathlib.Core.Bool.{Bool, true, false, _||_}
@@ -21,7 +21,7 @@ use Rattle.chip.specs.World.{World}
 use Rattle.frames.specs.Arrival.{inScb}
 use Rattle.frames.specs.Held.{inFrame}
 use Rattle.frames.specs.Stands.{Piece, piece, Away, NoOverlap, nextFirst, barePiece, onwardPiece, storedPieces, countPiece, statusPiece}
-use Rattle.frames.specs.Stands.{counters, otherCounters, lackingPieces, pieces, Clear, NextClear}
+use Rattle.frames.specs.Stands.{lackingPieces, pieces, counters, lackingCounters, Each, Spared, Clear, NextClear}
 
 -- ---- parts of what lies apart
 
@@ -102,70 +102,41 @@ less n (x ∷ xs) y ys h = (away-less n xs y ys x (h .0), less n xs y ys (h .1))
 abbrev front : World → Storing → List Piece → List Piece
 front w s rest = piece (inFrame w s 8) header ∷ piece (inFrame w s 0) 2 ∷ rest
 
-bare-less : (b : Bool) (w : World) (s : Storing) (ps qs : List Piece) → NoOverlap (size w) (front w s (piece (inFrame w s 6) 2 ∷ (ps ++ qs)))
-    → NoOverlap (size w) (front w s (barePiece b w s ++ ps) ++ qs)
-bare-less true w s ps qs p = p
-bare-less false w s ps qs p = less (size w) (front w s []) (piece (inFrame w s 6) 2) (ps ++ qs) p
+bare-less : (b : Bool) (w : World) (s : Storing) (ps : List Piece) → NoOverlap (size w) (front w s (piece (inFrame w s 6) 2 ∷ ps))
+    → NoOverlap (size w) (front w s (barePiece b w s ++ ps))
+bare-less true w s ps p = p
+bare-less false w s ps p = less (size w) (front w s []) (piece (inFrame w s 6) 2) ps p
 
--- RSCERRS, the SCB status, the other counters
-counted-all : (w : World) (s : Storing) → Clear w s
-    → NoOverlap (size w) (front w s (piece (inFrame w s 6) 2 ∷ countPiece w ∷ statusPiece w ∷ otherCounters w))
+-- RSCERRS, the SCB status
+counted-all : (w : World) (s : Storing) → Clear w s → NoOverlap (size w) (front w s (piece (inFrame w s 6) 2 ∷ countPiece w ∷ statusPiece w ∷ []))
 counted-all w s c = (
+  (frame-up w s 0 2 8 14 c tt tt, (frame-up w s 6 2 8 14 c tt tt, (across w s 8 14 12 2 c tt tt, (across w s 8 14 0 2 c tt tt, tt)))),
   (
-    frame-up w s 0 2 8 14 c tt tt,
-    (
-      frame-up w s 6 2 8 14 c tt tt,
-      (across w s 8 14 12 2 c tt tt, (across w s 8 14 0 2 c tt tt, (across w s 8 14 8 4 c tt tt, (across w s 8 14 14 2 c tt tt, tt)))),
-    ),
-  ),
-  (
-    (
-      frame-down w s 6 2 0 2 c tt tt,
-      (across w s 0 2 12 2 c tt tt, (across w s 0 2 0 2 c tt tt, (across w s 0 2 8 4 c tt tt, (across w s 0 2 14 2 c tt tt, tt)))),
-    ),
-    (
-      (across w s 6 2 12 2 c tt tt, (across w s 6 2 0 2 c tt tt, (across w s 6 2 8 4 c tt tt, (across w s 6 2 14 2 c tt tt, tt)))),
-      (
-        (scb-up w s 0 2 12 2 c tt tt, (scb-up w s 8 4 12 2 c tt tt, (scb-down w s 14 2 12 2 c tt tt, tt))),
-        ((scb-down w s 8 4 0 2 c tt tt, (scb-down w s 14 2 0 2 c tt tt, tt)), ((scb-down w s 14 2 8 4 c tt tt, tt), (tt, tt))),
-      ),
-    ),
+    (frame-down w s 6 2 0 2 c tt tt, (across w s 0 2 12 2 c tt tt, (across w s 0 2 0 2 c tt tt, tt))),
+    ((across w s 6 2 12 2 c tt tt, (across w s 6 2 0 2 c tt tt, tt)), ((scb-up w s 0 2 12 2 c tt tt, tt), (tt, tt))),
   ),
 )
 
--- the SCB status, the four counters
-saved-all : (w : World) (s : Storing) → Clear w s → NoOverlap (size w) (front w s (piece (inFrame w s 6) 2 ∷ statusPiece w ∷ counters w))
-saved-all w s c = (
-  (frame-up w s 0 2 8 14 c tt tt, (frame-up w s 6 2 8 14 c tt tt, (across w s 8 14 0 2 c tt tt, (across w s 8 14 8 8 c tt tt, tt)))),
-  (
-    (frame-down w s 6 2 0 2 c tt tt, (across w s 0 2 0 2 c tt tt, (across w s 0 2 8 8 c tt tt, tt))),
-    ((across w s 6 2 0 2 c tt tt, (across w s 6 2 8 8 c tt tt, tt)), ((scb-down w s 8 8 0 2 c tt tt, tt), (tt, tt))),
-  ),
-)
-
--- the same and +6 of the next frame descriptor
+-- +6 of the next frame descriptor, the SCB status
 onward-all : (w : World) (s : Storing) → Clear w s → NextClear w s
-    → NoOverlap (size w) (front w s (piece (inFrame w s 6) 2 ∷ piece (nextFirst w s) 2 ∷ statusPiece w ∷ counters w))
+    → NoOverlap (size w) (front w s (piece (inFrame w s 6) 2 ∷ piece (nextFirst w s) 2 ∷ statusPiece w ∷ []))
 onward-all w s c k = (
+  (frame-up w s 0 2 8 14 c tt tt, (frame-up w s 6 2 8 14 c tt tt, (next-frame w s 8 14 k tt, (across w s 8 14 0 2 c tt tt, tt)))),
   (
-    frame-up w s 0 2 8 14 c tt tt,
-    (frame-up w s 6 2 8 14 c tt tt, (next-frame w s 8 14 k tt, (across w s 8 14 0 2 c tt tt, (across w s 8 14 8 8 c tt tt, tt)))),
-  ),
-  (
-    (frame-down w s 6 2 0 2 c tt tt, (next-frame w s 0 2 k tt, (across w s 0 2 0 2 c tt tt, (across w s 0 2 8 8 c tt tt, tt)))),
-    (
-      (next-frame w s 6 2 k tt, (across w s 6 2 0 2 c tt tt, (across w s 6 2 8 8 c tt tt, tt))),
-      ((next-scb w s 0 2 k tt, (next-scb w s 8 8 k tt, tt)), ((scb-down w s 8 8 0 2 c tt tt, tt), (tt, tt))),
-    ),
+    (frame-down w s 6 2 0 2 c tt tt, (next-frame w s 0 2 k tt, (across w s 0 2 0 2 c tt tt, tt))),
+    ((next-frame w s 6 2 k tt, (across w s 6 2 0 2 c tt tt, tt)), ((next-scb w s 0 2 k tt, tt), (tt, tt))),
   ),
 )
+
+-- the SCB status alone
+saved-all : (w : World) (s : Storing) → Clear w s → NoOverlap (size w) (front w s (piece (inFrame w s 6) 2 ∷ statusPiece w ∷ []))
+saved-all w s c = less (size w) (front w s (piece (inFrame w s 6) 2 ∷ [])) (countPiece w) (statusPiece w ∷ []) (counted-all w s c)
 
 -- all is stored
 closing-by : (x : Bool) (w : World) (s : Storing) → Clear w s → (x ≡ false → NextClear w s)
-    → NoOverlap (size w) (storedPieces w s (onwardPiece x w s ++ statusPiece w ∷ []) ++ counters w)
-closing-by true w s c k = bare-less (isBare (s .frame)) w s (statusPiece w ∷ []) (counters w) (saved-all w s c)
-closing-by false w s c k =
-    bare-less (isBare (s .frame)) w s (piece (nextFirst w s) 2 ∷ statusPiece w ∷ []) (counters w) (onward-all w s c (k refl))
+    → NoOverlap (size w) (storedPieces w s (onwardPiece x w s ++ statusPiece w ∷ []))
+closing-by true w s c k = bare-less (isBare (s .frame)) w s (statusPiece w ∷ []) (saved-all w s c)
+closing-by false w s c k = bare-less (isBare (s .frame)) w s (piece (nextFirst w s) 2 ∷ statusPiece w ∷ []) (onward-all w s c (k refl))
 
 pub closing-clear : (w : World) (s : Storing) (free : Offset) (full : Bool) → Clear w s → (s .el || full ≡ false → NextClear w s)
     → NoOverlap (size w) (pieces (ru.Closing s free full) w)
@@ -173,10 +144,73 @@ closing-clear w s free full c k = closing-by (s .el || full) w s c k
 
 -- out of buffers
 lacking-by : (good saved : Bool) (w : World) (s : Storing) → Clear w s → NoOverlap (size w) (lackingPieces good saved w s)
-lacking-by true true w s c = bare-less (isBare (s .frame)) w s (countPiece w ∷ statusPiece w ∷ []) (otherCounters w) (counted-all w s c)
+lacking-by true true w s c = bare-less (isBare (s .frame)) w s (countPiece w ∷ statusPiece w ∷ []) (counted-all w s c)
 lacking-by true false w s c =
-    less (size w) (piece (inFrame w s 0) 2 ∷ []) (piece (inFrame w s 6) 2) (countPiece w ∷ statusPiece w ∷ otherCounters w) (counted-all w s c .1)
-lacking-by false saved w s c = bare-less (isBare (s .frame)) w s (statusPiece w ∷ []) (counters w) (saved-all w s c)
+    less (size w) (piece (inFrame w s 0) 2 ∷ []) (piece (inFrame w s 6) 2) (countPiece w ∷ statusPiece w ∷ []) (counted-all w s c .1)
+lacking-by false saved w s c = bare-less (isBare (s .frame)) w s (statusPiece w ∷ []) (saved-all w s c)
 
 pub lacking-clear : (w : World) (s : Storing) → Clear w s → NoOverlap (size w) (pieces (ru.Lacking s) w)
 lacking-clear w s c = lacking-by (isGood (s .frame)) (s .frame .savebad) w s c
+
+-- ---- nor lies a piece over a counter, but that of RSCERRS if a good frame ends out of buffers
+
+abbrev counterPiece : World → ℕ → Piece
+counterPiece w k = piece (inScb w k) 2
+
+-- one of the frame descriptor's, and the SCB status
+frame-spares : (w : World) (s : Storing) (k f i : ℕ) → Clear w s → T (leb (k + 2) 16) → T (leb (f + i) 22) → Apart (size w) (inFrame w s f) i (inScb w k) 2
+frame-spares w s k f i c b a x hx y hy e = across w s f i k 2 c a b y hy x hx (sym e)
+
+status-spares : (w : World) (s : Storing) (k : ℕ) → Clear w s → T (leb 2 k) → T (leb (k + 2) 16) → Away (size w) (statusPiece w ∷ []) (counterPiece w k)
+status-spares w s k c a b =
+    let room = c .room in
+    let fits : k + 2 ≤ 16 = lit≤ b in
+    (place-up (w .device .units .base) (w .device .units .scb) (size w) 0 2 k 2 (lit≤ a) (omega arith), tt)
+
+-- what is written to the frame descriptor, if the rest spares the counter
+stored-spares : (b : Bool) (w : World) (s : Storing) (k : ℕ) (rest : List Piece) → Clear w s → T (leb (k + 2) 16) → Away (size w) rest (counterPiece w k)
+    → Away (size w) (front w s (barePiece b w s ++ rest)) (counterPiece w k)
+stored-spares true w s k rest c a r = (frame-spares w s k 8 14 c a tt, (frame-spares w s k 0 2 c a tt, (frame-spares w s k 6 2 c a tt, r)))
+stored-spares false w s k rest c a r = (frame-spares w s k 8 14 c a tt, (frame-spares w s k 0 2 c a tt, r))
+
+onward-spares : (x : Bool) (w : World) (s : Storing) (k : ℕ) → Clear w s → (x ≡ false → NextClear w s) → T (leb 2 k) → T (leb (k + 2) 16)
+    → Away (size w) (onwardPiece x w s ++ statusPiece w ∷ []) (counterPiece w k)
+onward-spares true w s k c n a b = status-spares w s k c a b
+onward-spares false w s k c n a b =
+    (word-apart (size w) (nextFirst w s) (w .device .units .base) (w .device .units .scb) 16 k 2 (lit≤ b) (n refl .scb), status-spares w s k c a b)
+
+closing-spares : (w : World) (s : Storing) (free : Offset) (full : Bool) → Clear w s → (s .el || full ≡ false → NextClear w s) → (k : ℕ) → T (leb 2 k)
+    → T (leb (k + 2) 16)
+    → Spared (ru.Closing s free full) w k
+closing-spares w s free full c n k a b =
+    stored-spares (isBare (s .frame)) w s k (onwardPiece (s .el || full) w s ++ statusPiece w ∷ []) c b (onward-spares (s .el || full) w s k c n a b)
+
+pub closing-spared : (w : World) (s : Storing) (free : Offset) (full : Bool) → Clear w s → (s .el || full ≡ false → NextClear w s)
+    → Each (Spared (ru.Closing s free full) w) counters
+closing-spared w s free full c n =
+    let k = closing-spares w s free full c n in
+    (k 8 tt tt, (k 10 tt tt, (k 12 tt tt, (k 14 tt tt, tt))))
+
+-- out of buffers: RSCERRS too if it is a good frame
+counted-spares : (saved : Bool) (w : World) (s : Storing) → Clear w s → (k : ℕ) → T (leb 2 k) → T (leb (k + 2) 16)
+    → Apart (size w) (inScb w 12) 2 (inScb w k) 2
+    → Away (size w) (lackingPieces true saved w s) (counterPiece w k)
+counted-spares true w s c k a b r =
+    stored-spares (isBare (s .frame)) w s k (countPiece w ∷ statusPiece w ∷ []) c b (r, status-spares w s k c a b)
+counted-spares false w s c k a b r = (frame-spares w s k 0 2 c b tt, (r, status-spares w s k c a b))
+
+saved-spares : (saved : Bool) (w : World) (s : Storing) → Clear w s → (k : ℕ) → T (leb 2 k) → T (leb (k + 2) 16)
+    → Away (size w) (lackingPieces false saved w s) (counterPiece w k)
+saved-spares saved w s c k a b = stored-spares (isBare (s .frame)) w s k (statusPiece w ∷ []) c b (status-spares w s k c a b)
+
+lacking-spares : (good saved : Bool) (w : World) (s : Storing) → Clear w s
+    → Each (λ (k : ℕ). Away (size w) (lackingPieces good saved w s) (counterPiece w k)) (lackingCounters good)
+lacking-spares true saved w s c =
+    let k = counted-spares saved w s c in
+    (k 8 tt tt (scb-down w s 12 2 8 2 c tt tt), (k 10 tt tt (scb-down w s 12 2 10 2 c tt tt), (k 14 tt tt (scb-up w s 12 2 14 2 c tt tt), tt)))
+lacking-spares false saved w s c =
+    let k = saved-spares saved w s c in
+    (k 8 tt tt, (k 10 tt tt, (k 12 tt tt, (k 14 tt tt, tt))))
+
+pub lacking-spared : (w : World) (s : Storing) → Clear w s → Each (Spared (ru.Lacking s) w) (lackingCounters (isGood (s .frame)))
+lacking-spared w s c = lacking-spares (isGood (s .frame)) (s .frame .savebad) w s c

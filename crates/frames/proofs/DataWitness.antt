@@ -1,30 +1,33 @@
 -- What is said of a frame's data is about something: 60 bytes that arrive, into buffers of 20, 20 and 20 bytes, and into buffers of 20 and 20. What is
--- asked is met, and what the buffers get is computed. Assumes nothing.
-use mathlib.Core.Path.{_≡_, refl, ap, _∙_}
+-- asked is met, and what the buffers get is computed. What the facts at exit ask is met too. Assumes nothing.
+use mathlib.Core.Path.{_≡_, refl, sym, ap, _∙_, subst}
 use mathlib.Core.Bool.{true, false}
 use mathlib.Core.List.{List, [], _∷_, _++_}
 use Prim.Native.Nat.{ℕ, zero, suc, _+_}
 use native.Mathlib.Omega.{arith}
 use lib.Count.{ones}
 use lib.ListN.{length, replicate, take, drop, length-replicate}
-use Rattle.memory.specs.Address.{place, beyond}
+use Rattle.memory.specs.Address.{place, beyond, none}
 use Rattle.memory.specs.Memory.{byteAt, putByte, bytesAt, putBytes, value, digits, fieldAt, Write, wordTo, apply}
 use Rattle.memory.specs.Size.{sizeAllowed}
+use Rattle.memory.proofs.Fields.{up, down}
 use Rattle.memory.proofs.Laws.{length-apply}
 use Rattle.scb.specs.Words.{noEvents, bitsAt, joined, anyOf, eventBits, statusWord}
 use Rattle.device.specs.Answers.{counts}
 use Rattle.device.specs.Limits.{header, holdingSize, outgoingSize}
 use Rattle.device.specs.Numbers.{verdictOf}
-use Rattle.device.specs.State.{fresh}
+use Rattle.device.specs.State.{fresh, heldIn}
 use Rattle.device.specs.declared.Counter.the-variants as counter
 use Rattle.device.specs.declared.Cu.the-variants as cu
 use Rattle.device.specs.declared.Device.{Device}
 use Rattle.device.specs.declared.Fate.the-variants as fate
 use Rattle.device.specs.declared.Frame.{Frame}
+use Rattle.device.specs.declared.Ru.{Ru}
 use Rattle.device.specs.declared.Ru.the-variants as ru
+use Rattle.device.specs.declared.Storing.{Storing}
 use Rattle.device.specs.declared.Verdict.the-variants as verdict
 use Rattle.filter.specs.Match.{agree, isListed, matches}
-use Rattle.image.specs.Ranges.{inRange, unitsFit, cuFits, ruFits, initialisedOrFresh}
+use Rattle.image.specs.Ranges.{inRange, unitsFit, cuFits, ruFits, frameFits, initialisedOrFresh}
 use Rattle.receive.specs.Arrival.{lengthOf, judged, fateOf, arrival}
 use Rattle.receive.specs.Begin as receive-begin
 use Rattle.receive.specs.Buffer as receive-buffer
@@ -37,10 +40,13 @@ use Rattle.chip.specs.Turn.{concluded, receiveTurn, turnOf}
 use Rattle.chip.specs.World.{World, worldOf}
 use Rattle.progress.specs.Trace.{run, AllMay}
 use Rattle.traces.specs.Event.{Event, call, step}
-use Rattle.frames.specs.Arrival.{RightLengths, unitOf}
-use Rattle.frames.specs.Held.{ends}
+use Rattle.frames.specs.Arrival.{RightLengths, inScb, unitOf}
+use Rattle.frames.specs.Held.{inFrame, linkNow, ends}
 use Rattle.frames.specs.Data.{Staying, fillsAlong, together, ArrivedDelivered}
+use Rattle.frames.specs.Stands.{NoOverlap, nextFirst, pieces, counters, otherCounters, Each, Spared, GoodExit, Clear, NextClear}
 use Rattle.frames.proofs.Data.{arrived}
+use Rattle.frames.proofs.Stands.{good-exit}
+use Rattle.frames.proofs.Clear.{closing-clear, closing-spared, lacking-clear, lacking-spared}
 
 -- SCB at 40h, frame descriptor at 60h; its buffer descriptors at 80h, 90h and A0h
 abbrev pub ready : Device
@@ -124,3 +130,86 @@ too-few = record { fate = refl; unit = refl; may = ((refl, refl), ((refl, refl),
 -- so both are delivered as said
 pub is-said : (third : ℕ) (trace : List Event) (got : ℕ) → Seen third trace got → ArrivedDelivered sixty trace (step (call (arrive sixty 0)) (before third)) 0
 is-said third trace got s = arrived (before third) sixty 0 counter.Uncounted trace 0 (lengths third) in-range (s .fate) (s .may) (s .ends)
+
+-- ---- the facts at exit
+
+-- the frame has arrived and so many turns have come: the turn that ends it is next
+abbrev pub atEnd : (third turns : ℕ) → World
+atEnd third turns = run step (replicate turns (call (turn 0))) (step (call (arrive sixty 0)) (before third))
+
+-- in the frame descriptor at 60h
+abbrev pub storing : Storing
+storing = record { fd = record { 0 = 0x60 }; el = false; suspend = false; pausing = false; frame = frame }
+
+-- what the facts at exit ask for is met before that turn: the frame descriptor, the SCB and +6 of the next frame descriptor lie apart, so no piece lies
+-- over another, nor over one of these counters; so the facts are there
+pub record Exits (w : World) (unit : Ru) (unwritten : List ℕ) : Type 0 where
+  pub now : unitOf w ≡ unit
+  pub ends : ends (turn 0) w ≡ true
+  pub clear : Clear w storing
+  pub next : NextClear w storing
+  pub apart : NoOverlap (length (w .memory)) (pieces (unitOf w) w)
+  pub spared : Each (Spared (unitOf w) w) unwritten
+  pub exit : GoodExit frame (turn 0) w
+
+-- what is computed of such a world: its SCB is at 40h, the link is 0
+record Computed (w : World) (unit : Ru) : Type 0 where
+  now : unitOf w ≡ unit
+  ends : ends (turn 0) w ≡ true
+  held : heldIn (unitOf w) ≡ frame ∷ []
+  range : inRange (w .device) ≡ true
+  size : length (w .memory) ≡ 8192
+  area : length (w .holding) ≡ holdingSize
+  scb : w .device .units .scb .0 ≡ 0x40
+  link : linkNow w storing .0 ≡ 0
+
+closing : Computed (atEnd 0xA0 4) (ru.Closing storing none false)
+unfolding byteAt putByte bytesAt putBytes value digits fieldAt place beyond bitsAt joined anyOf eventBits statusWord counts verdictOf agree isListed matches lengthOf judged fateOf arrival receive-begin.begunBy receive-begin.begin receive-buffer.descriptorAt receive-buffer.buffer frameStatus settles close lack receive-service.service statusTo arrivals.arrival arrivals.arrivalOf concluded receiveTurn turnOf inRange unitsFit cuFits ruFits frameFits initialisedOrFresh
+closing = record { now = refl; ends = refl; held = refl; range = refl; size = refl; area = refl; scb = refl; link = refl }
+
+lacking : Computed (atEnd 0xFFFF 3) (ru.Lacking storing)
+unfolding byteAt putByte bytesAt putBytes value digits fieldAt place beyond bitsAt joined anyOf eventBits statusWord counts verdictOf agree isListed matches lengthOf judged fateOf arrival receive-begin.begunBy receive-begin.begin receive-buffer.descriptorAt receive-buffer.buffer frameStatus settles close lack receive-service.service statusTo arrivals.arrival arrivals.arrivalOf concluded receiveTurn turnOf inRange unitsFit cuFits ruFits frameFits initialisedOrFresh
+lacking = record { now = refl; ends = refl; held = refl; range = refl; size = refl; area = refl; scb = refl; link = refl }
+
+is-clear : (w : World) (u : Ru) → Computed w u → Clear w storing
+unfolding place
+is-clear w u k =
+    let n = k .size in
+    let s = k .scb in
+    record { room = omega arith; apart = down (length (w .memory)) (inFrame w storing 0) 22 (inScb w 0) 16 (omega arith) (omega arith) }
+
+next-is-clear : (w : World) (u : Ru) → Computed w u → NextClear w storing
+unfolding place
+next-is-clear w u k =
+    let n = k .size in
+    let s = k .scb in
+    let l = k .link in
+    record {
+      frame = up (length (w .memory)) (nextFirst w storing) 2 (inFrame w storing 0) 22 (omega arith) (omega arith);
+      scb = up (length (w .memory)) (nextFirst w storing) 2 (inScb w 0) 16 (omega arith) (omega arith);
+    }
+
+exits-by : (w : World) (u : Ru) (unwritten : List ℕ) → Computed w u → NoOverlap (length (w .memory)) (pieces u w) → Each (Spared u w) unwritten
+    → Exits w u unwritten
+exits-by w u unwritten k a b =
+    let p = subst (λ (x : Ru). NoOverlap (length (w .memory)) (pieces x w)) (sym (k .now)) a in
+    let l : RightLengths w [] = record { size = ap sizeAllowed (k .size) ∙ eight; area = k .area; frame = omega arith } in
+    record {
+      now = k .now;
+      ends = k .ends;
+      clear = is-clear w u k;
+      next = next-is-clear w u k;
+      apart = p;
+      spared = subst (λ (x : Ru). Each (Spared x w) unwritten) (sym (k .now)) b;
+      exit = good-exit (turn 0) w frame l (k .range) (k .held) refl p;
+    }
+
+-- with buffers enough; with too few
+pub enough-exits : Exits (atEnd 0xA0 4) (ru.Closing storing none false) counters
+enough-exits =
+    let c = is-clear _ _ closing in
+    let n : false ≡ false → NextClear (atEnd 0xA0 4) storing = λ e. next-is-clear _ _ closing in
+    exits-by _ _ counters closing (closing-clear _ storing none false c n) (closing-spared _ storing none false c n)
+
+pub too-few-exits : Exits (atEnd 0xFFFF 3) (ru.Lacking storing) otherCounters
+too-few-exits = let c = is-clear _ _ lacking in exits-by _ _ otherCounters lacking (lacking-clear _ storing c) (lacking-spared _ storing c)

@@ -1,5 +1,5 @@
--- Demand 2 of frames, corollary: where no piece lies over another, stored and counted are facts about memory at exit, and no counter moves but the one
--- that is counted. Assumes nothing.
+-- Demand 2 of frames, corollary: where no piece lies over another, stored and counted are facts about memory at exit; and where no piece lies over them no
+-- counter moves but the one that is counted. Assumes nothing.
 use mathlib.Core.Path.{_≡_, refl, sym, ap, ap₂, _∙_, subst}
 use mathlib.Core.Bool.{Bool, true, false, _||_}
 use mathlib.Core.List.{List, [], _∷_, _++_}
@@ -29,9 +29,8 @@ use Rattle.chip.specs.World.{World, Ran}
 use Rattle.frames.specs.Arrival.{RightLengths, inScb, unitOf}
 use Rattle.frames.specs.Held.{inFrame, headerTo, markTo, bareTo, described, onwardBy, onward, statusAfter, Stored, Counted, GoodFate, BadFate}
 use Rattle.frames.specs.Held as held
-use Rattle.frames.specs.Stands.{Separate, StoredStands, ScbStands, CountersStand, CountedStands, Piece, piece, Away, NoOverlap, nextFirst}
-use Rattle.frames.specs.Stands.{barePiece, onwardPiece, storedPieces, countPiece, statusPiece, counters, otherCounters, lackingPieces, pieces}
-use Rattle.frames.specs.Stands.{GoodExit, BadExit}
+use Rattle.frames.specs.Stands.{Separate, StoredStands, Piece, piece, Away, NoOverlap, nextFirst, barePiece, onwardPiece, countPiece}
+use Rattle.frames.specs.Stands.{statusPiece, lackingPieces, pieces, CounterStands, CountersStand, CountedStands, GoodExit, BadExit}
 use Rattle.frames.specs.Stands as exit
 use Rattle.frames.proofs.Held.{good-held, bad-held}
 
@@ -145,14 +144,6 @@ one-more others w r x l p =
     (subst (AllApart n (statusAfter w r) a) d (after-apart n others (wordTo a v) (statusAfter w r) p))
     ∙ omega (arith, same)
 
--- ---- bytes of the SCB stay where all that is written is elsewhere
-
-scb-stands : (field size : ℕ) (writes : List Write) (w : World) (r : Ran) → r .memory ≡ apply writes (w .memory)
-    → AllApart (length (w .memory)) writes (inScb w field) size
-    → ScbStands field size w r
-scb-stands field size writes w r e p =
-    ap (λ (m : List ℕ). bytesAt m (inScb w field) size) e ∙ apply-other writes (w .memory) (inScb w field) size p
-
 -- ---- the pieces by their places
 
 pieceOf : Write → Piece
@@ -171,29 +162,6 @@ separate : (n : ℕ) (xs : List Write) → NoOverlap n (piecesOf xs) → Separat
 unfolding piecesOf pieceOf
 separate n [] h = tt
 separate n (x ∷ xs) h = (away-apart n xs (pieceOf x) (h .0), separate n xs (h .1))
-
--- pieces, and others behind them: those in front, those behind
-away-front : (n : ℕ) (ps qs : List Piece) (p : Piece) → Away n (ps ++ qs) p → Away n ps p
-away-front n [] qs p h = tt
-away-front n (x ∷ ps) qs p h = (h .0, away-front n ps qs p (h .1))
-
-away-behind : (n : ℕ) (ps qs : List Piece) (p : Piece) → Away n (ps ++ qs) p → Away n qs p
-away-behind n [] qs p h = h
-away-behind n (x ∷ ps) qs p h = away-behind n ps qs p (h .1)
-
-front : (n : ℕ) (ps qs : List Piece) → NoOverlap n (ps ++ qs) → NoOverlap n ps
-front n [] qs h = tt
-front n (p ∷ ps) qs h = (away-front n ps qs p (h .0), front n ps qs (h .1))
-
--- all writes lie apart from a piece that is among those behind them
-behind : (n : ℕ) (xs : List Write) (qs : List Piece) (c : Piece) → ((p : Piece) → Away n qs p → Apart n (c .from) (c .size) (p .from) (p .size))
-    → NoOverlap n (piecesOf xs ++ qs)
-    → AllApart n xs (c .from) (c .size)
-unfolding piecesOf pieceOf
-behind n [] qs c pick h = tt
-behind n (x ∷ xs) qs c pick h =
-    let k = pick (pieceOf x) (away-behind n (piecesOf xs) qs (pieceOf x) (h .0)) in
-    (apart-sym n (c .from) (c .size) (x .to) (length (x .bytes)) k, behind n xs qs c pick (h .1))
 
 word-piece : (a v : ℕ) → pieceOf (wordTo a v) ≡ piece a 2
 unfolding pieceOf
@@ -234,69 +202,81 @@ count-pieces : (w : World) (r : Ran) (v : ℕ) → piecesOf (wordTo (inScb w 12)
 unfolding piecesOf
 count-pieces w r v = ap₂ (λ (a : Piece) (l : List Piece). a ∷ l) (word-piece (inScb w 12) v) (status-piece w r)
 
-counted-pieces : (w : World) (r : Ran) (s : Storing) (v : ℕ)
-    → piecesOf (markTo w s 0x0000 ∷ wordTo (inScb w 12) v ∷ statusAfter w r) ≡ piece (inFrame w s 0) 2 ∷ countPiece w ∷ statusPiece w ∷ []
+-- all being stored; out of buffers, a good frame and a bad one
+closing-pieces : (w : World) (r : Ran) (s : Storing) (free : Offset) (full : Bool) → length (w .holding) ≡ holdingSize → unitOf w ≡ ru.Closing s free full
+    → piecesOf (headerTo w s ∷ markTo w s (frameStatus false (s .frame)) ∷ (bareTo w s ++ (onward w s free full ++ statusAfter w r))) ≡ pieces (unitOf w) w
+closing-pieces w r s free full h e =
+    let x = s .el || full in
+    ending-pieces (isBare (s .frame)) w s (frameStatus false (s .frame)) (onward w s free full ++ statusAfter w r)
+    (onwardPiece x w s ++ statusPiece w ∷ []) h (onward-pieces x w r s free)
+    ∙ sym (ap (λ (u : Ru). pieces u w) e)
+
+lacking-pieces : (w : World) (s : Storing) (f : Frame) (good saved : Bool) → unitOf w ≡ ru.Lacking s → s .frame ≡ f → isGood f ≡ good → f .savebad ≡ saved
+    → lackingPieces good saved w s ≡ pieces (unitOf w) w
+lacking-pieces w s f good saved e q g b = sym
+    (ap (λ (u : Ru). pieces u w) e
+    ∙ ap₂ (λ (x y : Bool). lackingPieces x y w s) (ap isGood q ∙ g) (ap (λ (x : Frame). x .savebad) q ∙ b))
+
+counted-pieces : (w : World) (r : Ran) (s : Storing) (f : Frame) (v : ℕ) → unitOf w ≡ ru.Lacking s → s .frame ≡ f → isGood f ≡ true → f .savebad ≡ false
+    → piecesOf (markTo w s 0x0000 ∷ wordTo (inScb w 12) v ∷ statusAfter w r) ≡ pieces (unitOf w) w
 unfolding piecesOf
-counted-pieces w r s v = front2 (word-piece (inFrame w s 0) 0x0000) (word-piece (inScb w 12) v) (status-piece w r)
+counted-pieces w r s f v e q g b =
+    front2 (word-piece (inFrame w s 0) 0x0000) (word-piece (inScb w 12) v) (status-piece w r) ∙ lacking-pieces w s f true false e q g b
 
--- ---- so where no piece lies over another, what is written stands, and so do the counters that are not
+both-pieces : (w : World) (r : Ran) (s : Storing) (f : Frame) (v : ℕ) → length (w .holding) ≡ holdingSize → unitOf w ≡ ru.Lacking s → s .frame ≡ f
+    → isGood f ≡ true → f .savebad ≡ true
+    → piecesOf (headerTo w s ∷ markTo w s (frameStatus true (s .frame)) ∷ (bareTo w s ++ (wordTo (inScb w 12) v ∷ statusAfter w r))) ≡ pieces (unitOf w) w
+both-pieces w r s f v h e q g b =
+    ending-pieces (isBare (s .frame)) w s (frameStatus true (s .frame)) (wordTo (inScb w 12) v ∷ statusAfter w r)
+    (countPiece w ∷ statusPiece w ∷ []) h (count-pieces w r v)
+    ∙ lacking-pieces w s f true true e q g b
 
--- in the pieces of a list of writes, and others behind them
-placed : (n : ℕ) (ps qs us : List Piece) → qs ≡ ps → NoOverlap n (ps ++ us) → NoOverlap n (qs ++ us)
-placed n ps qs us e p = subst (λ (l : List Piece). NoOverlap n (l ++ us)) (sym e) p
+saved-pieces : (w : World) (r : Ran) (s : Storing) (f : Frame) → length (w .holding) ≡ holdingSize → unitOf w ≡ ru.Lacking s → s .frame ≡ f
+    → isGood f ≡ false
+    → piecesOf (headerTo w s ∷ markTo w s (frameStatus true (s .frame)) ∷ (bareTo w s ++ statusAfter w r)) ≡ pieces (unitOf w) w
+saved-pieces w r s f h e q g =
+    ending-pieces (isBare (s .frame)) w s (frameStatus true (s .frame)) (statusAfter w r) (statusPiece w ∷ []) h (status-piece w r)
+    ∙ lacking-pieces w s f false (f .savebad) e q g refl
 
-counters-stand : (writes : List Write) (w : World) (r : Ran) → r .memory ≡ apply writes (w .memory)
-    → NoOverlap (length (w .memory)) (piecesOf writes ++ counters w)
+-- ---- so where no piece lies over another what is written stands, and so does a counter that no piece lies over
+
+separate-at : (n : ℕ) (writes : List Write) (ps : List Piece) → piecesOf writes ≡ ps → NoOverlap n ps → Separate n writes
+separate-at n writes ps e p = separate n writes (subst (NoOverlap n) (sym e) p)
+
+counter-stands : (writes : List Write) (w : World) (r : Ran) → piecesOf writes ≡ pieces (unitOf w) w → r .memory ≡ apply writes (w .memory)
+    → (counter : ℕ) → CounterStands w r counter
+counter-stands writes w r e m counter a =
+    let n = length (w .memory) in
+    let p = piece (inScb w counter) 2 in
+    ap (λ (q : List ℕ). bytesAt q (p .from) 2) m
+    ∙ apply-other writes (w .memory) (p .from) 2 (away-apart n writes p (subst (λ (l : List Piece). Away n l p) (sym e) a))
+
+counters-stand : (writes : List Write) (w : World) (r : Ran) → piecesOf writes ≡ pieces (unitOf w) w → r .memory ≡ apply writes (w .memory)
     → CountersStand w r
-counters-stand writes w r e p = scb-stands 8 8 writes w r e (behind (length (w .memory)) writes (counters w) (piece (inScb w 8) 8) (λ q h. h .0) p)
+counters-stand writes w r e m =
+    let k = counter-stands writes w r e m in
+    (k 8, (k 10, (k 12, (k 14, tt))))
 
 counted-stands : (others : List Write) (w : World) (r : Ran) → Counted others w r → 2 ≤ length (w .memory)
-    → NoOverlap (length (w .memory))
-    (piecesOf (others ++ (countTo (apply others (w .memory)) (inScb w 12) ∷ statusAfter w r)) ++ otherCounters w)
+    → piecesOf (others ++ (countTo (apply others (w .memory)) (inScb w 12) ∷ statusAfter w r)) ≡ pieces (unitOf w) w
+    → NoOverlap (length (w .memory)) (pieces (unitOf w) w)
     → CountedStands w r
-counted-stands others w r x l p =
-    let n = length (w .memory) in
-    let writes = others ++ (countTo (apply others (w .memory)) (inScb w 12) ∷ statusAfter w r) in
+counted-stands others w r x l e p =
+    let k = counter-stands _ w r e (x .memory) in
     record {
-      more = one-more others w r x l (separate n writes (front n (piecesOf writes) (otherCounters w) p));
-      before = scb-stands 8 4 writes w r (x .memory) (behind n writes (otherCounters w) (piece (inScb w 8) 4) (λ q h. h .0) p);
-      behind = scb-stands 14 2 writes w r (x .memory) (behind n writes (otherCounters w) (piece (inScb w 14) 2) (λ q h. h .1 .0) p);
+      more = one-more others w r x l (separate-at (length (w .memory)) _ (pieces (unitOf w) w) e p);
+      others = (k 8, (k 10, (k 14, tt)));
     }
 
--- what is stored, with any pieces behind
-stored-front : (lacking : Bool) (s : Storing) (rest : List Write) (us : List Piece) (w : World) (r : Ran) → length (w .holding) ≡ holdingSize
-    → header ≤ length (w .memory)
-    → NoOverlap (length (w .memory)) (piecesOf (headerTo w s ∷ markTo w s (frameStatus lacking (s .frame)) ∷ rest) ++ us)
-    → Stored lacking s rest w r
-    → StoredStands lacking s w r
-stored-front lacking s rest us w r h l p k =
-    let writes = headerTo w s ∷ markTo w s (frameStatus lacking (s .frame)) ∷ rest in
-    stored-stands lacking s rest w r k h l (separate (length (w .memory)) writes (front (length (w .memory)) (piecesOf writes) us p))
-
-closing-placed : (n : ℕ) (w : World) (r : Ran) (s : Storing) (free : Offset) (full : Bool) → length (w .holding) ≡ holdingSize
-    → NoOverlap n (pieces (ru.Closing s free full) w)
-    → NoOverlap n
-    (piecesOf (headerTo w s ∷ markTo w s (frameStatus false (s .frame)) ∷ (bareTo w s ++ (onward w s free full ++ statusAfter w r))) ++ counters w)
-closing-placed n w r s free full h p =
-    let x = s .el || full in
-    placed n (storedPieces w s (onwardPiece x w s ++ statusPiece w ∷ [])) _ (counters w)
-    (ending-pieces (isBare (s .frame)) w s (frameStatus false (s .frame)) (onward w s free full ++ statusAfter w r)
-    (onwardPiece x w s ++ statusPiece w ∷ []) h (onward-pieces x w r s free))
-    p
-
--- out of buffers: which pieces there are is as the frame is
-lacking-good : (n : ℕ) (w : World) (s : Storing) (f : Frame) (saved : Bool) → unitOf w ≡ ru.Lacking s → s .frame ≡ f → isGood f ≡ true → f .savebad ≡ saved
-    → NoOverlap n (pieces (unitOf w) w)
-    → NoOverlap n (lackingPieces true saved w s)
-lacking-good n w s f saved e q g b p =
-    subst (λ (d : Bool). NoOverlap n (lackingPieces true d w s)) (ap (λ (x : Frame). x .savebad) q ∙ b)
-    (subst (λ (d : Bool). NoOverlap n (lackingPieces d (s .frame .savebad) w s)) (ap isGood q ∙ g) (subst (λ (u : Ru). NoOverlap n (pieces u w)) e p))
-
-lacking-bad : (n : ℕ) (w : World) (s : Storing) (f : Frame) → unitOf w ≡ ru.Lacking s → s .frame ≡ f → isGood f ≡ false
-    → NoOverlap n (pieces (unitOf w) w)
-    → NoOverlap n (storedPieces w s (statusPiece w ∷ []) ++ counters w)
-lacking-bad n w s f e q g p =
-    subst (λ (d : Bool). NoOverlap n (lackingPieces d (s .frame .savebad) w s)) (ap isGood q ∙ g) (subst (λ (u : Ru). NoOverlap n (pieces u w)) e p)
+-- 0000h of a frame that is not kept
+cleared : (w : World) (r : Ran) (s : Storing) → Counted (markTo w s 0x0000 ∷ []) w r → 2 ≤ length (w .memory)
+    → Separate (length (w .memory)) (markTo w s 0x0000 ∷ countTo (apply (markTo w s 0x0000 ∷ []) (w .memory)) (inScb w 12) ∷ statusAfter w r)
+    → wordAt (r .memory) (inFrame w s 0) ≡ 0x0000
+cleared w r s x l p =
+    let rest = countTo (apply (markTo w s 0x0000 ∷ []) (w .memory)) (inScb w 12) ∷ statusAfter w r in
+    ap (λ (m : List ℕ). wordAt m (inFrame w s 0)) (x .memory)
+    ∙ word-stands [] (inFrame w s 0) 0x0000 rest (w .memory) l
+    (subst (AllApart (length (w .memory)) rest (inFrame w s 0)) (length-digits 2 0x0000) (p .0))
 
 -- ---- the demand, as facts about memory at exit
 
@@ -306,29 +286,20 @@ exit-of : (c : Call) (w : World) (f : Frame) → length (w .holding) ≡ holding
     → GoodExit f c w
 exit-of c w f h l g p (held.stays a b k m) = exit.stays a b k m
 exit-of c w f h l g p (held.stored s free full n e q x k z) =
-    let o =
-    closing-placed (length (w .memory)) w (ran c w) s free full h (subst (λ (u : Ru). NoOverlap (length (w .memory)) (pieces u w)) e p)
-    in
-    exit.stored s free full n e q x (stored-front false s _ (counters w) w (ran c w) h l o k) (counters-stand _ w (ran c w) (k .memory) o) z
+    let o = closing-pieces w (ran c w) s free full h e in
+    exit.stored s free full n e q x (stored-stands false s _ w (ran c w) k h l (separate-at (length (w .memory)) _ (pieces (unitOf w) w) o p))
+    (counters-stand _ w (ran c w) o (k .memory)) z
 exit-of c w f h l g p (held.counted s n e q b x k z) =
-    let o =
-    placed (length (w .memory)) (piece (inFrame w s 0) 2 ∷ countPiece w ∷ statusPiece w ∷ []) _ (otherCounters w)
-    (counted-pieces w (ran c w) s _) (lacking-good (length (w .memory)) w s f false e q g b p)
-    in
-    exit.counted s n e q b x (counted-stands (markTo w s 0x0000 ∷ []) w (ran c w) k (omega arith) o) z
+    let o = counted-pieces w (ran c w) s f _ e q g b in
+    exit.counted s n e q b x (cleared w (ran c w) s k (omega arith) (separate-at (length (w .memory)) _ (pieces (unitOf w) w) o p))
+    (counted-stands (markTo w s 0x0000 ∷ []) w (ran c w) k (omega arith) o p) z
 exit-of c w f h l g p (held.both s n e q b x k j z) =
-    let v = (wordAt (apply (described true w s) (w .memory)) (inScb w 12) + 1) % 65536 in
-    let o =
-    placed (length (w .memory)) (storedPieces w s (countPiece w ∷ statusPiece w ∷ [])) _ (otherCounters w)
-    (ending-pieces (isBare (s .frame)) w s (frameStatus true (s .frame)) (wordTo (inScb w 12) v ∷ statusAfter w (ran c w))
-    (countPiece w ∷ statusPiece w ∷ []) h (count-pieces w (ran c w) v))
-    (lacking-good (length (w .memory)) w s f true e q g b p)
-    in
-    exit.both s n e q b x (stored-front true s _ (otherCounters w) w (ran c w) h l o k)
-    (counted-stands (described true w s) w (ran c w) j (omega arith) o) z
+    let o = both-pieces w (ran c w) s f ((wordAt (apply (described true w s) (w .memory)) (inScb w 12) + 1) % 65536) h e q g b in
+    exit.both s n e q b x (stored-stands true s _ w (ran c w) k h l (separate-at (length (w .memory)) _ (pieces (unitOf w) w) o p))
+    (counted-stands (described true w s) w (ran c w) j (omega arith) o p) z
 exit-of c w f h l g p (held.lost a k) = exit.lost a k
 
--- every call that is not refused, while a good frame is held, where no piece that is written lies over another or over a counter
+-- every call that is not refused, while a good frame is held, where no piece that is written lies over another
 pub good-exit : (c : Call) (w : World) (f : Frame) → RightLengths w [] → inRange (w .device) ≡ true → heldIn (unitOf w) ≡ f ∷ [] → isGood f ≡ true
     → NoOverlap (length (w .memory)) (pieces (unitOf w) w)
     → GoodExit f c w
@@ -344,20 +315,16 @@ bad-exit-of : (c : Call) (w : World) (f : Frame) → length (w .holding) ≡ hol
     → BadExit f c w
 bad-exit-of c w f h l g p (held.stays a b k m) = exit.stays a b k m
 bad-exit-of c w f h l g p (held.stored s free full n e q x k z) =
-    let o =
-    closing-placed (length (w .memory)) w (ran c w) s free full h (subst (λ (u : Ru). NoOverlap (length (w .memory)) (pieces u w)) e p)
-    in
-    exit.stored s free full n e q x (stored-front false s _ (counters w) w (ran c w) h l o k) (counters-stand _ w (ran c w) (k .memory) o) z
+    let o = closing-pieces w (ran c w) s free full h e in
+    exit.stored s free full n e q x (stored-stands false s _ w (ran c w) k h l (separate-at (length (w .memory)) _ (pieces (unitOf w) w) o p))
+    (counters-stand _ w (ran c w) o (k .memory)) z
 bad-exit-of c w f h l g p (held.lacking s n e q x k z) =
-    let o =
-    placed (length (w .memory)) (storedPieces w s (statusPiece w ∷ [])) _ (counters w)
-    (ending-pieces (isBare (s .frame)) w s (frameStatus true (s .frame)) (statusAfter w (ran c w)) (statusPiece w ∷ []) h (status-piece w (ran c w)))
-    (lacking-bad (length (w .memory)) w s f e q g p)
-    in
-    exit.lacking s n e q x (stored-front true s _ (counters w) w (ran c w) h l o k) (counters-stand _ w (ran c w) (k .memory) o) z
+    let o = saved-pieces w (ran c w) s f h e q g in
+    exit.lacking s n e q x (stored-stands true s _ w (ran c w) k h l (separate-at (length (w .memory)) _ (pieces (unitOf w) w) o p))
+    (counters-stand _ w (ran c w) o (k .memory)) z
 bad-exit-of c w f h l g p (held.lost a k) = exit.lost a k
 
--- every call that is not refused, while a bad frame is held, where no piece that is written lies over another or over a counter
+-- every call that is not refused, while a bad frame is held, where no piece that is written lies over another
 pub bad-exit : (c : Call) (w : World) (f : Frame) → RightLengths w [] → inRange (w .device) ≡ true → heldIn (unitOf w) ≡ f ∷ [] → isGood f ≡ false
     → NoOverlap (length (w .memory)) (pieces (unitOf w) w)
     → BadExit f c w

@@ -1,4 +1,5 @@
--- Stored and counted as facts about memory at exit, where no piece that the turn writes lies over another or over a counter. Assumes nothing.
+-- Stored and counted as facts about memory at exit, where no piece that the turn writes lies over another; and a counter that it does not write, where no
+-- piece lies over it. Assumes nothing.
 use mathlib.Core.Path.{_≡_}
 use mathlib.Core.Bool.{Bool, true, false, _||_}
 use mathlib.Core.List.{List, [], _∷_, _++_}
@@ -34,20 +35,6 @@ pub record StoredStands (lacking : Bool) (s : Storing) (w : World) (r : Ran) : T
   pub status : wordAt (r .memory) (inFrame w s 0) ≡ frameStatus lacking (s .frame)
   pub complete : bit (wordAt (r .memory) (inFrame w s 0)) 15 ≡ true
   pub lacks : bit (wordAt (r .memory) (inFrame w s 0)) 9 ≡ lacking
-
--- so many bytes of the SCB are as at entry
-abbrev pub ScbStands : (field size : ℕ) → World → Ran → Type 0
-ScbStands field size w r = bytesAt (r .memory) (inScb w field) size ≡ bytesAt (w .memory) (inScb w field) size
-
--- no counter moves: CRCERRS, ALNERRS, RSCERRS, OVRNERRS, in this order from +8 on, are as at entry
-abbrev pub CountersStand : World → Ran → Type 0
-CountersStand = ScbStands 8 8
-
--- exactly one counter moves: RSCERRS is one more (modulo 65,536) than at entry; CRCERRS and ALNERRS before it and OVRNERRS behind it are as at entry
-pub record CountedStands (w : World) (r : Ran) : Type 0 where
-  pub more : wordAt (r .memory) (inScb w 12) ≡ (wordAt (w .memory) (inScb w 12) + 1) % 65536
-  pub before : ScbStands 8 4 w r
-  pub behind : ScbStands 14 2 w r
 
 -- ---- the pieces by their places
 
@@ -85,26 +72,20 @@ onwardPiece false w s = piece (nextFirst w s) 2 ∷ []
 abbrev pub storedPieces : World → Storing → List Piece → List Piece
 storedPieces w s rest = piece (inFrame w s 8) header ∷ piece (inFrame w s 0) 2 ∷ (barePiece (isBare (s .frame)) w s ++ rest)
 
--- RSCERRS, the SCB status; the four counters, and those beside RSCERRS
+-- RSCERRS, the SCB status
 abbrev pub countPiece : World → Piece
 countPiece w = piece (inScb w 12) 2
 
 abbrev pub statusPiece : World → Piece
 statusPiece w = piece (inScb w scbStatusAt) 2
 
-abbrev pub counters : World → List Piece
-counters w = piece (inScb w 8) 8 ∷ []
-
-abbrev pub otherCounters : World → List Piece
-otherCounters w = piece (inScb w 8) 4 ∷ piece (inScb w 14) 2 ∷ []
-
 -- out of buffers, a good frame: kept, or status 0000h alone; either way RSCERRS, then the SCB status. A bad one is kept, and no counter is written
 abbrev pub lackingPieces : (good saved : Bool) → World → Storing → List Piece
-lackingPieces true true w s = storedPieces w s (countPiece w ∷ statusPiece w ∷ []) ++ otherCounters w
-lackingPieces true false w s = piece (inFrame w s 0) 2 ∷ countPiece w ∷ statusPiece w ∷ otherCounters w
-lackingPieces false saved w s = storedPieces w s (statusPiece w ∷ []) ++ counters w
+lackingPieces true true w s = storedPieces w s (countPiece w ∷ statusPiece w ∷ [])
+lackingPieces true false w s = piece (inFrame w s 0) 2 ∷ countPiece w ∷ statusPiece w ∷ []
+lackingPieces false saved w s = storedPieces w s (statusPiece w ∷ [])
 
--- all that an end turn writes, and the counters that it does not
+-- all that an end turn writes
 abbrev pub pieces : Ru → World → List Piece
 pieces ru.Idle w = []
 pieces ru.NoResources w = []
@@ -112,10 +93,49 @@ pieces (ru.Suspended fd) w = []
 pieces (ru.Ready fd) w = []
 pieces (ru.Held fd f p) w = []
 pieces (ru.Filling s k) w = []
-pieces (ru.Closing s free full) w = storedPieces w s (onwardPiece (s .el || full) w s ++ statusPiece w ∷ []) ++ counters w
+pieces (ru.Closing s free full) w = storedPieces w s (onwardPiece (s .el || full) w s ++ statusPiece w ∷ [])
 pieces (ru.Lacking s) w = lackingPieces (isGood (s .frame)) (s .frame .savebad) w s
 
--- what becomes of a good frame, as facts about memory at exit: if stored no counter moves, if counted exactly one
+-- ---- the counters that it does not write
+
+-- by their places in the SCB: CRCERRS, ALNERRS, RSCERRS, OVRNERRS
+abbrev pub counters : List ℕ
+counters = 8 ∷ 10 ∷ 12 ∷ 14 ∷ []
+
+-- those beside RSCERRS
+abbrev pub otherCounters : List ℕ
+otherCounters = 8 ∷ 10 ∷ 14 ∷ []
+
+-- out of buffers: a bad frame's end writes none, a good one's RSCERRS
+abbrev pub lackingCounters : (good : Bool) → List ℕ
+lackingCounters true = otherCounters
+lackingCounters false = counters
+
+-- so of each counter in a list
+abbrev pub Each : (ℕ → Type 0) → List ℕ → Type 0
+Each P [] = Unit {0}
+Each P (k ∷ ks) = P k × Each P ks
+
+-- no piece that the unit's end turn writes lies over this counter
+abbrev pub Spared : Ru → World → ℕ → Type 0
+Spared u w counter = Away (length (w .memory)) (pieces u w) (piece (inScb w counter) 2)
+
+-- then it is as at entry
+abbrev pub CounterStands : World → Ran → ℕ → Type 0
+CounterStands w r counter = Spared (unitOf w) w counter → bytesAt (r .memory) (inScb w counter) 2 ≡ bytesAt (w .memory) (inScb w counter) 2
+
+-- no counter moves: each of the four is as at entry, if no piece lies over it
+abbrev pub CountersStand : World → Ran → Type 0
+CountersStand w r = Each (CounterStands w r) counters
+
+-- exactly one counter moves: RSCERRS is one more (modulo 65,536) than at entry; each of the other three is as at entry, if no piece lies over it
+pub record CountedStands (w : World) (r : Ran) : Type 0 where
+  pub more : wordAt (r .memory) (inScb w 12) ≡ (wordAt (w .memory) (inScb w 12) + 1) % 65536
+  pub others : Each (CounterStands w r) otherCounters
+
+-- ---- what becomes of it
+
+-- a good frame, as facts about memory at exit: if stored no counter moves, if counted exactly one; counted and not kept, 0000h stands in its descriptor
 pub data GoodExit (f : Frame) (c : Call) (w : World) : Type 0 where
   stays : loses c w ≡ false → ends c w ≡ false → StaysHeld f w (ran c w) → Meanwhile f c w → GoodExit f c w
   stored : (s : Storing) (free : Offset) (full : Bool) → ends c w ≡ true → unitOf w ≡ ru.Closing s free full → s .frame ≡ f
@@ -126,6 +146,7 @@ pub data GoodExit (f : Frame) (c : Call) (w : World) : Type 0 where
       → GoodExit f c w
   counted : (s : Storing) → ends c w ≡ true → unitOf w ≡ ru.Lacking s → s .frame ≡ f → f .savebad ≡ false
       → ran c w .outcome .fates ≡ fate.Counted ∷ []
+      → wordAt (ran c w .memory) (inFrame w s 0) ≡ 0x0000
       → CountedStands w (ran c w)
       → AtEnd false ru.NoResources w (ran c w)
       → GoodExit f c w
@@ -137,7 +158,7 @@ pub data GoodExit (f : Frame) (c : Call) (w : World) : Type 0 where
       → GoodExit f c w
   lost : loses c w ≡ true → Lost w c → GoodExit f c w
 
--- what becomes of a bad frame, as facts about memory at exit: at its end no counter moves
+-- a bad frame, as facts about memory at exit: at its end no counter moves
 pub data BadExit (f : Frame) (c : Call) (w : World) : Type 0 where
   stays : loses c w ≡ false → ends c w ≡ false → StaysHeld f w (ran c w) → Meanwhile f c w → BadExit f c w
   stored : (s : Storing) (free : Offset) (full : Bool) → ends c w ≡ true → unitOf w ≡ ru.Closing s free full → s .frame ≡ f
