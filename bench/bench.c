@@ -17,7 +17,7 @@
 enum {
     ISCP_AT = 0x0100,
     SCB_AT = 0x0110,
-    BLOCK_AT = 0x0200,       /* a block for a Transmit */
+    BLOCK_AT = 0x0200,       /* a block for a Transmit, or for an MC-Setup of 30 addresses */
     TBD_AT = 0x0400,         /* transmit buffer descriptors, 8 bytes each */
     SENT_AT = 0x0500,        /* what is sent */
     FD_AT = 0x0B00,          /* two frame descriptors, 32 bytes from one to the next, linked to each other */
@@ -193,14 +193,58 @@ static void receives(unsigned items, unsigned length, unsigned buffers)
     }
 }
 
-/* Frames to another station. */
-static void not_for_us(unsigned items)
+/* An MC-Setup of 30 groups, 01-00-5E-00-01-01 to -1E, linked to itself, so that it can be done again and again. */
+static void start_mc_setup(void)
+{
+    enum { GROUPS = 30 };
+    put_word(BLOCK_AT + LQ_CB_COMMAND, LQ_CMD_MC_SETUP);
+    put_word(BLOCK_AT + LQ_CB_LINK, BLOCK_AT);
+    put_word(BLOCK_AT + LQ_MC_COUNT, 6 * GROUPS);
+    for (unsigned i = 0; i < GROUPS; i++) {
+        uint32_t at = BLOCK_AT + LQ_MC_ADDRESSES + 6 * i;
+        put_word(at, 0x0001);
+        put_word(at + 2, 0x005E);
+        put_word(at + 4, 0x0001 | (i + 1) << 8);
+    }
+    put_word(SCB_AT + LQ_SCB_CBL, BLOCK_AT);
+    command(LQ_CUC(LQ_START));
+}
+
+static void mc_setups(unsigned items)
+{
+    start_mc_setup();
+    for (unsigned i = 0; i < items; i++) {
+        turns(2);
+        must(get_word(BLOCK_AT) == (LQ_C | LQ_OK), "an MC-Setup is not done");
+    }
+}
+
+/* Frames that are dropped: to six times a byte. */
+static void dropped(unsigned items, uint8_t to)
 {
     static uint8_t frame[64];
     put_word(SCB_AT + LQ_SCB_RFA, FD_AT);
     command(LQ_RUC(LQ_START));
-    fill_frame(frame, 60, 0x02);
+    fill_frame(frame, 60, to);
     for (unsigned i = 0; i < items; i++) arrival(frame, 60);
+    must(lq_number(lq_turn(AREAS, 0)) == LQ_ACCEPTED && get_word(FD_AT) == 0, "a frame that is not for us was held");
+}
+
+/* Frames to another station. */
+static void not_for_us(unsigned items)
+{
+    dropped(items, 0x02);
+}
+
+/* Frames to a group, 01-01-01-01-01-01, whose bit, 47, is clear while those of 30 others are set. */
+static void not_our_group(unsigned items)
+{
+    start_mc_setup();
+    must(lq_number(lq_run(AREAS, 0, 2)) == LQ_ACCEPTED, "a run was refused");
+    must(get_word(BLOCK_AT) == (LQ_C | LQ_OK), "an MC-Setup is not done");
+    command(LQ_CUC(LQ_ABORT));
+    command(LQ_EVENTS);
+    dropped(items, 0x01);
 }
 
 static void attentions(unsigned items)
@@ -216,7 +260,14 @@ static void idle_turns(unsigned items)
 static const struct row {
     const char *name;
     void (*run)(unsigned items);
-} PLAIN[] = {{"nop", nops}, {"other", not_for_us}, {"attention", attentions}, {"idle", idle_turns}};
+} PLAIN[] = {
+    {"nop", nops},
+    {"mc30", mc_setups},
+    {"other", not_for_us},
+    {"group", not_our_group},
+    {"attention", attentions},
+    {"idle", idle_turns},
+};
 
 /* tx46, tx1500/6, rx46, rx46/3 ..: bytes of data, then buffers if more than one */
 static void framed(const char *row, unsigned items)

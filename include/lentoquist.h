@@ -234,7 +234,7 @@ static inline bool lq_interrupt(const uint8_t *record)
 #define LQ_CMD_NOP       0
 #define LQ_CMD_IA_SETUP  1 /* LQ_CB_DATA: six bytes */
 #define LQ_CMD_CONFIGURE 2 /* LQ_CB_DATA: the count, then the bytes, see LQ_CONFIGURE_.. */
-#define LQ_CMD_MC_SETUP  3 /* LQ_CB_DATA: byte count, a word; then the addresses, at most 16 */
+#define LQ_CMD_MC_SETUP  3 /* LQ_CB_DATA: byte count, a word; then the addresses, see LQ_MC_.. */
 #define LQ_CMD_TRANSMIT  4
 #define LQ_CMD_TDR       5 /* LQ_CB_DATA: the result, a word */
 #define LQ_CMD_DUMP      6 /* not offered: ends without OK */
@@ -251,8 +251,11 @@ static inline bool lq_interrupt(const uint8_t *record)
 #define LQ_PROMISCUOUS        0x01
 #define LQ_BROADCAST_DISABLED 0x02
 
-/* MC-Setup */
-#define LQ_MC_COUNT     6
+/* MC-Setup. Each address, of six bytes, falls on one bit of a filter of 64; the new filter replaces the old one, and a
+   count below 6 leaves it empty. A frame to a group, the low bit of its first byte set, passes if its bit is set: so
+   groups that were not listed may pass too, and the host looks at the destination again. The filter has no say on
+   frames to everyone, all FFh: LQ_CONFIGURE_FILTER alone decides on them. */
+#define LQ_MC_COUNT     6 /* bytes, in bits 13-0, any number; a remainder of the division by six is ignored */
 #define LQ_MC_ADDRESSES 8
 
 /* Transmit */

@@ -156,30 +156,87 @@ static void configure_keeps(void)
 
 /* ---- MC-Setup ---- */
 
-static void mc_setup(void)
+/* Twenty groups stand in the list. A count that ends among them takes exactly those before its end; a larger one takes
+   what stands behind them too, around memory if it goes so far. */
+static void mc_setup_count(size_t n, unsigned count)
 {
-    static const unsigned counts[] = {0,  1,   5,   6,   7,   11,     12,     18,     95,     96,
-                                      97, 101, 102, 103, 200, 0x3FFF, 0x4006, 0x8006, 0xC000, 0xFFFF};
+    enum { LISTED = 20 };
+    struct chip chip = ready_chip(n);
+    unsigned addresses = (count & 0x3FFF) / 6;
+    uint64_t listed = 0;
+    begin_case("MC-Setup, the count");
+    for (unsigned a = 0; a < LISTED; a++) {
+        const uint8_t group[6] = {0x01, (uint8_t)a, (uint8_t)a, (uint8_t)a, (uint8_t)a, (uint8_t)a};
+        put_bytes(&chip, BLOCK + LQ_MC_ADDRESSES + 6 * a, group, 6);
+        if (a < addresses) listed |= bit_of(group);
+    }
+    uint64_t bits = run_mc_setup(&chip, BLOCK, count);
+    CHECK((listed & ~bits) == 0, "count %u: a listed group's bit is missing", count);
+    check_filter(&chip, addresses <= LISTED ? listed : bits);
+    for (unsigned a = 0; a < LISTED && a < addresses; a++) {
+        const uint8_t group[6] = {0x01, (uint8_t)a, (uint8_t)a, (uint8_t)a, (uint8_t)a, (uint8_t)a};
+        CHECK(is_received(&chip, group), "count %u: the listed group %u is not received", count, a);
+    }
+    chip_free(&chip);
+}
+
+static void mc_setup_counts(void)
+{
+    static const unsigned counts[] = {0,      1,      5,      6,      7,      11,     12,     18,   95,  96,
+                                      97,     101,    102,    103,    120,    180,    200,    8184, 8190, 8196,
+                                      0x3FFB, 0x3FFC, 0x3FFF, 0x4006, 0x8006, 0xC000, 0xC005, 0xFFFF};
     for (size_t i = 0; i < COUNT_OF(counts); i++) {
+        mc_setup_count(LQ_MEMORY_MIN, counts[i]);
+        mc_setup_count(65536, counts[i]);
+    }
+}
+
+static void put_groups(struct chip *chip, const uint8_t groups[][6], unsigned n)
+{
+    for (unsigned a = 0; a < n; a++) put_bytes(chip, BLOCK + LQ_MC_ADDRESSES + 6 * a, groups[a], 6);
+}
+
+/* the new filter replaces the old one whole, none of it stays; a count below 6 leaves an empty one */
+static void mc_setup_replaces(void)
+{
+    static const uint8_t before[2][6] = {{0x01, 0x00, 0x5E, 0x00, 0x00, 0x01}, {0xAB, 0x00, 0x00, 0x02, 0x00, 0x00}};
+    static const uint8_t after[1][6] = {{0x01, 0x80, 0xC2, 0x00, 0x00, 0x00}};
+    for (unsigned below = 0; below < 6; below++) {
         struct chip chip = ready_chip(LQ_MEMORY_MIN);
-        unsigned addresses = (counts[i] & 0x3FFF) / 6;
-        begin_case("MC-Setup");
-        for (uint32_t b = 0; b < 120; b++) put_byte(&chip, BLOCK + 8 + b, b % 6 == 0 ? 0x01 : b / 6);
-        put_word(&chip, BLOCK + 6, counts[i]);
-        unsigned found = run_command(&chip, LQ_CMD_MC_SETUP);
-        CHECK(found == (addresses > 16 ? 0x8000 : 0xA000), "count %u gives %04Xh", counts[i], found);
-        put_fd(&chip, 0x400, 0, 0x400, LQ_NONE);
-        for (unsigned a = 0; a < 20; a++) {
-            const uint8_t group[6] = {0x01, (uint8_t)a, (uint8_t)a, (uint8_t)a, (uint8_t)a, (uint8_t)a};
-            put_word(&chip, 0x400, 0);
-            start_ru(&chip, 0x400);
-            arrive(&chip, group, 60, 0);
-            turn(&chip);
-            check_word(&chip, 0x400, addresses <= 16 && a < addresses ? LQ_B : 0);
-            attend(&chip, LQ_RUC(LQ_ABORT));
-        }
+        begin_case("MC-Setup replaces the filter");
+        put_groups(&chip, before, 2);
+        run_mc_setup(&chip, BLOCK, 12);
+        check_filter(&chip, (uint64_t)1 << 52 | (uint64_t)1 << 59);
+        put_groups(&chip, after, 1);
+        run_mc_setup(&chip, BLOCK, 6);
+        check_filter(&chip, (uint64_t)1 << 40);
+        CHECK(is_received(&chip, after[0]), "the group listed last is not received");
+        CHECK(!is_received(&chip, before[0]) && !is_received(&chip, before[1]), "a group listed before is received");
+        run_mc_setup(&chip, BLOCK, below);
+        check_filter(&chip, 0);
         chip_free(&chip);
     }
+}
+
+/* thirty groups are all received, and so they are if the list has them a second time, backwards; one that shares no bit
+   with them is dropped */
+static void mc_setup_thirty(void)
+{
+    static const uint8_t other[6] = {0x01, 0x80, 0xC2, 0x00, 0x00, 0x00};
+    struct chip chip = ready_chip(LQ_MEMORY_MIN);
+    uint8_t groups[60][6] = {0};
+    begin_case("MC-Setup of thirty groups");
+    for (unsigned a = 0; a < 60; a++) {
+        const uint8_t group[6] = {0x01, 0x00, 0x5E, 0x00, 0x01, (uint8_t)(1 + (a < 30 ? a : 59 - a))};
+        memcpy(groups[a], group, 6);
+    }
+    put_groups(&chip, groups, 60);
+    for (unsigned n = 30; n <= 60; n += 30) {
+        run_mc_setup(&chip, BLOCK, 6 * n);
+        for (unsigned a = 0; a < 30; a++) CHECK(is_received(&chip, groups[a]), "group %u of thirty is not received", a);
+        CHECK(!is_received(&chip, other), "a group that shares no bit is received");
+    }
+    chip_free(&chip);
 }
 
 /* ---- Transmit ---- */
@@ -261,7 +318,9 @@ void commands(void)
     configure_counts();
     configure_as_written();
     configure_keeps();
-    mc_setup();
+    mc_setup_counts();
+    mc_setup_replaces();
+    mc_setup_thirty();
     transmit_limits();
     reports();
 }

@@ -35,7 +35,7 @@
          SETTLING(WORDS({0x80, 0xA000}, {0x30, 0x2040})), \
          SETTLING(WORDS({0x60, status}, {0x30, scb}, COUNTERS(0, 0, 1, 0))))
 
-/* a listed address of all FFh does not help where broadcast is disabled; promiscuous does */
+/* all FFh in the list does not help where broadcast is disabled; promiscuous does */
 #define LISTED_ONES(byte, descriptor) \
     CASE("listed ones", \
          WORDS({0x42, 0x0003}, {0x44, 0x80}, {0x46, 6}, {0x48, 0xFFFF}, {0x4A, 0xFFFF}, {0x4C, 0xFFFF}, \
@@ -49,6 +49,24 @@
          RECEIVING, \
          CAME(BROADCAST(46), GOOD, NOTHING), \
          TURNED(WORDS({0x60, descriptor})))
+
+/* all FFh passes by no bit, not even by its own, 59, which AB-00-00-02-00-00 shares: with broadcast disabled that group
+   passes and all FFh does not, whichever of them is listed */
+#define BIT_OF_ONES(first, second, third) \
+    CASE("bit of ones", \
+         WORDS({0x42, 0x0003}, {0x44, 0x80}, {0x46, 6}, {0x48, first}, {0x4A, second}, {0x4C, third}, \
+               {0x82, 0x8002}, {0x86, 0x0009}, {0x88, 0x0600}, {0x8E, 2}, DESCRIPTORS, BOARD), \
+         INITIALISED, \
+         COMMANDING, \
+         TURNED(NOTHING), \
+         TURNED(WORDS({0x40, 0xA000})), \
+         TURNED(NOTHING), \
+         SETTLING(WORDS({0x80, 0xA000})), \
+         RECEIVING, \
+         CAME(BROADCAST(46), GOOD, NOTHING), \
+         TURNED(WORDS({0x60, 0})), \
+         CAME(TO(0xAB, 0, 0, 2, 0, 0), GOOD, NOTHING), \
+         TURNED(WORDS({0x60, 0x4000})))
 
 /* byte 3: the length must be 6, location and loopback 0; bits 4 and 5 are free */
 #define THIRD_BYTE(byte, status) \
@@ -75,8 +93,9 @@
          CAME(COUNTING_AFTER(2, 2, 59), GOOD, NOTHING), \
          TURNED(WORDS({0x60, descriptor})))
 
-/* an address is listed; a second MC-Setup with a count: its status, and whether the address still is */
-#define LISTED_THEN(count, status, descriptor) \
+/* a group is listed; a second MC-Setup, with any count, is done and leaves nothing of that filter. In its list stand
+   addresses of zeros, if any */
+#define LISTED_THEN(count) \
     CASE("listed then", \
          WORDS({0x42, 0x0003}, {0x44, 0x80}, {0x46, 6}, {0x48, 0x0203}, {0x82, 0x8003}, {0x86, count}, \
                {0x64, 0x80}, BOARD), \
@@ -85,10 +104,10 @@
          TURNED(NOTHING), \
          TURNED(WORDS({0x40, 0xA000})), \
          TURNED(NOTHING), \
-         SETTLING(WORDS({0x80, status}, {0x30, 0x2000})), \
+         SETTLING(WORDS({0x80, 0xA000}, {0x30, 0x2000})), \
          RECEIVING, \
          CAME(TO(3, 2, 0, 0, 0, 0), GOOD, NOTHING), \
-         TURNED(WORDS({0x60, descriptor})))
+         TURNED(WORDS({0x60, 0})))
 
 #define SENDING \
     {0x42, 0x8004}, {0x46, 0xA0}, {0x48, 0x0201}, {0x4E, 0x0900}, {0xA0, 0x4002}, {0xA2, 0xB0}, {0xA4, 0xC0}, \
@@ -331,7 +350,11 @@ static const struct worked_case cases[] = {
          TURNED(WORDS({0x60, 0x4000}))),
     LISTED_ONES(2, 0),
     LISTED_ONES(3, 0x4000),
+    BIT_OF_ONES(0xFFFF, 0xFFFF, 0xFFFF),
+    BIT_OF_ONES(0x00AB, 0x0200, 0x0000),
     THIRD_BYTE(0x36, 0xA000),
+    THIRD_BYTE(0x02, 0x8000),
+    THIRD_BYTE(0x04, 0x8000),
     THIRD_BYTE(0x07, 0x8000),
     THIRD_BYTE(0x0E, 0x8000),
     THIRD_BYTE(0x46, 0x8000),
@@ -359,14 +382,18 @@ static const struct worked_case cases[] = {
          TURNED(WORDS({0x60, 0x4000})),
          TURNED(NOTHING),
          SETTLING(WORDS({0x60, 0x8080}))),
-    LISTED_THEN(102, 0x8000, 0x4000),
-    LISTED_THEN(5, 0xA000, 0),
-    LISTED_THEN(0xC000, 0xA000, 0),
+    LISTED_THEN(102),
+    LISTED_THEN(6),
+    LISTED_THEN(5),
+    LISTED_THEN(0),
+    LISTED_THEN(0xC000),
 
-    /* sixteen addresses: the last of them is listed */
-    CASE("sixteenth", WORDS({0x42, 0x8003}, {0x46, 96}, {0xA2, 0x0203}, BOARD),
+    /* thirty addresses: the last of them is in the filter, another group is not */
+    CASE("thirtieth", WORDS({0x42, 0x8003}, {0x46, 180}, {0xF6, 0x0203}, BOARD),
          CONFIGURED,
          RECEIVING,
+         CAME(TO(3, 3, 0, 0, 0, 0), GOOD, NOTHING),
+         TURNED(WORDS({0x60, 0})),
          CAME(TO(3, 2, 0, 0, 0, 0), GOOD, NOTHING),
          TURNED(WORDS({0x60, 0x4000}))),
 
@@ -486,6 +513,15 @@ static const struct worked_case cases[] = {
          CAME(BROADCAST(46), GOOD, NOTHING),
          STEP(WORDS({0x32, 0xFFFF}), TURN(0), QUIET, WORDS({0x2C, 0x4000}), LOW),
          SETTLING(WORDS({0x2C, 0x8200}, {0x3C, 0x0505}, {0x30, 0x5020}))),
+
+    /* short and out of buffers, saved: both bits, and no counter, since it is not otherwise good */
+    CASE("short saved lacks", WORDS(SAVING, DESCRIPTORS, BUFFER_AT(0xA0, 0xAA, 0xC0, 0x8014), BOARD),
+         CONFIGURED,
+         RECEIVING,
+         CAME(BROADCAST(45), GOOD, NOTHING),
+         TURNED(WORDS({0x60, 0x4000})),
+         TURNED(WORDS({0xA0, 0x4014})),
+         SETTLING(WORDS({0x60, 0x8280}, {0x30, 0x5020}, COUNTERS(0, 0, 0, 0)))),
 };
 
 void edges(void)

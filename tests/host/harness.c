@@ -30,6 +30,24 @@ unsigned long calls_made(void)
     return call_count;
 }
 
+/* ---- random numbers ---- */
+
+static uint64_t random_state;
+
+void seed_random(uint64_t seed)
+{
+    random_state = seed;
+}
+
+/* splitmix64 */
+uint64_t random_bits(void)
+{
+    uint64_t z = random_state += 0x9E3779B97F4A7C15u;
+    z = (z ^ z >> 30) * 0xBF58476D1CE4E5B9u;
+    z = (z ^ z >> 27) * 0x94D049BB133111EBu;
+    return z ^ z >> 31;
+}
+
 /* ---- areas ---- */
 
 struct area area_of(const char *name, size_t length)

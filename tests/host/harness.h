@@ -28,6 +28,11 @@ void print_place(void);
 unsigned long cases_run(void);
 unsigned long calls_made(void);
 
+/* ---- random numbers: the same from the same seed ---- */
+
+void seed_random(uint64_t seed);
+uint64_t random_bits(void);
+
 /* ---- areas with guard bytes on both sides ---- */
 
 struct area {
@@ -163,6 +168,7 @@ void readings(void);
 void edges(void);
 void control(void);
 void commands(void);
+void hashes(uint64_t seed);
 void receiving(void);
 void shapes(void);
 void random_calls(unsigned long calls, uint64_t seed);

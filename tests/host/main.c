@@ -18,6 +18,11 @@ static void subject(const char *name, void (*run)(void))
 static unsigned long calls = 100000;
 static uint64_t seed = 82586;
 
+static void hash_subject(void)
+{
+    hashes(seed);
+}
+
 static void random_subject(void)
 {
     random_calls(calls, seed);
@@ -48,6 +53,7 @@ int main(int argc, char **argv)
     subject("edges", edges);
     subject("control", control);
     subject("commands", commands);
+    subject("hash", hash_subject);
     subject("receiving", receiving);
     subject("shapes", shapes);
     subject("random", random_subject);

@@ -1,5 +1,6 @@
 /* See model.h. In the order of document 01; a comment names its sentence. */
 #include "model.h"
+#include "paper_hash.h"
 
 #include <string.h>
 
@@ -322,13 +323,16 @@ static unsigned configure(struct model *chip, struct lent l, uint32_t block)
     return C | OK;
 }
 
+/* "low 14 bits at +6 count bytes, addresses from +8, a remainder ignored"; the filter is made anew */
 static unsigned mc_setup(struct model *chip, struct lent l, uint32_t block)
 {
     unsigned addresses = (word_at(l, block + 6) & LOW_14) / 6;
-    if (addresses > 16) return C;
-    memset(chip->listed, 0, sizeof chip->listed);
-    for (unsigned a = 0; a < addresses; a++)
-        for (unsigned i = 0; i < 6; i++) chip->listed[a][i] = byte_at(l, block + 8 + 6 * a + i);
+    chip->filter = 0;
+    for (unsigned a = 0; a < addresses; a++) {
+        uint8_t address[6];
+        for (unsigned i = 0; i < 6; i++) address[i] = byte_at(l, block + 8 + 6 * a + i);
+        chip->filter |= bit_of(address);
+    }
     return C | OK;
 }
 
@@ -396,19 +400,12 @@ static bool all_ones(const uint8_t *address)
     return true;
 }
 
-static bool is_listed(const struct model *chip, const uint8_t *address)
-{
-    for (unsigned a = 0; a < 16; a++)
-        if (memcmp(chip->listed[a], address, 6) == 0) return true;
-    return false;
-}
-
 static bool match(const struct model *chip, const uint8_t *destination)
 {
     if (chip->settings.promiscuous) return true;
     if (all_ones(destination)) return !chip->settings.broadcast_disabled;
     if (memcmp(destination, chip->own, 6) == 0) return true;
-    return (destination[0] & 1) && is_listed(chip, destination);
+    return (destination[0] & 1) && (chip->filter & bit_of(destination)) != 0;
 }
 
 static enum verdict verdict_of(uint32_t verdict)

@@ -1,6 +1,7 @@
 /*
  * Document 01 once more, in plain C: the chip with its state in a struct. The tests run it beside the archive and
- * compare every byte. It was written from document 01 and shares no code with the chip.
+ * compare every byte. It was written from document 01, and paper_hash.c from document 000, and shares no code with the
+ * chip.
  */
 #ifndef MODEL_H
 #define MODEL_H
@@ -61,7 +62,7 @@ struct model {
     enum unit served;
     struct settings settings;
     uint8_t own[6];
-    uint8_t listed[16][6];
+    uint64_t filter; /* bit k: groups that fall on k pass */
     struct command_unit cu;
     struct receive_unit ru;
 };

@@ -9,17 +9,6 @@
 
 /* ---- numbers ---- */
 
-static uint64_t random_state;
-
-/* splitmix64 */
-static uint64_t random_bits(void)
-{
-    uint64_t z = random_state += 0x9E3779B97F4A7C15u;
-    z = (z ^ z >> 30) * 0xBF58476D1CE4E5B9u;
-    z = (z ^ z >> 27) * 0x94D049BB133111EBu;
-    return z ^ z >> 31;
-}
-
 static unsigned below(unsigned n)
 {
     return (unsigned)(random_bits() % n);
@@ -94,6 +83,17 @@ static unsigned random_count(void)
     return one_in(12) ? below(0x4000) : one_in(6) ? below(1200) : below(48);
 }
 
+/* of an MC-Setup: a few addresses, some, any count, more than 8,192 bytes */
+static unsigned random_list_count(void)
+{
+    switch (below(4)) {
+    case 0: return below(24);
+    case 1: return below(200);
+    case 2: return below(0x10000);
+    default: return 0x2000 + below(0x2000);
+    }
+}
+
 /* the word with bits set, once in n times */
 static unsigned with(unsigned word, unsigned bits, unsigned n)
 {
@@ -101,6 +101,13 @@ static unsigned with(unsigned word, unsigned bits, unsigned n)
 }
 
 /* ---- what the host writes ---- */
+
+/* GROUP, or one of 64 groups that fall on as many bits */
+static void put_group(struct chip *chip, uint32_t at)
+{
+    const uint8_t one[6] = {1, 0, 0, 0, 0, (uint8_t)below(64)};
+    put_bytes(chip, at, one_in(3) ? GROUP : one, 6);
+}
 
 static void write_parameters(struct board *board, uint32_t at, unsigned cmd)
 {
@@ -117,8 +124,8 @@ static void write_parameters(struct board *board, uint32_t at, unsigned cmd)
         put_byte(chip, at + 16, one_in(2) ? below(256) : 64);
         break;
     case LQ_CMD_MC_SETUP:
-        put_word(chip, at + LQ_MC_COUNT, one_in(3) ? below(0x10000) : below(110));
-        put_bytes(chip, at + LQ_MC_ADDRESSES, GROUP, 6);
+        put_word(chip, at + LQ_MC_COUNT, random_list_count());
+        for (uint32_t a = below(4); a-- > 0;) put_group(chip, at + LQ_MC_ADDRESSES + 6 * a);
         break;
     case LQ_CMD_TRANSMIT:
         put_word(chip, at + LQ_TRANSMIT_BUFFER, offset_or_none(board, TBD));
@@ -130,6 +137,7 @@ static void write_parameters(struct board *board, uint32_t at, unsigned cmd)
 static void write_block(struct board *board, uint32_t at)
 {
     unsigned cmd = one_in(3) ? LQ_CMD_TRANSMIT : one_in(4) ? LQ_CMD_CONFIGURE : below(8);
+    if (one_in(12)) cmd = LQ_CMD_MC_SETUP;
     unsigned word = with(with(with(with(cmd, LQ_EL, 6), LQ_S, 6), LQ_I, 3), 0x1FF8, 8);
     put_block(&board->chip, at, word, random_offset(board, BLOCK));
     write_parameters(board, at, cmd);
@@ -225,15 +233,19 @@ static size_t random_length(void)
     return 14 + below(one_in(3) ? 50 : 120);
 }
 
+/* the frame that arrived last */
+static uint8_t frame[LQ_FRAME_MAX];
+static size_t frame_length;
+
 static struct answer random_arrival(struct board *board)
 {
-    static uint8_t frame[LQ_FRAME_MAX];
-    size_t length = random_length();
-    for (size_t i = 0; i < length; i++) frame[i] = (uint8_t)random_bits();
-    const uint8_t *destination = one_in(2) ? EVERYONE : one_in(2) ? OWN : one_in(2) ? GROUP : frame;
-    for (size_t i = 0; i < 6 && i < length; i++) frame[i] = destination[i];
+    const uint8_t one[6] = {1, 0, 0, 0, 0, (uint8_t)below(64)};
+    frame_length = random_length();
+    for (size_t i = 0; i < frame_length; i++) frame[i] = (uint8_t)random_bits();
+    const uint8_t *destination = one_in(2) ? EVERYONE : one_in(3) ? OWN : one_in(3) ? GROUP : one_in(2) ? one : frame;
+    for (size_t i = 0; i < 6 && i < frame_length; i++) frame[i] = destination[i];
     uint32_t verdict = one_in(2) ? 0 : one_in(8) ? (uint32_t)random_bits() : below(3);
-    return call(&board->chip, ARRIVAL_CALL(frame, length, verdict));
+    return call(&board->chip, ARRIVAL_CALL(frame, frame_length, verdict));
 }
 
 static struct answer random_turn(struct board *board)
@@ -299,7 +311,7 @@ static uint64_t hash_state(const struct model *m)
     uint64_t hash = 1;
     for (size_t i = 0; i < COUNT_OF(fields); i++) hash = mix(hash, fields[i]);
     hash = hash_bytes(hash, m->own, sizeof m->own);
-    return hash_bytes(hash, m->listed[0], sizeof m->listed);
+    return mix(hash, m->filter);
 }
 
 enum { SEEN = 1 << 14 };
@@ -329,18 +341,28 @@ static void check_encoding(const struct chip *chip)
 
 enum event {
     CU_BEGIN, CU_BUFFER, CU_END, CU_END_FAILED, CU_WAITING, RU_BEGIN, RU_BUFFER, RU_END, RU_END_OUT, RU_WAITING,
-    BOTH_WORK, NO_WORK, SENT, HELD_BAD, ABORTED_COMMAND, ABORTED_FRAME, RESETTING, OVERRUN, EVENT_KINDS
+    BOTH_WORK, NO_WORK, SENT, HELD_BAD, ABORTED_COMMAND, ABORTED_FRAME, RESETTING, OVERRUN, LIST_OVER_BLOCK,
+    GROUP_PASSES, GROUP_DROPPED, EVENT_KINDS
 };
 
 static const char *const EVENT_NAMES[EVENT_KINDS] = {
     "commands begun", "transmit buffers", "commands ended", "failed transmits", "commands with a waiting SUSPEND",
     "frames begun", "receive buffers", "frames ended", "frames out of buffers", "frames with a waiting SUSPEND",
     "turns with both units at work", "turns with no work", "frames sent", "bad frames held", "commands aborted",
-    "frames aborted", "resetting attentions", "frames while one is held"};
+    "frames aborted", "resetting attentions", "frames while one is held", "lists around memory and over their block",
+    "groups held by their bit", "groups dropped by a clear bit, others set"};
 
 static unsigned long happened[EVENT_KINDS];
 
-static void note_turn(const struct model *before, const struct answer *answer)
+/* the end of an MC-Setup whose list comes to its block again */
+static bool is_over_its_block(const struct chip *chip, const struct model *before)
+{
+    if (before->cu.phase != COMMAND_END || before->cu.cmd != LQ_CMD_MC_SETUP) return false;
+    unsigned count = word_of(chip, before->base + before->cu.block + LQ_MC_COUNT) & LQ_COUNT;
+    return LQ_MC_ADDRESSES + count / 6 * 6 > chip->lent.memory.length;
+}
+
+static void note_turn(const struct chip *chip, const struct model *before, const struct answer *answer)
 {
     bool cu_work = before->cu.state == CU_ACTIVE, ru_work = before->ru.phase != FRAME_NONE;
     bool cu = cu_work && !(ru_work && before->served == UNIT_CU);
@@ -350,6 +372,7 @@ static void note_turn(const struct model *before, const struct answer *answer)
     if (cu) {
         happened[CU_BEGIN + before->cu.phase]++;
         happened[CU_WAITING] += before->cu.waiting;
+        happened[LIST_OVER_BLOCK] += is_over_its_block(chip, before);
     } else if (ru_work) {
         happened[RU_BEGIN + before->ru.phase - FRAME_HELD]++;
         happened[RU_WAITING] += before->ru.waiting;
@@ -369,6 +392,11 @@ static void note_arrival(const struct model *before, const struct model *after)
     bool held = before->ru.phase == FRAME_NONE && after->ru.phase == FRAME_HELD;
     happened[HELD_BAD] += held && (after->ru.is_short || after->ru.verdict != VERDICT_GOOD);
     happened[OVERRUN] += before->ru.phase != FRAME_NONE;
+    bool group = frame_length >= LQ_FRAME_HEADER && (frame[0] & 1) && memcmp(frame, EVERYONE, 6) != 0;
+    if (!group || before->settings.promiscuous || memcmp(frame, before->own, 6) == 0) return;
+    bool set = (before->filter & bit_of(frame)) != 0;
+    happened[GROUP_PASSES] += set && held;
+    happened[GROUP_DROPPED] += !set && before->filter != 0 && before->ru.state == RU_READY;
 }
 
 /* ---- an episode ---- */
@@ -401,7 +429,7 @@ static void random_call(struct board *board)
         random_run(board);
     } else {
         struct answer answer = random_turn(board);
-        note_turn(&before, &answer);
+        note_turn(&board->chip, &before, &answer);
     }
     check_encoding(&board->chip);
 }
@@ -417,7 +445,7 @@ static void episode(unsigned long calls)
 void random_calls(unsigned long calls, uint64_t seed)
 {
     enum { EPISODE = 250 };
-    random_state = seed;
+    seed_random(seed);
     printf("random     seed %lu\n", (unsigned long)seed);
     fflush(NULL);
     for (unsigned long done = 0; done < calls; done += EPISODE) episode(EPISODE);

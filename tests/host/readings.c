@@ -32,6 +32,14 @@
          TURNED(NOTHING), \
          SETTLING(WORDS({0x60, 0xA000}, {0x30, 0x4040}, __VA_ARGS__)))
 
+/* a remainder is no address: of the second address, 03-02-00-00-00-00, the last byte is counted or not */
+#define REMAINDER(count, descriptor) \
+    CASE("remainder", WORDS({0x42, 0x8003}, {0x46, count}, {0x4E, 0x0203}, DESCRIPTORS, BOARD), \
+         CONFIGURED, \
+         RECEIVING, \
+         CAME(TO(3, 2, 0, 0, 0, 0), GOOD, NOTHING), \
+         TURNED(WORDS({0x60, descriptor})))
+
 static const struct worked_case cases[] = {
     /* all reads, then BUSY, status, command: with the SCB at 1Fh its status covers BUSY */
     CASE("order at first", WORDS({8188, 0x20}, {0x20, 1}, {0x22, 0x1F}),
@@ -212,7 +220,8 @@ static const struct worked_case cases[] = {
          CAME(BROADCAST(46), GOOD, NOTHING),
          TURNED(WORDS({0x60, 0}))),
 
-    /* MC-Setup: a listed address is received; one that is not listed, or has the low bit clear, is not */
+    /* MC-Setup: a listed group is received; one whose bit is clear is not, nor an address with the low bit clear,
+       though it is listed */
     CASE("listed", WORDS({0x42, 0x8003}, {0x46, 17}, {0x48, 0x0203}, {0x4E, 0x0204}, DESCRIPTORS, BOARD),
          CONFIGURED,
          RECEIVING,
@@ -222,14 +231,39 @@ static const struct worked_case cases[] = {
          CAME(TO(3, 2, 0, 0, 0, 0), GOOD, NOTHING),
          TURNED(WORDS({0x60, 0x4000}))),
 
-    /* above 16 addresses: 8000h; a remainder does not make a seventeenth */
-    CASE("too many", WORDS({0x42, 0x0003}, {0x44, 0x80}, {0x46, 102}, {0x82, 0x8003}, {0x86, 101}, BOARD),
+    /* the filter is no list: 01-0B-00-00-00-00 is not listed and passes by the bit of 03-02-00-00-00-00, which is */
+    CASE("shared bit", WORDS({0x42, 0x8003}, {0x46, 6}, {0x48, 0x0203}, DESCRIPTORS, BOARD),
+         CONFIGURED,
+         RECEIVING,
+         CAME(TO(3, 3, 0, 0, 0, 0), GOOD, NOTHING),
+         TURNED(WORDS({0x60, 0})),
+         CAME(TO(1, 0x0B, 0, 0, 0, 0), GOOD, NOTHING),
+         TURNED(WORDS({0x60, 0x4000}))),
+
+    /* every listed address sets its bit, 04-02-00-00-00-00 too, whose low bit is clear: 01-1A-00-00-00-00 shares it and
+       passes */
+    CASE("no group listed", WORDS({0x42, 0x8003}, {0x46, 6}, {0x48, 0x0204}, DESCRIPTORS, BOARD),
+         CONFIGURED,
+         RECEIVING,
+         CAME(TO(4, 2, 0, 0, 0, 0), GOOD, NOTHING),
+         CAME(TO(3, 2, 0, 0, 0, 0), GOOD, NOTHING),
+         TURNED(WORDS({0x60, 0})),
+         CAME(TO(1, 0x1A, 0, 0, 0, 0), GOOD, NOTHING),
+         TURNED(WORDS({0x60, 0x4000}))),
+    REMAINDER(11, 0),
+    REMAINDER(12, 0x4000),
+
+    /* the count and the addresses are read at the end turn */
+    CASE("listed at end", WORDS({0x42, 0x8003}, {0x46, 6}, {0x48, 0x0303}, DESCRIPTORS, BOARD),
          INITIALISED,
          COMMANDING,
          TURNED(NOTHING),
-         TURNED(WORDS({0x40, 0x8000})),
-         TURNED(NOTHING),
-         SETTLING(WORDS({0x80, 0xA000}, {0x30, 0x2000}))),
+         STEP(WORDS({0x46, 12}, {0x48, 0}, {0x4E, 0x0203}), TURN(0), EDGE, WORDS({0x40, 0xA000}, {0x30, 0x2000}), HIGH),
+         RECEIVING,
+         CAME(TO(3, 3, 0, 0, 0, 0), GOOD, NOTHING),
+         TURNED(WORDS({0x60, 0})),
+         CAME(TO(3, 2, 0, 0, 0, 0), GOOD, NOTHING),
+         TURNED(WORDS({0x60, 0x4000}))),
 
     /* TDR, Dump and Diagnose, one behind the other */
     CASE("three more", WORDS({0x42, 0x0005}, {0x44, 0x50}, {0x52, 0x0006}, {0x54, 0x58}, {0x5A, 0x8007}, BOARD),

@@ -15,10 +15,12 @@ struct line {
     bool save_bad, promiscuous, broadcast_disabled;
 };
 
-/* everyone, the own address, a listed group, another group, someone else, a listed address that is no group */
-static const uint8_t DESTINATIONS[6][6] = {
-    {255, 255, 255, 255, 255, 255}, {2, 7, 1, 0, 0, 42}, {1, 0, 94, 0, 0, 1},
-    {1, 0, 94, 0, 0, 2},            {2, 7, 1, 0, 0, 43}, {4, 0, 94, 0, 0, 1}};
+/* everyone, the own address, a listed group, a group whose bit is clear, someone else, a listed address that is no
+   group; and two groups that are not listed: one with the listed group's bit, 52, one with that of the listed address
+   that is no group, 36 */
+static const uint8_t DESTINATIONS[8][6] = {
+    {255, 255, 255, 255, 255, 255}, {2, 7, 1, 0, 0, 42}, {1, 0, 94, 0, 0, 1}, {1, 0, 94, 0, 0, 2},
+    {2, 7, 1, 0, 0, 43},            {4, 0, 94, 0, 0, 1}, {1, 0, 0, 0, 0, 46}, {1, 0, 0, 0, 0, 33}};
 
 static void put_settings(struct chip *chip, const struct line *line)
 {
@@ -53,7 +55,7 @@ static bool matches(const struct line *line)
 {
     if (line->promiscuous) return true;
     if (line->destination == 0) return !line->broadcast_disabled;
-    return line->destination == 1 || line->destination == 2;
+    return line->destination == 1 || line->destination == 2 || line->destination >= 6;
 }
 
 struct fate {

@@ -1,6 +1,6 @@
 /*
- * Which records are taken: the layout and ranges of docs/record.md, from both sides of each bound. The only file that
- * knows the layout; it changes with docs/record.md.
+ * Which records are taken: the layout and ranges of docs/record.md, from both sides of each bound. It changes with
+ * docs/record.md.
  */
 #include "setup.h"
 
@@ -24,6 +24,9 @@ enum { INITIALISED = 0x10, SERVED_LAST = 0x20 };
 enum { CU = 6, CU_IS_SUSPENDED = 0x11, WAITING = 0x12, ACTING = 0x13, SENDING = 0x14, ENDING = 0x15, FAILING = 0x16 };
 enum { RU = 7, RU_IS_SUSPENDED = 1, NO_RESOURCES = 2, READY = 3, HELD = 4, FILLING = 5, CLOSING = 6, LACKING = 7 };
 
+/* what the commands set up: the last sixteen bytes */
+enum { SETTINGS = 240, MINIMUM = 241, OWN = 242, FILTER = 248 };
+
 /* ---- of the record before the first attention: it is the only one ---- */
 
 static const struct record_case FRESH[] = {
@@ -33,10 +36,12 @@ static const struct record_case FRESH[] = {
     FOREIGN("fresh, Ready", {RU, READY}),
     FOREIGN("fresh, an SCB offset", {8, 1}),
     FOREIGN("fresh, a base", {10, 1}),
-    FOREIGN("fresh, save-bad", {152, 1}),
-    FOREIGN("fresh, another minimum", {153, 63}),
-    FOREIGN("fresh, another own address", {154, 0xFE}),
-    FOREIGN("fresh, a listed address", {160, 1}),
+    FOREIGN("fresh, save-bad", {SETTINGS, 1}),
+    FOREIGN("fresh, another minimum", {MINIMUM, 63}),
+    FOREIGN("fresh, another own address", {OWN, 0xFE}),
+    FOREIGN("fresh, another own address in its last byte", {OWN + 5, 0x7F}),
+    FOREIGN("fresh, bit 0 of the filter", {FILTER, 1}),
+    FOREIGN("fresh, bit 63 of the filter", {FILTER + 7, 0x80}),
     TAKEN("initialised at base 0, offset 0", {CU, INITIALISED}),
 };
 
@@ -54,10 +59,13 @@ static const struct record_case READY_CHIP[] = {
     FOREIGN("a fourth bit of the CU's phase", {CU, INITIALISED | 8}),
     FOREIGN("no such CU phase", {CU, INITIALISED | 7}),
     FOREIGN("no such RU phase", {RU, 8}),
-    TAKEN("all settings", {152, 7}, {153, 255}),
-    FOREIGN("a fourth setting", {152, 8}),
-    TAKEN("any own address", {154, 1}, {159, 0}),
-    TAKEN("any listed address", {160, 2}, {255, 9}),
+    FOREIGN("a byte before the settings", {SETTINGS - 1, 1}),
+    TAKEN("all settings", {SETTINGS, 7}, {MINIMUM, 255}),
+    FOREIGN("a fourth setting", {SETTINGS, 8}),
+    TAKEN("any own address", {OWN, 1}, {OWN + 5, 0}),
+    TAKEN("any filter", {FILTER, 2}, {FILTER + 7, 9}),
+    TAKEN("a full filter", {FILTER, 255}, {FILTER + 1, 255}, {FILTER + 2, 255}, {FILTER + 3, 255}, {FILTER + 4, 255},
+          {FILTER + 5, 255}, {FILTER + 6, 255}, {FILTER + 7, 255}),
 
     FOREIGN("Idle with a block", {16, 1}),
     TAKEN("Suspended with a block", {CU, CU_IS_SUSPENDED}, {16, 1}, {17, 0xFF}),

@@ -2,7 +2,7 @@
 #include "setup.h"
 
 /* docs/record.md: bytes that are zero in every record, from the first to the last */
-static const size_t SPARE[][2] = {{13, 15}, {40, 151}};
+static const size_t SPARE[][2] = {{13, 15}, {40, 239}};
 
 static const enum call_kind KINDS[] = {CALL_ATTENTION, CALL_ARRIVAL, CALL_TURN, CALL_RUN};
 
@@ -182,6 +182,8 @@ static void one_encoding(void)
 {
     struct chip fresh = chip_of(LQ_MEMORY_MIN), chip = ready_chip(LQ_MEMORY_MIN);
     begin_case("a resetting attention leaves the fresh record");
+    put_bytes(&chip, 0x208, EVERYONE, 6);
+    run_mc_setup(&chip, 0x200, 12);
     put_fd(&chip, 0x300, 0, 0x300, LQ_NONE);
     start_ru(&chip, 0x300);
     arrive(&chip, EVERYONE, 60, 0);
@@ -201,6 +203,28 @@ static void one_encoding(void)
     check_bytes("the record", two.lent.record.bytes, many.lent.record.bytes, LQ_RECORD_SIZE);
     chip_free(&two);
     chip_free(&many);
+
+    struct chip plain = ready_chip(LQ_MEMORY_MIN), turned = ready_chip(LQ_MEMORY_MIN);
+    static const uint8_t groups[2][6] = {{0x01, 0x00, 0x5E, 0x00, 0x00, 0x01}, {0x01, 0x80, 0xC2, 0x00, 0x00, 0x00}};
+    begin_case("the same groups in another order, and again, are one state");
+    for (uint32_t i = 0; i < 4; i++) {
+        put_bytes(&plain, 0x208 + 6 * i, groups[i % 2], 6);
+        put_bytes(&turned, 0x208 + 6 * i, groups[1 - i % 2], 6);
+    }
+    run_mc_setup(&plain, 0x200, 12), run_mc_setup(&turned, 0x200, 24);
+    check_bytes("the record", turned.lent.record.bytes, plain.lent.record.bytes, LQ_RECORD_SIZE);
+    chip_free(&plain);
+    chip_free(&turned);
+
+    struct chip never = ready_chip(LQ_MEMORY_MIN), emptied = ready_chip(LQ_MEMORY_MIN);
+    begin_case("an emptied filter is that of a chip that had no MC-Setup");
+    put_bytes(&emptied, 0x208, groups[0], 6);
+    run_mc_setup(&emptied, 0x200, 6), run_command(&never, LQ_CMD_NOP);
+    CHECK(memcmp(emptied.lent.record.bytes, never.lent.record.bytes, LQ_RECORD_SIZE) != 0, "a filter leaves no trace");
+    run_mc_setup(&emptied, 0x200, 0), run_command(&never, LQ_CMD_NOP);
+    check_bytes("the record", emptied.lent.record.bytes, never.lent.record.bytes, LQ_RECORD_SIZE);
+    chip_free(&never);
+    chip_free(&emptied);
 }
 
 /* ---- foreign records ---- */

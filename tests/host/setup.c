@@ -128,3 +128,52 @@ unsigned run_command(struct chip *chip, unsigned command)
     turns_until_complete(chip, 0x200);
     return word_of(chip, 0x200);
 }
+
+/* the bits of so many addresses from a place of memory on */
+static uint64_t fold_of(const struct chip *chip, uint32_t place, unsigned addresses)
+{
+    uint64_t bits = 0;
+    for (unsigned a = 0; a < addresses; a++) {
+        uint8_t address[6];
+        for (uint32_t i = 0; i < 6; i++) address[i] = (uint8_t)byte_of(chip, place + 6 * a + i);
+        bits |= bit_of(address);
+    }
+    return bits;
+}
+
+uint64_t run_mc_setup(struct chip *chip, uint32_t place, unsigned count)
+{
+    put_block(chip, place, LQ_CMD_MC_SETUP | LQ_EL, 0xABCD);
+    put_word(chip, place + LQ_MC_COUNT, count);
+    start_cu(chip, place);
+    turn(chip);
+    check_word(chip, place, LQ_B);
+    uint64_t bits = fold_of(chip, place + LQ_MC_ADDRESSES, (count & LQ_COUNT) / 6);
+    check_answer(turn(chip), LQ_ACCEPTED, 0, true);
+    check_word(chip, place, LQ_C | LQ_OK);
+    return bits;
+}
+
+bool is_received(struct chip *chip, const uint8_t *destination)
+{
+    enum { FD = 0xF00 };
+    put_fd(chip, FD, 0, FD, LQ_NONE);
+    start_ru(chip, FD);
+    arrive(chip, destination, 60, 0);
+    turn(chip);
+    bool held = word_of(chip, FD) == LQ_B;
+    attend(chip, LQ_EVENTS | LQ_RUC(LQ_ABORT));
+    return held;
+}
+
+void check_filter(struct chip *chip, uint64_t bits)
+{
+    uint64_t shown = 0;
+    for (unsigned last = 0; last < 64; last++) {
+        const uint8_t group[6] = {1, 0, 0, 0, 0, (uint8_t)last};
+        bool received = is_received(chip, group), expected = (bits & bit_of(group)) != 0;
+        CHECK(received == expected, "bit %u of the filter is %d", hash_of(group), received);
+        shown |= bit_of(group);
+    }
+    CHECK(shown == ~(uint64_t)0, "the 64 groups do not fall on 64 bits");
+}

@@ -6,6 +6,7 @@
 #define SETUP_H
 
 #include "harness.h"
+#include "paper_hash.h"
 
 enum { ISCP = 0x40, SCB = 0x100 };
 
@@ -46,5 +47,19 @@ unsigned status(const struct chip *chip);
 
 /* One command with EL at block 200h, run to its end; answers its status. Parameters stand there already. */
 unsigned run_command(struct chip *chip, unsigned command);
+
+/* ---- the filter, as MC-Setup makes it and frames show it ---- */
+
+/* An MC-Setup with EL at a place, with a count, run to its end, which must be A000h. The addresses stand there already;
+   answers the bits that they set, as they are read from memory before the end turn. */
+uint64_t run_mc_setup(struct chip *chip, uint32_t place, unsigned count);
+
+/* Is a good frame of 60 bytes to this address held? With the command unit not Active and the receive unit Idle, which
+   is started for it at the descriptor F00h and aborted after it. */
+bool is_received(struct chip *chip, const uint8_t *destination);
+
+/* Of 64 groups, one for each bit, those are received whose bit is set here, and no other. So it is shown which filter
+   a chip has, without a look into its record. */
+void check_filter(struct chip *chip, uint64_t bits);
 
 #endif

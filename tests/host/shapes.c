@@ -208,12 +208,47 @@ static void over_the_end(void)
         start_ru(&chip, at);
         arrive(&chip, EVERYONE, 90, 0);
         turns(&chip, 5);
-        put_block(&chip, at, LQ_CMD_MC_SETUP | LQ_EL, 0);
-        put_word(&chip, at + LQ_MC_COUNT, 96);
-        start_cu(&chip, at);
-        turns(&chip, 2);
+        attend(&chip, LQ_EVENTS | LQ_CUC(LQ_ABORT) | LQ_RUC(LQ_ABORT));
+        check_filter(&chip, run_mc_setup(&chip, at, 180));
         chip_free(&chip);
     }
+}
+
+/* An MC-Setup's list that goes around all of memory, 8,192 bytes, and over its own block: once it comes to the status
+   word, which is 4000h while the list is read, then it goes on a second time, with other sixes of bytes. */
+static void list_over_its_block(void)
+{
+    static const uint32_t places[] = {BLOCK, LQ_MEMORY_MIN - 0x100, LQ_MEMORY_MIN - 4};
+    static const uint8_t begun[6] = {0x00, 0x40, 0x03, 0x80, 0xCD, 0xAB}; /* the block's first words, as it is read */
+    static const uint8_t ended[6] = {0x00, 0xA0, 0x03, 0x80, 0xCD, 0xAB};
+    static const uint8_t fresh[6] = {0x00, 0x00, 0x03, 0x80, 0xCD, 0xAB};
+    for (size_t i = 0; i < COUNT_OF(places); i++) {
+        struct chip chip = ready_chip(LQ_MEMORY_MIN);
+        begin_case("a list of addresses around memory, over its own block");
+        uint64_t short_of_it = run_mc_setup(&chip, places[i], LQ_MEMORY_MIN - 8);
+        CHECK(!(short_of_it & (bit_of(begun) | bit_of(ended) | bit_of(fresh))), "the case tells nothing");
+        check_filter(&chip, short_of_it);
+        uint64_t over_it = run_mc_setup(&chip, places[i], LQ_MEMORY_MIN - 2);
+        CHECK(over_it & bit_of(begun), "the block is not in its list");
+        CHECK(!(over_it & (bit_of(ended) | bit_of(fresh))), "the case tells nothing");
+        check_filter(&chip, over_it);
+        check_filter(&chip, run_mc_setup(&chip, places[i], 0x3FFF));
+        chip_free(&chip);
+    }
+}
+
+/* and one of 16,380 bytes that runs over the end of 65,536: an address has two of its bytes there */
+static void list_over_the_end(void)
+{
+    static const uint8_t group[6] = {0x01, 0x00, 0x5E, 0x00, 0x00, 0x01};
+    struct chip chip = ready_chip(65536);
+    begin_case("a list of addresses over the end of memory");
+    CHECK(!(run_mc_setup(&chip, 0xF000, 0x3FFF) & bit_of(group)), "the case tells nothing");
+    CHECK(!is_received(&chip, group), "a group that is not listed is received");
+    put_bytes(&chip, 0xFFFE, group, 6);
+    check_filter(&chip, run_mc_setup(&chip, 0xF000, 0x3FFF));
+    CHECK(is_received(&chip, group), "the group over the end is not received");
+    chip_free(&chip);
 }
 
 /* ---- every size of memory, and a base anywhere ---- */
@@ -291,6 +326,8 @@ void shapes(void)
     frames_on_each_other();
     scb_anywhere();
     over_the_end();
+    list_over_its_block();
+    list_over_the_end();
     every_size();
     size_changes();
     empty_frame();

@@ -1,7 +1,7 @@
 //! The model's own tests: document 01's cases at the edges, what its points come to in small cases, and the list's forms.
 //! Each case is a function that ends with the first thing that is not so.
 
-use crate::chip::{Answer, Chip, Ru, NONE};
+use crate::chip::{hash, Answer, Chip, Ru, NONE};
 use crate::list;
 use std::io::{self, Write};
 
@@ -33,8 +33,10 @@ const CASES: &[(&str, Case)] = cases! {
     alternation turn_counts_sending turn_counts_storing report_only_at_transmit_end
     run_refused run_of_nothing run_to_its_budget run_to_no_work run_to_a_frame run_to_an_edge run_stores run_as_turns
     begin_keeps link_before_status link_ffff failures_end_normally el_wins
-    ia_setup configure_bytes configure_counts configure_rejects mc_setup transmit_tests transmit_next_kept reports tdr_dump_diagnose
-    arrival_order arrival_minimum match_rules settings_at_arrival
+    ia_setup configure_bytes configure_counts configure_rejects
+    hash_values hash_shared mc_setup mc_setup_replaces mc_setup_at_the_end mc_setup_around
+    transmit_tests transmit_next_kept reports tdr_dump_diagnose
+    arrival_order arrival_minimum match_rules match_by_the_bit settings_at_arrival
     storing_reads_whole storing_size_zero storing_exact_ends storing_no_data storing_status_bits storing_not_kept storing_rscerrs_follows
     storing_suspends storing_status_last storing_descriptor_kept
     list_example list_forms list_bad_input
@@ -1064,18 +1066,106 @@ fn configure_rejects() -> Result<(), String> {
     Ok(())
 }
 
+/// A group of the 64 that fall on all the bits of the filter.
+fn group(which: u8) -> [u8; 6] {
+    [1, 0, 0, 0, 0, which]
+}
+
+/// What the program of document 000, section 5.5, answers.
+fn hash_values() -> Result<(), String> {
+    for (address, value) in [
+        ([0xFF, 0xFF, 0xFF, 0xFF, 0xFF, 0xFF], 59),
+        ([0x01, 0x00, 0x5E, 0x00, 0x00, 0x01], 52),
+        ([0xAB, 0x00, 0x00, 0x02, 0x00, 0x00], 59),
+        ([0x01, 0x80, 0xC2, 0x00, 0x00, 0x00], 40),
+        ([0x01, 0x00, 0x00, 0x00, 0x00, 0x00], 5),
+        ([0xCF, 0x00, 0x00, 0x00, 0x00, 0x00], 43),
+    ] {
+        same!((address, hash(address)), (address, value));
+    }
+    Ok(())
+}
+
+fn hash_shared() -> Result<(), String> {
+    let bits = (0..64).fold(0u64, |bits, which| bits | 1 << hash(group(which)));
+    same!(bits, u64::MAX);
+    // What follows it falls on bits that are taken.
+    same!(hash(group(0x40)), hash(group(0x3F)));
+    // Bit 59 is that of all FFh: a group has it too.
+    same!(hash(group(0x20)), hash([0xFF; 6]));
+    Ok(())
+}
+
 fn mc_setup() -> Result<(), String> {
-    for (count, status, listed) in [(0u16, 0xA000, 0), (5, 0xA000, 0), (6, 0xA000, 1), (95, 0xA000, 15), (96, 0xA000, 16), (101, 0xA000, 16), (0xC00C, 0xA000, 2)] {
+    for (count, listed) in [(0u16, 0), (5, 0), (6, 1), (95, 15), (96, 16), (101, 16), (102, 17), (180, 30), (383, 63), (384, 64), (0xC00C, 2)] {
         let mut rig = Rig::new();
         let mut bytes = count.to_le_bytes().to_vec();
-        bytes.extend(1..=102);
-        same!(rig.one(0x200, 3, &bytes), status);
-        same!(rig.chip.device.list.len(), listed);
-        if listed > 1 {
-            same!(rig.chip.device.list[1], [7, 8, 9, 10, 11, 12]);
-        }
-        same!(rig.one(0x200, 3, &102u16.to_le_bytes()), 0x8000);
-        same!(rig.chip.device.list.len(), listed);
+        bytes.extend((0..64).flat_map(group));
+        same!(rig.one(0x200, 3, &bytes), 0xA000);
+        same!(rig.chip.device.filter, (0..listed).fold(0, |filter, which| filter | 1 << hash(group(which))));
+        same!(rig.chip.device.filter.count_ones(), u32::from(listed));
+    }
+    Ok(())
+}
+
+fn mc_setup_replaces() -> Result<(), String> {
+    let mut rig = Rig::new();
+    let list = |addresses: &[[u8; 6]], more: u16| {
+        let mut bytes = (6 * addresses.len() as u16 + more).to_le_bytes().to_vec();
+        bytes.extend(addresses.concat());
+        bytes.extend([1, 0, 0, 0, 0]);
+        bytes
+    };
+    for addresses in [&[group(1), group(2)][..], &[group(3)], &[], &[group(4), group(4)], &[[0xFF; 6]], &[[2, 0, 0, 0, 0, 0]]] {
+        same!(rig.one(0x200, 3, &list(addresses, 5)), 0xA000);
+        same!(rig.chip.device.filter, addresses.iter().fold(0, |filter, address| filter | 1 << hash(*address)));
+    }
+    // Both resets empty it.
+    rig.command(0x0080);
+    same!(rig.chip.device.filter, 0);
+    let mut rig = Rig::new();
+    rig.one(0x200, 3, &list(&[group(1)], 0));
+    rig.chip.reset();
+    same!(rig.chip.device.filter, 0);
+    Ok(())
+}
+
+fn mc_setup_at_the_end() -> Result<(), String> {
+    let mut rig = Rig::new();
+    rig.words(0x200, &[0, 0x8003, 0, 12]);
+    rig.bytes(0x208, &[group(1), group(2)].concat());
+    rig.start(0x200);
+    rig.turns(1);
+    rig.words(0x206, &[6]);
+    rig.bytes(0x208, &group(3));
+    same!(rig.chip.device.filter, 0);
+    rig.turns(1);
+    same!(rig.chip.device.filter, 1 << hash(group(3)));
+    Ok(())
+}
+
+/// 16,383 bytes in 8,192: the list comes to its own status twice, as bytes 0 and 1 of one address and as bytes 2 and 3 of the last.
+fn mc_setup_around() -> Result<(), String> {
+    for (count, met) in [(8184, 0), (8190, 1), (16_374, 1), (16_380, 2), (16_383, 2)] {
+        let mut rig = Rig::new();
+        rig.words(0x1E00, &[0x1111, 0x8003, 0x2345, count]);
+        rig.start(0x1E00);
+        rig.turns(1);
+        let list = |status: [u8; 2]| {
+            let mut memory = rig.chip.memory.clone();
+            memory[0x1E00..0x1E02].copy_from_slice(&status);
+            let bytes: Vec<u8> = (0..usize::from(count)).map(|i| memory[(0x1E08 + i) % 8192]).collect();
+            let addresses: Vec<[u8; 6]> = bytes.chunks_exact(6).map(|six| std::array::from_fn(|i| six[i])).collect();
+            addresses
+        };
+        let filter = |addresses: &[[u8; 6]]| addresses.iter().fold(0, |filter, address| filter | 1 << hash(*address));
+        let (right, late) = (list([0x00, 0x40]), list([0x00, 0xA0]));
+        let (right_filter, late_filter) = (filter(&right), filter(&late));
+        same!(right.iter().zip(&late).filter(|(one, other)| one != other).count(), met);
+        same!(right.get(1364).copied(), if met > 0 { Some([0x00, 0x40, 0x03, 0x80, 0x45, 0x23]) } else { None });
+        same!(right_filter != late_filter, met > 0);
+        rig.turns(1);
+        same!((rig.word(0x1E00), rig.chip.device.filter), (0xA000, right_filter));
     }
     Ok(())
 }
@@ -1199,11 +1289,12 @@ fn match_rules() -> Result<(), String> {
     rig.one(0x200, 3, &[6, 0, 0xFF, 0xFF, 0xFF, 0xFF, 0xFF, 0xFF]);
     rig.hear(&to([0xFF; 6]), 0);
     same!(rig.held(), false);
-    // An own address with its low bit set matches though it is not listed.
-    rig.one(0x200, 1, &[1, 2, 3, 4, 5, 6]);
-    rig.hear(&to([1, 2, 3, 4, 5, 6]), 0);
+    // An own address with its low bit set matches though its bit is clear.
+    rig.one(0x200, 1, &[1, 2, 3, 4, 5, 7]);
+    same!(rig.chip.device.filter >> hash([1, 2, 3, 4, 5, 7]) & 1, 0);
+    rig.hear(&to([1, 2, 3, 4, 5, 7]), 0);
     same!(rig.held(), true);
-    // Listed: only with the low bit set.
+    // Listed: only with the low bit set; another group of another bit is not.
     let mut rig = Rig::ready();
     rig.one(0x200, 3, &[12, 0, 2, 2, 2, 2, 2, 2, 3, 3, 3, 3, 3, 3]);
     rig.hear(&to([2; 6]), 0);
@@ -1218,6 +1309,27 @@ fn match_rules() -> Result<(), String> {
         rig.configure(&[9, 0, 0, 6, 0, 0, 0, 0, 3]);
         rig.hear(&to(address), 0);
         same!(rig.held(), true);
+    }
+    Ok(())
+}
+
+fn match_by_the_bit() -> Result<(), String> {
+    // Of 01-00-00-00-00-00 to -7F exactly those pass that fall on a listed one's bit; a listed one without its low bit lets them in too.
+    for listed in [[1, 0, 0, 0, 0, 9], [0, 0, 0, 0, 0, 0], [2, 3, 5, 7, 11, 13], [0xFF; 6]] {
+        let mut passed = 0;
+        for which in 0..128 {
+            let mut rig = Rig::ready();
+            rig.configure(&[9, 0, 0, 6, 0, 0, 0, 0, 2]);
+            let mut bytes = vec![6, 0];
+            bytes.extend(listed);
+            rig.one(0x200, 3, &bytes);
+            let mut heard = frame(46);
+            heard[..6].copy_from_slice(&group(which));
+            rig.hear(&heard, 0);
+            same!((which, rig.held()), (which, hash(group(which)) == hash(listed)));
+            passed += u32::from(rig.held());
+        }
+        same!(passed, 2);
     }
     Ok(())
 }

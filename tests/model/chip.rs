@@ -1,4 +1,5 @@
-//! The chip, as document 01 (`01-scope.md`, "the law") has it. Names of sections and sentences in the comments are document 01's.
+//! The chip, as document 01 (`01-scope.md`, "the law") has it, mended by document 02's Wish 1: where both speak, 02 is followed. Names of
+//! sections and sentences in the comments are document 01's, unless 02 or the handbook, document 000, is named.
 //! An offset is a `u16`, a real address a `u32`: the only way from the one to the other is `at`.
 
 use std::cell::RefCell;
@@ -112,6 +113,17 @@ pub struct Scb {
     pub offset: u16,
 }
 
+/// Where the filter came from. No rule reads it: the generator aims by it, and it tells apart what passes alike.
+#[derive(Clone, PartialEq, Eq, Debug, Default)]
+pub struct Listed {
+    /// The last MC-Setup's addresses.
+    pub addresses: Vec<[u8; 6]>,
+    /// What the filter would be by those of them with the low bit set; by a list read behind the status; by the list before alone.
+    pub groups: u64,
+    pub late: u64,
+    pub before: u64,
+}
+
 #[derive(Clone, PartialEq, Eq, Debug)]
 pub struct Device {
     /// Where the SCB is; none before the first attention.
@@ -122,7 +134,9 @@ pub struct Device {
     /// The unit served at the last working turn was RU.
     pub ru_last: bool,
     pub own: [u8; 6],
-    pub list: Vec<[u8; 6]>,
+    /// Bit h is set if the hash of an address that the last MC-Setup had is h.
+    pub filter: u64,
+    pub listed: Listed,
     pub save_bad: bool,
     pub promiscuous: bool,
     pub no_broadcast: bool,
@@ -139,7 +153,8 @@ impl Device {
             ru: Ru::Idle,
             ru_last: false,
             own: [0xFF; 6],
-            list: Vec::new(),
+            filter: 0,
+            listed: Listed::default(),
             save_bad: false,
             promiscuous: false,
             no_broadcast: false,
@@ -318,6 +333,12 @@ impl Chip {
         let n = self.n as u32;
         let apart = (one % n + n - other % n) % n;
         apart <= 1 || apart == n - 1
+    }
+
+    /// A stretch of memory from an address on reaches, perhaps over the end, one of these two bytes.
+    fn reaches(&self, address: u32, length: u32, word: u32) -> bool {
+        let n = self.n as u32;
+        [word, word + 1].into_iter().any(|byte| (byte % n + n - address % n) % n < length)
     }
 
     fn set_field(&mut self, address: u32, value: u16) {
@@ -747,25 +768,64 @@ impl Chip {
         0xA000
     }
 
-    /// "MC-Setup: low 14 bits at +6 count bytes, addresses from +8, a remainder ignored. Above 16 addresses: 8000h, old list kept."
+    /// "MC-Setup: low 14 bits at +6 count bytes, addresses from +8, a remainder ignored." 02: "the limit of 16 and the 8000h answer of
+    /// MC-Setup go; any count works, a count of 0 empties the filter." The list is read before the status is written ("do the action,
+    /// write status"): in a list that comes round to its own block the status is 4000h.
     fn mc_setup(&mut self, block: u16) -> u16 {
         let word = self.word(self.at(block, 6));
         let bytes = word & 0x3FFF;
-        let count = bytes / 6;
+        let count = u32::from(bytes / 6);
+        let addresses = self.listed(block, count);
+        let filter = fold(&addresses);
+        let before = std::mem::replace(&mut self.device.filter, filter);
+        let groups: Vec<[u8; 6]> = addresses.iter().copied().filter(|address| address[0] & 1 != 0).collect();
+        self.device.listed = Listed { groups: fold(&groups), late: self.late(block, count, filter), before, addresses };
+        self.note_setup(block, word, before);
+        0xA000
+    }
+
+    /// So many addresses from +8 on.
+    fn listed(&self, block: u16, count: u32) -> Vec<[u8; 6]> {
+        (0..count).map(|i| self.six(self.at(block, 8 + 6 * i))).collect()
+    }
+
+    /// The filter, had the list been read behind the status.
+    fn late(&mut self, block: u16, count: u32, filter: u64) -> u64 {
+        if !self.reaches(self.at(block, 8), 6 * count, self.at(block, 0)) {
+            return filter;
+        }
+        let indices = [self.at(block, 0) as usize % self.n, self.at(block, 1) as usize % self.n];
+        let there = indices.map(|index| self.memory[index]);
+        (self.memory[indices[0]], self.memory[indices[1]]) = (0x00, 0xA0);
+        let late = fold(&self.listed(block, count));
+        (self.memory[indices[0]], self.memory[indices[1]]) = (there[0], there[1]);
+        late
+    }
+
+    fn note_setup(&self, block: u16, word: u16, before: u64) {
+        let (bytes, device) = (word & 0x3FFF, &self.device);
+        let length = bytes - bytes % 6;
         self.note_if(bytes % 6 != 0, "MC-Setup with a remainder");
         self.note_if(word & 0xC000 != 0, "MC-Setup with bits above the count");
-        if count > 16 {
-            self.note(if bytes == 102 { "MC-Setup fails at 17" } else { "MC-Setup fails above 17" });
-            return 0x8000;
-        }
-        self.note(match count {
-            0 => "MC-Setup of no address",
-            1..=14 => "MC-Setup of 1 to 14",
-            15 => "MC-Setup of 15",
-            _ => "MC-Setup of 16",
+        self.note(match bytes {
+            0 => "MC-Setup of count 0",
+            1..=5 => "MC-Setup of counts 1 to 5",
+            6..=11 => "MC-Setup of 1 address",
+            12..=101 => "MC-Setup of 2 to 16",
+            102..=107 => "MC-Setup of 17",
+            180..=185 => "MC-Setup of 30",
+            16_380.. => "MC-Setup of 2,730",
+            _ => "MC-Setup of others above 17",
         });
-        self.device.list = (0..u32::from(count)).map(|i| self.six(self.at(block, 8 + 6 * i))).collect();
-        0xA000
+        let list = self.at(block, 8);
+        self.note_if(self.runs_over(list, length), "MC-Setup: a list over the end of memory");
+        self.note_if(usize::from(length) > self.n, "MC-Setup: a list more than once around memory");
+        self.note_if(self.reaches(list, length.into(), self.at(block, 0)), "MC-Setup: a list over its own status");
+        self.note_if(device.listed.late != device.filter, "order: MC-Setup's own status in its list");
+        self.note_if(before != 0 && device.filter == 0, "MC-Setup empties the filter");
+        self.note_if(before & !device.filter != 0 && device.filter != 0, "MC-Setup clears bits and sets others");
+        self.note_if(device.filter == u64::MAX, "MC-Setup sets all bits");
+        self.note_if(device.listed.groups != device.filter, "MC-Setup: a bit by an address without its low bit alone");
     }
 
     /// "8100h, nothing sent (ours). Otherwise bits 10, 9, 7, 6, 5, 3-0 of the line report given with the end turn are set with C; OK, and
@@ -824,33 +884,53 @@ impl Chip {
     }
 
     /// "Match: promiscuous; or all FFh with broadcast enabled; or not all FFh and either own address or, with the low bit of the first
-    /// byte set, a listed address."
+    /// byte set, a listed address." 02: "a multicast frame passes when its bit is set, listed or not"; "Broadcast, own address and
+    /// promiscuous mode keep their rules."
     fn matches(&self, frame: &[u8]) -> bool {
-        let to = &frame[..6];
-        let all = to.iter().all(|&byte| byte == 0xFF);
+        let to: [u8; 6] = std::array::from_fn(|i| frame[i]);
+        let all = to == [0xFF; 6];
         let own = to == self.device.own;
-        let listed = self.device.list.iter().any(|address| address == to);
+        let bit = hash(to);
+        let set = self.device.filter >> bit & 1 != 0;
         let group = to[0] & 1 != 0;
-        let otherwise = if all { !self.device.no_broadcast } else { own || group && listed };
+        let otherwise = if all { !self.device.no_broadcast } else { own || group && set };
+        let listed = self.device.listed.addresses.contains(&to);
         if self.device.promiscuous {
             self.note_if(!otherwise, "match: promiscuous alone");
         } else if otherwise {
             self.note(match (all, own) {
                 (true, _) => "match: broadcast",
                 (false, true) => if group { "match: own, a group's" } else { "match: own" },
-                (false, false) => "match: listed",
+                (false, false) if listed => "match: a listed group",
+                (false, false) => "match: a group not listed, by a bit of another's",
             });
         } else {
             self.note(match (all, group) {
                 (true, _) if own => "dropped: broadcast disabled, own all FFh",
                 (true, _) if listed => "dropped: broadcast disabled, listed",
+                (true, _) if set => "dropped: broadcast disabled, its bit set",
                 (true, _) => "dropped: broadcast disabled",
-                (false, true) => "dropped: a group not listed",
+                (false, true) if self.device.filter == 0 => "dropped: a group, the filter is empty",
+                (false, true) => "dropped: a group whose bit is clear",
                 (false, false) if listed => "dropped: listed without its low bit",
+                (false, false) if set => "dropped: another's, its bit set",
                 (false, false) => "dropped: another's",
             });
         }
+        if group && !all && !own && !self.device.promiscuous {
+            self.note_group(bit, set);
+        }
         self.device.promiscuous || otherwise
+    }
+
+    /// A group that only its bit decides.
+    fn note_group(&self, bit: u8, set: bool) {
+        let by = |filter: u64| filter >> bit & 1 != 0;
+        let Listed { groups, late, before, .. } = self.device.listed;
+        self.note(&format!("bit {bit} {}", if set { "passes a group" } else { "drops a group" }));
+        self.note_if(set && !by(groups), "match: by the bit of addresses without their low bit");
+        self.note_if(!set && by(before), "dropped: by a bit that the list before had set");
+        self.note_if(by(late) != set, "order: a group by MC-Setup's own status in its list");
     }
 
     fn hear(&mut self, frame: &[u8], verdict: u32) {
@@ -1066,4 +1146,34 @@ impl Chip {
         }
         if errors == 0 { 0xA000 } else { 0x8000 | errors }
     }
+}
+
+// ---- The fold ----
+
+/// Document 000, section 5.5, table 5-5: the flags of the CRC register that take the feedback as they are shifted, in CRC-32.
+const FED: [usize; 13] = [26, 23, 22, 16, 12, 11, 10, 8, 7, 5, 4, 2, 1];
+
+/// The flags that make the value, the lowest bit first.
+const TAKEN: [usize; 6] = [5, 6, 7, 2, 3, 4];
+
+/// The function HASH there, for six bytes and CRC-32: FB, A and Y are its names. Its vector begins with the low bit of the byte that is
+/// sent first: that bit it calls the multicast bit.
+pub fn hash(address: [u8; 6]) -> u8 {
+    let mut a = [true; 32];
+    for byte in address {
+        for bit in 0..8 {
+            let fb = a[31] != (byte >> bit & 1 != 0);
+            a.copy_within(..31, 1);
+            a[0] = fb;
+            for flag in FED {
+                a[flag] = a[flag] != fb;
+            }
+        }
+    }
+    (0..).zip(TAKEN).fold(0, |y, (power, flag)| if a[flag] { y + (1 << power) } else { y })
+}
+
+/// 02: "it folds each address through the CRC into a 64-bit filter", whatever the address's low bit is.
+fn fold(addresses: &[[u8; 6]]) -> u64 {
+    addresses.iter().fold(0, |filter, address| filter | 1 << hash(*address))
 }

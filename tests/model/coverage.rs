@@ -54,8 +54,12 @@ fn points() -> Vec<String> {
     for state in ["Idle", "Suspended", "No Resources", "Ready", "Ready, held", "Ready, begun", "Ready, SUSPEND waits"] {
         add(format!("resetting attention, RU {state}"));
     }
-    for command in [2, 3, 4] {
+    for command in [2, 4] {
         add(format!("end of command {command}, not OK"));
+    }
+    for bit in 0..64 {
+        add(format!("bit {bit} passes a group"));
+        add(format!("bit {bit} drops a group"));
     }
     for event in ["CX", "FR", "CNA", "RNR"] {
         add(format!("{event} acknowledged"));
@@ -155,12 +159,21 @@ const POINTS: &str = "
     Configure alters save-bad under a held frame
     MC-Setup with a remainder
     MC-Setup with bits above the count
-    MC-Setup of no address
-    MC-Setup of 1 to 14
-    MC-Setup of 15
-    MC-Setup of 16
-    MC-Setup fails at 17
-    MC-Setup fails above 17
+    MC-Setup of count 0
+    MC-Setup of counts 1 to 5
+    MC-Setup of 1 address
+    MC-Setup of 2 to 16
+    MC-Setup of 17
+    MC-Setup of 30
+    MC-Setup of others above 17
+    MC-Setup of 2,730
+    MC-Setup: a list over the end of memory
+    MC-Setup: a list more than once around memory
+    MC-Setup: a list over its own status
+    MC-Setup: a bit by an address without its low bit alone
+    MC-Setup empties the filter
+    MC-Setup clears bits and sets others
+    MC-Setup sets all bits
     Transmit without a descriptor
     Transmit: several descriptors
     Transmit: count 0
@@ -183,9 +196,13 @@ const POINTS: &str = "
     dropped: broadcast disabled
     dropped: broadcast disabled, own all FFh
     dropped: broadcast disabled, listed
-    dropped: a group not listed
+    dropped: broadcast disabled, its bit set
+    dropped: a group whose bit is clear
+    dropped: a group, the filter is empty
+    dropped: by a bit that the list before had set
     dropped: listed without its low bit
     dropped: another's
+    dropped: another's, its bit set
     dropped: before the first attention
     dropped: Idle
     dropped: Suspended
@@ -193,7 +210,9 @@ const POINTS: &str = "
     match: broadcast
     match: own
     match: own, a group's
-    match: listed
+    match: a listed group
+    match: a group not listed, by a bit of another's
+    match: by the bit of addresses without their low bit
     arrival one byte below the minimum
     arrival of just the minimum
     frame: no data
@@ -229,6 +248,8 @@ const POINTS: &str = "
     order: the next descriptor's +6 lies over the status
     order: RSCERRS lies in the frame descriptor
     order: a buffer lies over its own descriptor
+    order: MC-Setup's own status in its list
+    order: a group by MC-Setup's own status in its list
     holding area altered while a frame is held
     outgoing area altered while a Transmit is begun
     block altered while its command is begun

@@ -1,7 +1,7 @@
 //! Makes random lists of lines and what must be printed for them. A list is made while the model runs it, so that the lines can aim at the
 //! chip's present state. Everything follows from the seed and the number of calls.
 
-use crate::chip::{Cu, Device, Ru, Send, Store, Wrote, NONE};
+use crate::chip::{hash, Cu, Device, Ru, Send, Store, Wrote, NONE};
 use crate::list::{Replay, MEMORY};
 use std::io::{self, Write};
 
@@ -423,10 +423,11 @@ impl Generator<'_> {
         match self.random.below(270) {
             0 => return self.long_send(),
             1 => return self.long_store(),
-            2..=6 => return self.small_store(),
-            7..=12 => return self.small_send(),
-            13..=15 => return self.over_scb(),
-            16..=19 => return self.crossing(),
+            2..=7 => return self.small_store(),
+            8..=17 => return self.small_send(),
+            18..=20 => return self.over_scb(),
+            21..=25 => return self.crossing(),
+            26..=30 => return self.filtering(),
             _ => {}
         }
         let device = self.device();
@@ -441,11 +442,11 @@ impl Generator<'_> {
         let roll = self.random.below(100);
         let (arrivals, attentions) = match (works, ready) {
             (true, true) if !held => (32, 18),
-            (true, _) if waiting => (5, 35),
+            (true, _) if waiting => (5, 44),
             (true, _) if fresh => (6, 40),
             (true, _) if failing => (4, 45),
             (true, _) if begun => (4, 32),
-            (true, _) => (if held { 7 } else if no_resources { 12 } else { 3 }, if self.scene.stale > 60 { 40 } else { 20 }),
+            (true, _) => (if held { 7 } else if no_resources { 12 } else { 3 }, if self.scene.stale > 60 { 40 } else { 24 }),
             (false, true) => (72, 25),
             (false, false) => (if no_resources { 40 } else { 7 }, if no_resources { 57 } else { 90 }),
         };
@@ -517,7 +518,7 @@ impl Generator<'_> {
         let first = if self.random.chance(50) { NONE } else { self.offset(descriptor) };
         self.put_words(descriptor, &[0x8000 | size as u16, NONE])?;
         self.put(descriptor + 4, &real)?;
-        let (block, kind) = (self.piece(18), self.random.pick(&[4, 4, 4, 4, 4, 4, 0, 1, 5, 6, 7]));
+        let (block, kind) = (self.piece(18), self.random.pick(&[4, 4, 4, 4, 4, 4, 4, 4, 0, 1, 5, 6, 7]));
         let bits = self.random.pick(&[0x8000, 0x4000, 0x4000, 0xE000, 0x6000, 0x2000, 0]);
         let link = self.piece_offset();
         self.put_words(block, &[self.calls as u16, bits | kind, link, first])?;
@@ -534,12 +535,96 @@ impl Generator<'_> {
             let waits = self.device().cu_name().contains("waits");
             match self.random.below(10) {
                 0..=2 if !waits => self.command(0x0300)?,
-                0..=5 if waits => self.attention()?,
+                0..=6 if waits => self.attention()?,
                 _ => self.turn()?,
             }
         }
         self.show_scb()?;
         self.show(block, 16)
+    }
+
+    // ---- The address filter, closely watched ----
+
+    /// An MC-Setup of any count, and groups behind it: the first that passes is held, and the SCB counts all others that do.
+    fn filtering(&mut self) -> io::Result<()> {
+        self.command(0xF440)?;
+        let n = self.n();
+        let (around, any) = (8_184 + self.random.below(8_200), self.random.below(16_384));
+        let few = 6 + self.random.below(36);
+        let many = 6 + self.random.below(378);
+        let mut count = self.random.pick(&[0, 5, 6, few, few, 102, 180, 180, many, many, many, any, 16_383, around, around, around]);
+        if count > 1_000 || self.random.chance(10) {
+            // Little else in memory: few bits are set by what a long list meets there.
+            let byte = self.random.byte();
+            self.line(format!("bytes memory 0 {n}x{byte:02X}"))?;
+            if n == 16_384 && self.random.chance(50) {
+                count = 16_380 + self.random.below(4);
+            }
+        }
+        let (first, block, descriptor) = (self.piece(24), self.piece(188), self.piece(22));
+        let offsets = [first, block, descriptor].map(|at| self.offset(at));
+        let broadcasts = self.random.pick(&[0, 0, 2]);
+        let save_bad = self.random.pick(&[0x80, 0x80, 0]);
+        self.put_words(first, &[0, 2, offsets[1]])?;
+        self.put(first + 6, &[12, 0, save_bad, 6, 0, 0, 0, 0, broadcasts, 0, 18, 0])?;
+        let (link, high) = (self.random.word(), self.random.pick(&[0, 0, 0, 0x8000, 0xC000]));
+        self.put_words(block, &[self.calls as u16, 0x8003, link, count as u16 | high])?;
+        let mut listed: Vec<[u8; 6]> = Vec::new();
+        for _ in 0..(count / 6).min(30) {
+            let any = std::array::from_fn(|_| self.random.byte());
+            listed.push(if self.random.chance(60) { any } else { self.address() });
+        }
+        // The bit of all FFh, by another address.
+        if broadcasts != 0 {
+            let other = self.falling(1 << hash([0xFF; 6]), 1);
+            for (i, address) in listed.iter_mut().enumerate() {
+                if i == 0 || *address == [0xFF; 6] {
+                    *address = other;
+                }
+            }
+        }
+        if !listed.is_empty() && (count < 1_000 || self.random.chance(50)) {
+            self.put(block + 8, &listed.concat())?;
+        }
+        self.put_words(self.scb(4), &[offsets[0]])?;
+        self.command(0x0100)?;
+        self.line("turn 4".into())?;
+        self.show(block, 8)?;
+        self.put_words(descriptor, &[0, 0, offsets[2], NONE])?;
+        self.put_words(self.scb(6), &[offsets[2]])?;
+        self.command(0x0010)?;
+        for _ in 0..if self.device().filter == 0 { 4 } else { 18 } {
+            let (to, length) = (self.candidate(), 14 + self.random.below(40));
+            self.frame(to, length)?;
+        }
+        self.show_scb()
+    }
+
+    /// An address that the filter decides on, or seems to.
+    fn candidate(&mut self) -> [u8; 6] {
+        let Device { filter, ref listed, .. } = *self.device();
+        let (late, earlier, by_others) = (filter ^ listed.late, listed.before & !filter, filter & !listed.groups);
+        match self.random.below(20) {
+            0..=9 => self.falling(filter, 1),
+            10..=12 => self.falling(!filter, 1),
+            13 | 14 => self.falling(late, 1),
+            15 => self.falling(earlier, 1),
+            16 => self.falling(by_others, 1),
+            17 => self.falling(filter, 0),
+            18 => [0xFF; 6],
+            _ => self.address(),
+        }
+    }
+
+    /// Any address with this low bit that falls on one of these bits of the filter; on any bit, if there are none.
+    fn falling(&mut self, bits: u64, low: u8) -> [u8; 6] {
+        loop {
+            let mut address: [u8; 6] = std::array::from_fn(|_| self.random.byte());
+            address[0] = address[0] & 0xFE | low;
+            if bits == 0 || bits >> hash(address) & 1 != 0 {
+                return address;
+            }
+        }
     }
 
     // ---- Pieces over the SCB, where the order inside a call shows ----
@@ -858,7 +943,7 @@ impl Generator<'_> {
     /// Settings other than a reset's, mostly such that frames come in.
     fn settle(&mut self) -> io::Result<()> {
         let kinds = [1, 3, 2];
-        let places: Vec<usize> = kinds.iter().map(|kind| self.piece(if *kind == 3 { 106 } else { 24 })).collect();
+        let places: Vec<usize> = kinds.iter().map(|kind| self.piece(if *kind == 3 { 188 } else { 24 })).collect();
         let offsets: Vec<u16> = places.iter().map(|at| self.offset(*at)).collect();
         for (i, kind) in kinds.iter().enumerate() {
             let mut block = Vec::new();
@@ -896,7 +981,8 @@ impl Generator<'_> {
         };
         let (mut cuc, mut ruc) = (self.random.below(8), self.random.below(8));
         let (cu, ru) = (self.device().cu_name(), self.device().ru_name());
-        let seldom = cu.contains("waits") || ru.contains("waits") || ru == "Ready, held" || ru == "Suspended";
+        let begun = ru == "Ready, begun" && self.random.chance(25);
+        let seldom = begun || cu.contains("waits") || ru.contains("waits") || ru == "Ready, held" || ru == "Suspended";
         if self.scene.stale > 60 && self.random.chance(60) {
             // Lists and areas that lead nowhere are left.
             self.scene.stale = 0;
@@ -961,7 +1047,7 @@ impl Generator<'_> {
         if self.device().ru_works() && self.random.chance(60) {
             kinds[0] = 2;
         }
-        let places: Vec<usize> = kinds.iter().map(|kind| self.piece(if *kind == 3 { 106 } else { 24 })).collect();
+        let places: Vec<usize> = kinds.iter().map(|kind| self.piece(if *kind == 3 { 188 } else { 24 })).collect();
         let offsets: Vec<u16> = places.iter().map(|at| self.offset(*at)).collect();
         for (i, kind) in kinds.iter().enumerate() {
             let last = i + 1 == count;
@@ -982,12 +1068,17 @@ impl Generator<'_> {
             if self.random.chance(15) {
                 word |= self.random.word() & 0x1FF8;
             }
+            let parameters = self.parameters(*kind)?;
+            // A run ends at a long list, so that it does not fold it for ever.
+            if *kind == 3 && parameters[1] & 0x3F > 3 {
+                word |= 0x2000;
+            }
             let status = if self.random.chance(60) { 0 } else { self.random.word() };
             let mut block = Vec::new();
             for word in [status, word, link] {
                 block.extend(word.to_le_bytes());
             }
-            block.extend(self.parameters(*kind)?);
+            block.extend(parameters);
             self.put(places[i], &block)?;
         }
         Ok(offsets[0])
@@ -999,12 +1090,13 @@ impl Generator<'_> {
             2 => self.configure_bytes(),
             3 => {
                 let odd = self.random.below(6);
-                let most = self.random.word();
-                let count = self.random.pick(&[0, 6, 12, 18, 36, 84, 90, 90 + odd, 96, 96 + odd, 102, 101, 102, 108, 5, odd, 30 + odd]);
+                let any = self.random.word();
+                let most = self.random.pick(&[any, any, 0x3FFF, 0x3FFC]);
+                let count = self.random.pick(&[0, 6, 12, 18, 36, 96, 101, 102, 102 + odd, 180, 180 + odd, 384, 5, odd, 30 + odd]);
                 let count = if self.random.chance(8) { most } else { count as u16 };
                 let high = if self.random.chance(15) { self.random.word() & 0xC000 } else { 0 };
                 let mut bytes = (count | high).to_le_bytes().to_vec();
-                for _ in 0..(count & 0x3FFF).min(102) / 6 {
+                for _ in 0..(count & 0x3FFF).min(180) / 6 {
                     bytes.extend(self.address());
                 }
                 bytes
@@ -1045,9 +1137,9 @@ impl Generator<'_> {
         let mut address = match self.random.below(16) {
             0 | 1 => [0xFF; 6],
             2..=5 => self.device().own,
-            6..=8 if !self.device().list.is_empty() => {
-                let which = self.random.below(self.device().list.len());
-                self.device().list[which]
+            6..=8 if !self.device().listed.addresses.is_empty() => {
+                let which = self.random.below(self.device().listed.addresses.len());
+                self.device().listed.addresses[which]
             }
             9..=11 => self.random.pick(&few),
             _ => {
@@ -1362,11 +1454,12 @@ impl Generator<'_> {
             0..=2 => own,
             3..=6 => self.sure(),
             7 | 8 => all,
-            9 if !self.device().list.is_empty() => {
-                let which = self.random.below(self.device().list.len());
-                self.device().list[which]
+            9 if !self.device().listed.addresses.is_empty() => {
+                let which = self.random.below(self.device().listed.addresses.len());
+                self.device().listed.addresses[which]
             }
             10 if any => std::array::from_fn(|_| self.random.byte()),
+            10 => self.candidate(),
             _ => self.address(),
         }
     }
@@ -1412,10 +1505,10 @@ impl Generator<'_> {
 
     fn report(&mut self) -> usize {
         let sends = self.device().begun().map_or(false, |begun| begun.kind == 4 && matches!(begun.step, Send::End { .. }));
-        match self.random.below(12) + if sends { 4 } else { 0 } {
+        match self.random.below(12) + if sends { 5 } else { 0 } {
             0..=5 => 0,
             6..=7 => 1 << self.random.below(16),
-            9..=15 if sends => 1 << self.random.below(16),
+            9..=16 if sends => 1 << self.random.below(16),
             8 => self.random.pick(&[0x0003, 0x0020, 0x0100, 0xFFFF, 0x00CF, 0x0200, 0x0400, 0xF910]),
             _ => usize::from(self.random.word()),
         }

@@ -1,21 +1,22 @@
 -- The actions, sentence by sentence: 01, "Turns". Each is a computed case that another reading fails. Assumes nothing.
 use mathlib.Core.Bool.{Bool, _&&_, not}
-use mathlib.Core.List.{List, [], _∷_}
-use Prim.Native.Nat.{ℕ}
+use mathlib.Core.List.{List, [], _∷_, _++_}
+use Prim.Native.Nat.{ℕ, _+_, _^_}
 use lib.Dec.{T, eqb}
 use lib.ListN.{replicate, getD}
 use Rattle.memory.specs.Address.{place}
 use Rattle.memory.specs.Memory.{byteAt, putByte, bytesAt, putBytes, value, digits, fieldAt, wordAt, Write, wordTo, apply}
 use Rattle.scb.specs.Words.{bitsAt}
+use Rattle.hash.specs.Hash.{ones, shifted, step, bitsIn, register, selected, hash}
 use Rattle.device.specs.State.{freshSettings}
 use Rattle.device.specs.declared.Action.{Action}
 use Rattle.device.specs.declared.Action.the-variants as action
-use Rattle.actions.specs.Actions.{Acted, clamped, settingsBy, listing, act, reported, isSent, sent, notSent}
+use Rattle.actions.specs.Actions.{Acted, clamped, settingsBy, groups, filtering, act, reported, isSent, sent, notSent}
 use Rattle.actions.specs.Setup.{Setup}
 
--- settings as after reset, own address six FFh, every listed byte 09h; the SCB base is 10h, the block at offset 40h, address 50h
+-- settings as after reset, own address six FFh, bits 0 and 3 of the filter set; the SCB base is 10h, the block at offset 40h, address 50h
 abbrev setup : Setup
-setup = record { settings = freshSettings; own = replicate 6 255; listed = replicate 96 9 }
+setup = record { settings = freshSettings; own = replicate 6 255; filter = 9 }
 
 abbrev given : List Write → List ℕ
 given ws = apply ws (replicate 256 0)
@@ -72,21 +73,41 @@ notAccepted = tt
 
 -- ---- 3 MC-Setup
 
--- the listed byte at an index after an MC-Setup with that word, where so many bytes are 77h
-abbrev listedAt : (word bytes index : ℕ) → ℕ
-listedAt word bytes index =
-    getD (acted action.McSetup (wordTo 0x56 word ∷ record { to = 0x58; bytes = replicate bytes 0x77 } ∷ []) .setup .listed) index 0
+-- an MC-Setup with that word and those bytes from +8 on; the filter that it leaves
+abbrev grouped : (word : ℕ) → List ℕ → Acted
+grouped word bytes = acted action.McSetup (wordTo 0x56 word ∷ record { to = 0x58; bytes = bytes } ∷ [])
 
--- low 14 bits count bytes, addresses from +8, a remainder ignored; the old list is gone
-pub twoListed : T (eqb (listedAt 0xC011 18 0) 0x77 && eqb (listedAt 0xC011 18 11) 0x77 && eqb (listedAt 0xC011 18 12) 0)
-unfolding byteAt putByte bytesAt putBytes value digits fieldAt place bitsAt listing act
-twoListed = tt
+abbrev filterBy : (word : ℕ) → List ℕ → ℕ
+filterBy word bytes = grouped word bytes .setup .filter
 
--- above 16 addresses: 8000h, old list kept
-pub sixteenListed : T (eqb (acted action.McSetup (wordTo 0x56 102 ∷ []) .status) 0x8000
-    && eqb (listedAt 101 96 95) 0x77 && eqb (listedAt 102 102 95) 9)
-unfolding byteAt putByte bytesAt putBytes value digits fieldAt place bitsAt listing act
-sixteenListed = tt
+-- 01-00-00-00-00-00, which falls on bit 5; 01-00-5E-00-00-01, on bit 52; and CF-00-00-00-00-00, on bit 43
+abbrev three : List ℕ
+three = 1 ∷ 0 ∷ 0 ∷ 0 ∷ 0 ∷ 0 ∷ 1 ∷ 0 ∷ 0x5E ∷ 0 ∷ 0 ∷ 1 ∷ 0xCF ∷ 0 ∷ 0 ∷ 0 ∷ 0 ∷ 0 ∷ []
+
+-- low 14 bits count bytes, addresses from +8, a remainder ignored; nothing of the old filter stays, and what is set is set once
+pub ofEachItsBit : T (eqb (filterBy 18 three) (2 ^ 5 + 2 ^ 43 + 2 ^ 52) && eqb (filterBy 0xC011 three) (2 ^ 5 + 2 ^ 52)
+    && eqb (filterBy 12 (three ++ three)) (2 ^ 5 + 2 ^ 52) && eqb (filterBy 12 (replicate 12 255)) (2 ^ 59))
+unfolding byteAt putByte bytesAt putBytes value digits fieldAt place bitsAt ones shifted step bitsIn register selected hash filtering act
+ofEachItsBit = tt
+
+-- whatever the low bit of the address is: 00-00-00-00-00-00 sets its bit too
+pub clearLowBitToo : T (eqb (filterBy 6 (replicate 6 0)) (2 ^ hash (replicate 6 0)))
+unfolding byteAt putByte bytesAt putBytes value digits fieldAt place bitsAt ones shifted step bitsIn register selected hash filtering act
+clearLowBitToo = tt
+
+-- how many addresses there are with that word at +6: 14 bits of it, up to 2,730
+abbrev addresses : (word : ℕ) → ℕ
+addresses word = groups (record { 0 = 0x10 }) (record { 0 = 0x40 }) (given (wordTo 0x56 word ∷ []))
+
+pub countOf14Bits : T (eqb (addresses 0xFFFF) 2730 && eqb (addresses 0x2000) 1365 && eqb (addresses 0x4006) 1 && eqb (addresses 0x8005) 0 && eqb (addresses 180) 30)
+unfolding byteAt putByte bytesAt putBytes value digits fieldAt place bitsAt
+countOf14Bits = tt
+
+-- any count works, also of more addresses than memory has bytes; a count below 6 empties the filter
+pub anyCount : T (eqb (grouped 102 three .status) 0xA000 && eqb (grouped 0x3FFF three .status) 0xA000
+    && eqb (filterBy 0 three) 0 && eqb (filterBy 5 three) 0 && eqb (grouped 0 three .status) 0xA000)
+unfolding byteAt putByte bytesAt putBytes value digits fieldAt place bitsAt ones shifted step bitsIn register selected hash filtering act
+anyCount = tt
 
 -- ---- 4 Transmit
 

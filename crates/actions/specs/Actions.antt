@@ -1,19 +1,19 @@
 -- The actions, done at the end turn: 01, "Turns". Each says the status, and what it changes. Assumes nothing.
 use mathlib.Core.Bool.{Bool, true, false, not, cond, _&&_, _||_}
 use mathlib.Core.List.{List, [], _∷_}
-use Prim.Native.Nat.{ℕ, _+_, _*_, _/_, _^_, min, max}
-use lib.Dec.{eqb, leb, ltb}
-use lib.ListN.{replicate}
-use lib.Seq.{sets}
+use Prim.Native.Nat.{ℕ, zero, suc, _+_, _*_, _/_, _^_, min, max}
+use lib.Dec.{eqb, ltb}
 use Rattle.memory.specs.Memory.{byteAt, wordAt, bytesAt, Write, wordTo}
 use Rattle.memory.specs.Address.{place}
 use Rattle.memory.specs.declared.Offset.{Offset}
 use Rattle.memory.specs.declared.RealAddress.{RealAddress}
 use Rattle.scb.specs.Words.{bitsAt, bit}
-use Rattle.device.specs.Limits.{addressLength, mostListed, listedSize}
+use Rattle.hash.specs.Hash.{hash}
+use Rattle.device.specs.Limits.{addressLength}
 use Rattle.device.specs.declared.Action.{Action}
 use Rattle.device.specs.declared.Action.the-variants as action
 use Rattle.device.specs.declared.Settings.{Settings}
+use Rattle.filter.specs.Match.{withBit}
 use Rattle.actions.specs.Block.{argumentAt, destinationAt}
 use Rattle.actions.specs.Setup.{Setup}
 
@@ -44,7 +44,7 @@ setting accepted s new = plainly (cond accepted new s) (cond accepted done faile
 abbrev pub iaSetup : RealAddress → Setup → Offset → List ℕ → Acted
 iaSetup base s block m =
     setting true s
-    (record { settings = s .settings; own = bytesAt m (place base block argumentAt) addressLength; listed = s .listed })
+    (record { settings = s .settings; own = bytesAt m (place base block argumentAt) addressLength; filter = s .filter })
 
 -- ---- 2 Configure
 
@@ -75,23 +75,32 @@ abbrev pub configure : RealAddress → Setup → Offset → List ℕ → Acted
 configure base s block m =
     let byte = byteOf base block m in
     setting (acceptable (byte 3)) s
-    (record { settings = settingsBy (clamped (byte 0)) byte (s .settings); own = s .own; listed = s .listed })
+    (record { settings = settingsBy (clamped (byte 0)) byte (s .settings); own = s .own; filter = s .filter })
 
 -- ---- 3 MC-Setup
 
--- low 14 bits at +6 count bytes, a remainder ignored
+-- low 14 bits at +6 count bytes
+abbrev pub countOf : RealAddress → Offset → List ℕ → ℕ
+countOf base block m = bitsAt (wordAt m (place base block argumentAt)) 0 14
+
+-- of them whole addresses, a remainder ignored
 abbrev pub groups : RealAddress → Offset → List ℕ → ℕ
-groups base block m = bitsAt (wordAt m (place base block argumentAt)) 0 14 / addressLength
+groups base block m = countOf base block m / addressLength
 
--- addresses from +8; the unused slots are zero
-unfoldable pub listing : RealAddress → Offset → List ℕ → ℕ → List ℕ
-listing base block m n = sets (replicate listedSize 0) 0 (bytesAt m (place base block destinationAt) (n * addressLength))
+-- of those from a on, the one behind n others
+abbrev pub groupAt : List ℕ → ℕ → ℕ → List ℕ
+groupAt m a n = bytesAt m (a + n * addressLength) addressLength
 
--- above 16 addresses: 8000h, old list kept
+-- 02, Wish 1: "it folds each address through the CRC into a 64-bit filter": that of the n addresses from a on, whatever the low bit of each
+unfoldable pub filtering : List ℕ → ℕ → ℕ → ℕ
+filtering m a zero = 0
+filtering m a (suc n) = withBit (filtering m a n) (hash (groupAt m a n))
+
+-- addresses from +8; nothing of the old filter stays. 02, Wish 1: any count works, a count of 0 empties the filter
 abbrev pub mcSetup : RealAddress → Setup → Offset → List ℕ → Acted
 mcSetup base s block m =
-    let n = groups base block m in
-    setting (leb n mostListed) s (record { settings = s .settings; own = s .own; listed = listing base block m n })
+    let filter = filtering m (place base block destinationAt) (groups base block m) in
+    setting true s (record { settings = s .settings; own = s .own; filter = filter })
 
 -- ---- 5 TDR: word +6 becomes 8000h
 

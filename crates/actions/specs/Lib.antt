@@ -2,3 +2,4 @@
 pub mod Block
 pub mod Setup
 pub mod Actions
+pub mod Filtered

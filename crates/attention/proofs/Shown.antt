@@ -10,7 +10,7 @@ use Rattle.memory.specs.Memory.{byteAt, putByte, bytesAt, putBytes, value, digi
 use Rattle.scb.specs.Control.{codeOf}
 use Rattle.scb.specs.Words.{bitsAt, joined, acknowledged, anyOf, eventBits, statusWord}
 use Rattle.scb.specs.declared.Events.{Events}
-use Rattle.device.specs.Change.{initialisedAt, withUnits, withAddresses, withCu}
+use Rattle.device.specs.Change.{initialisedAt, withUnits, withAddressing, withCu}
 use Rattle.device.specs.State.{fresh, freshUnits, cuState, isActive, ruState, isReady}
 use Rattle.device.specs.declared.Action.the-variants as action
 use Rattle.device.specs.declared.Cu.{Cu}
@@ -54,7 +54,7 @@ events cx fr cna rnr = record { cx = cx; fr = fr; cna = cna; rnr = rnr }
 abbrev device : Events → Cu → Device
 device e c =
     let units = withCu (initialisedAt freshUnits (record { 0 = 0 }) (record { 0 = 0x30 }) e) c in
-    withAddresses (withUnits fresh units) (replicate 6 0x66) (replicate 96 0)
+    withAddressing (withUnits fresh units) (replicate 6 0x66) 9
 
 -- a command that is begun, with its block where the RFA offset stands
 abbrev acting : Cu
@@ -66,12 +66,13 @@ attended e c command = attention (device e c) (given (wordTo 0x32 command ∷ wo
 abbrev left : Events → Cu → (command : ℕ) → List ℕ
 left e c command = apply (attended e c command .writes) (given (wordTo 0x32 command ∷ wordTo 0x30 0x1234 ∷ []))
 
--- if RESET, write command 0 and become as after reset, nothing else: no status, no edge, no code obeyed; the own address is six FFh again
+-- if RESET, write command 0 and become as after reset, nothing else: no status, no edge, no code obeyed; the own address is six FFh again, the filter empty
 pub resetsAlone : T (eqb (wordAt (left (events true false false false) acting 0x8480) 0x32) 0
     && eqb (wordAt (left (events true false false false) acting 0x8480) 0x30) 0x1234
     && eqb (wordAt (left (events true false false false) acting 0x8480) 0x36) 0
     && not (attended (events true false false false) acting 0x8480 .outcome .answer .edge)
-    && eqb (getD (attended (events true false false false) acting 0x8480 .outcome .device .own) 0 0) 255)
+    && eqb (getD (attended (events true false false false) acting 0x8480 .outcome .device .own) 0 0) 255
+    && eqb (attended (events true false false false) acting 0x8480 .outcome .device .filter) 0)
 unfolding byteAt putByte bytesAt putBytes value digits fieldAt place bitsAt attendBy attend attention
 resetsAlone = tt
 

@@ -252,7 +252,7 @@ ownOfOnes =
       steps = configured ++ (receiving ∷ came (broadcast 46) good [] ∷ turned (0x60 is 0 ∷ []) ∷ []);
     }
 
--- MC-Setup: a listed address is received; one that is not listed, or has the low bit clear, is not
+-- MC-Setup: a listed group is received; one whose bit is clear is not, nor an address with the low bit clear, though it is listed
 listed : Case
 listed =
     record {
@@ -268,13 +268,61 @@ listed =
           ∷ []);
     }
 
--- above 16 addresses: 8000h; a remainder does not make a seventeenth
-tooMany : Case
-tooMany =
+-- the filter is no list: 01-0B-00-00-00-00 is not listed and passes by the bit of 03-02-00-00-00-00, which is
+sharedBit : Case
+sharedBit =
     record {
-      given = 0x42 is 0x0003 ∷ 0x44 is 0x80 ∷ 0x46 is 102 ∷ 0x82 is 0x8003 ∷ 0x86 is 101 ∷ board;
+      given = 0x42 is 0x8003 ∷ 0x46 is 6 ∷ 0x48 is 0x0203 ∷ descriptors ++ board;
       steps =
-          initialised ∷ commanding ∷ turned [] ∷ turned (0x40 is 0x8000 ∷ []) ∷ turned [] ∷ settling (0x80 is 0xA000 ∷ 0x30 is 0x2000 ∷ []) ∷ [];
+          configured
+          ++ (receiving
+          ∷ came (3 ∷ 3 ∷ 0 ∷ 0 ∷ 0 ∷ 0 ∷ counting 1 54) good []
+          ∷ turned (0x60 is 0 ∷ [])
+          ∷ came (1 ∷ 0x0B ∷ 0 ∷ 0 ∷ 0 ∷ 0 ∷ counting 1 54) good []
+          ∷ turned (0x60 is 0x4000 ∷ [])
+          ∷ []);
+    }
+
+-- every listed address sets its bit, 04-02-00-00-00-00 too, whose low bit is clear: 01-1A-00-00-00-00 shares it and passes
+noGroupListed : Case
+noGroupListed =
+    record {
+      given = 0x42 is 0x8003 ∷ 0x46 is 6 ∷ 0x48 is 0x0204 ∷ descriptors ++ board;
+      steps =
+          configured
+          ++ (receiving
+          ∷ came (4 ∷ 2 ∷ 0 ∷ 0 ∷ 0 ∷ 0 ∷ counting 1 54) good []
+          ∷ came (3 ∷ 2 ∷ 0 ∷ 0 ∷ 0 ∷ 0 ∷ counting 1 54) good []
+          ∷ turned (0x60 is 0 ∷ [])
+          ∷ came (1 ∷ 0x1A ∷ 0 ∷ 0 ∷ 0 ∷ 0 ∷ counting 1 54) good []
+          ∷ turned (0x60 is 0x4000 ∷ [])
+          ∷ []);
+    }
+
+-- a second address counts only whole
+remainder : (count descriptor : ℕ) → Case
+remainder count descriptor =
+    record {
+      given = 0x42 is 0x8003 ∷ 0x46 is count ∷ 0x4E is 0x0203 ∷ descriptors ++ board;
+      steps = configured ++ (receiving ∷ came (3 ∷ 2 ∷ 0 ∷ 0 ∷ 0 ∷ 0 ∷ counting 1 54) good [] ∷ turned (0x60 is descriptor ∷ []) ∷ []);
+    }
+
+-- the count and the addresses are read at the end turn
+listedAtEnd : Case
+listedAtEnd =
+    record {
+      given = 0x42 is 0x8003 ∷ 0x46 is 6 ∷ 0x48 is 0x0303 ∷ descriptors ++ board;
+      steps =
+          initialised
+          ∷ commanding
+          ∷ turned []
+          ∷ step (0x46 is 12 ∷ 0x48 is 0 ∷ 0x4E is 0x0203 ∷ []) (turn 0) edge (0x40 is 0xA000 ∷ 0x30 is 0x2000 ∷ []) high
+          ∷ receiving
+          ∷ came (3 ∷ 3 ∷ 0 ∷ 0 ∷ 0 ∷ 0 ∷ counting 1 54) good []
+          ∷ turned (0x60 is 0 ∷ [])
+          ∷ came (3 ∷ 2 ∷ 0 ∷ 0 ∷ 0 ∷ 0 ∷ counting 1 54) good []
+          ∷ turned (0x60 is 0x4000 ∷ [])
+          ∷ [];
     }
 
 -- TDR, Dump and Diagnose, one behind the other
@@ -442,7 +490,7 @@ statusLast =
     }
 
 pub readings : List Case
-unfolding orderAtFirst obeysNothing nothingBefore edges statusIsKept commandUnitFirst acknowledgedFirst resetting resumeWhileWaiting suspendAtOnce startWhileActive suspendForgotten suspendReady suspendHeld abortBegun abortHeld noStatus endOfList parametersAtEnd configureKeeps ownOfOnes listed tooMany threeMore bareTransmit lostEnd endlessChain overItself sizeNone lastBuffer lacking lackingSaved shortSaved noData counterLast statusLast
+unfolding orderAtFirst obeysNothing nothingBefore edges statusIsKept commandUnitFirst acknowledgedFirst resetting resumeWhileWaiting suspendAtOnce startWhileActive suspendForgotten suspendReady suspendHeld abortBegun abortHeld noStatus endOfList parametersAtEnd configureKeeps ownOfOnes listed sharedBit noGroupListed remainder listedAtEnd threeMore bareTransmit lostEnd endlessChain overItself sizeNone lastBuffer lacking lackingSaved shortSaved noData counterLast statusLast
 readings =
     orderAtFirst
     ∷ obeysNothing
@@ -466,7 +514,11 @@ readings =
     ∷ configureKeeps
     ∷ ownOfOnes
     ∷ listed
-    ∷ tooMany
+    ∷ sharedBit
+    ∷ noGroupListed
+    ∷ remainder 11 0
+    ∷ remainder 12 0x4000
+    ∷ listedAtEnd
     ∷ threeMore
     ∷ bareTransmit 0xFFFF 0 0x86EF
     ∷ bareTransmit 0x0100 14 0xA000

@@ -16,7 +16,7 @@ outcomeBy d a = outcomeOf (withUnits d (withRu (d .units) (a .unit))) (answered 
 
 -- f: the frame; v: the line side's verdict; m: memory; h: the holding area
 unfoldable pub arrival : Device → List ℕ → ℕ → List ℕ → List ℕ → receive.Arrival
-arrival d f v m h = receive.arrival (d .units) (matches (d .units .settings) (d .own) (d .listed) f) f v m h
+arrival d f v m h = receive.arrival (d .units) (matches (d .units .settings) (d .own) (d .filter) f) f v m h
 
 abbrev pub arrivedBy : World → receive.Arrival → Ran
 arrivedBy w a =

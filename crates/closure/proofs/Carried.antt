@@ -54,7 +54,7 @@ holds-back r d h = rw (h .image) (device-back d (h .wide))
 
 -- has 256 bytes
 pub holds-length : (r : List ℕ) (d : Device) → Holds r d → length r ≡ 256
-holds-length r d h = rw (h .image) (length-image d (h .wide .own) (h .wide .listed))
+holds-length r d h = rw (h .image) (length-image d (h .wide .own))
 
 pub holds-bytes : (r : List ℕ) (d : Device) → Holds r d → Bytes r
 holds-bytes r d h = rw (h .image) (image-bytes d (h .wide))

@@ -112,7 +112,7 @@ arrival-closed : (w : World) (f : List ℕ) (v : ℕ) → Bytes f → Sound w �
 unfolding arrivalOf arrival
 arrival-closed w f v b s =
     let d = w .device in
-    let matched = matches (d .units .settings) (d .own) (d .listed) f in
+    let matched = matches (d .units .settings) (d .own) (d .filter) f in
     let a = arriving.arrival (d .units) matched f v (w .memory) (w .holding) in
     let g = arrival-device (d .units .initialised) d matched f v (w .memory) (w .holding) refl (s .range) (s .wide) in
     record {

@@ -2,19 +2,19 @@
 use mathlib.Core.Path.{_≡_, refl, _∙_}
 use mathlib.Core.Bool.{Bool, true, false, cond, _||_}
 use mathlib.Core.List.{List, [], _∷_, _++_}
-use Prim.Native.Nat.{ℕ, zero, suc, _+_, _*_, _≤_, _<_}
+use Prim.Native.Nat.{ℕ, zero, suc, _+_, _^_, _≤_, _<_}
 use native.Mathlib.Omega.{arith}
 use borrow.Author.Tests.{leb-true, leb-false}
 use lib.Dec.{eqb, leb, ltb}
-use lib.ListN.{length, getD, set, replicate, length-replicate}
-use lib.Seq.{sets, length-sets}
+use lib.ListN.{length, getD, set, replicate}
+use lib.Seq.{sets}
 use Rattle.memory.specs.Address.{place, offsetAt, isNone}
 use Rattle.memory.specs.Memory.{wordAt, bytesAt, apply}
 use Rattle.memory.specs.declared.Offset.{Offset}
 use Rattle.memory.specs.declared.RealAddress.{RealAddress}
 use Rattle.memory.proofs.Bytes.{Bytes, AllBytes, all-append, apply-bytes, bytes-cons, bytes-tail, set-bytes, read-bytes, byte-bound, field-bound, digits-bytes}
 use Rattle.memory.proofs.Laws.{length-bytesAt}
-use Rattle.device.specs.Limits.{addressLength, typeLength, header, listedSize, mostListed}
+use Rattle.device.specs.Limits.{addressLength, typeLength, header, filterBits}
 use Rattle.device.specs.Numbers.{transmit, actionOf}
 use Rattle.device.specs.declared.Action.{Action}
 use Rattle.device.specs.declared.Action.the-variants as action
@@ -25,7 +25,8 @@ use Rattle.device.specs.declared.Settings.{Settings}
 use Rattle.device.specs.declared.Walk.{Walk}
 use Rattle.actions.specs.Block.{blockCommandAt, blockLinkAt, argumentAt, destinationAt, typeAt}
 use Rattle.actions.specs.Setup.{Setup}
-use Rattle.actions.specs.Actions.{Acted, plainly, setting, clamped, byteOf, settingsBy, acceptable, groups, listing, act, isSent, sent}
+use Rattle.actions.specs.Actions.{Acted, plainly, setting, clamped, byteOf, settingsBy, acceptable, groups, filtering, act, isSent, sent}
+use Rattle.actions.proofs.Laws.{filtering-wide}
 use Rattle.command.specs.Part.{Part, Service}
 use Rattle.command.specs.Begin.{cmd, begunBy, toFirst, headerOf, toBegun, begin}
 use Rattle.command.specs.Buffer.{descriptorAt, past, afterBuffer, fits, isLast, gathered, buffer}
@@ -56,9 +57,8 @@ replicate-bytes n v h = record { each = λ i. replicate-each n v i h }
 pub record SetupGood (s : Setup) : Type 0 where
   pub minimum : s .settings .minimum < 256
   pub own : length (s .own) ≡ 6
-  pub listed : length (s .listed) ≡ 96
   pub own-bytes : Bytes (s .own)
-  pub listed-bytes : Bytes (s .listed)
+  pub filter : s .filter < 2 ^ filterBits
 
 -- ---- the actions
 
@@ -82,50 +82,36 @@ minimum-below : (count : ℕ) (byte : ℕ → ℕ) (s : Settings) → byte 10 < 
 unfolding settingsBy
 minimum-below count byte s p q = cond-below (ltb 10 count) (byte 10) (s .minimum) 256 p q
 
-listing-length : (base : RealAddress) (block : Offset) (m : List ℕ) (n : ℕ) → length (listing base block m n) ≡ 96
-unfolding listing
-listing-length base block m n =
-    length-sets (replicate listedSize 0) 0 (bytesAt m (place base block destinationAt) (n * addressLength)) ∙ length-replicate {A = ℕ} listedSize 0
-
-listing-bytes : (base : RealAddress) (block : Offset) (m : List ℕ) (n : ℕ) → Bytes m → Bytes (listing base block m n)
-unfolding listing
-listing-bytes base block m n h =
-    sets-bytes (replicate listedSize 0) 0 _ (replicate-bytes listedSize 0 (omega arith))
-    (read-bytes m (place base block destinationAt) (n * addressLength) h)
-
 act-good : (x : Action) (base : RealAddress) (s : Setup) (block : Offset) (m : List ℕ) → SetupGood s → Bytes m → ActedGood (act x base s block m)
 unfolding act
 act-good action.Nop base s block m h b = plain-good s _ 0 h (omega arith)
 act-good action.IaSetup base s block m h b =
     let own = bytesAt m (place base block argumentAt) addressLength in
-    set-good true s (record { settings = s .settings; own = own; listed = s .listed }) h
+    set-good true s (record { settings = s .settings; own = own; filter = s .filter }) h
     (record {
       minimum = h .minimum;
       own = length-bytesAt m (place base block argumentAt) addressLength;
-      listed = h .listed;
       own-bytes = read-bytes m (place base block argumentAt) addressLength b;
-      listed-bytes = h .listed-bytes;
+      filter = h .filter;
     })
 act-good action.Configure base s block m h b =
     let byte = byteOf base block m in
     set-good (acceptable (byte 3)) s
-    (record { settings = settingsBy (clamped (byte 0)) byte (s .settings); own = s .own; listed = s .listed }) h
+    (record { settings = settingsBy (clamped (byte 0)) byte (s .settings); own = s .own; filter = s .filter }) h
     (record {
       minimum = minimum-below (clamped (byte 0)) byte (s .settings) (byte-bound m (place base block (argumentAt + 10)) b) (h .minimum);
       own = h .own;
-      listed = h .listed;
       own-bytes = h .own-bytes;
-      listed-bytes = h .listed-bytes;
+      filter = h .filter;
     })
 act-good action.McSetup base s block m h b =
     let n = groups base block m in
-    set-good (leb n mostListed) s (record { settings = s .settings; own = s .own; listed = listing base block m n }) h
+    set-good true s (record { settings = s .settings; own = s .own; filter = filtering m (place base block destinationAt) n }) h
     (record {
       minimum = h .minimum;
       own = h .own;
-      listed = listing-length base block m n;
       own-bytes = h .own-bytes;
-      listed-bytes = listing-bytes base block m n b;
+      filter = filtering-wide m (place base block destinationAt) n;
     })
 act-good action.Tdr base s block m h b = record { setup = h; writes = (digits-bytes 2 0x8000, tt); length = omega arith }
 act-good action.Dump base s block m h b = plain-good s _ 0 h (omega arith)

@@ -54,9 +54,8 @@ running-wide d h =
       cu = h .cu .wide;
       ru = h .ru .wide;
       own = h .setup .own;
-      listed = h .setup .listed;
       own-bytes = h .setup .own-bytes .each;
-      listed-bytes = h .setup .listed-bytes .each;
+      filter = h .setup .filter;
     }
 
 pub setup-good : (d : Device) → Wide d → SetupGood (setupOf d)
@@ -64,9 +63,8 @@ setup-good d h =
     record {
       minimum = h .minimum;
       own = h .own;
-      listed = h .listed;
       own-bytes = record { each = h .own-bytes };
-      listed-bytes = record { each = h .listed-bytes };
+      filter = h .filter;
     }
 
 -- what the ranges say of the units, initialised or not

@@ -112,7 +112,7 @@ lengths-kept attention w =
     record { memory = length-apply (attending.attention (w .device) (w .memory) .writes) (w .memory); holding = refl; outgoing = refl }
 lengths-kept (arrive f v) w =
     let d = w .device in
-    let matched = matches (d .units .settings) (d .own) (d .listed) f in
+    let matched = matches (d .units .settings) (d .own) (d .filter) f in
     record {
       memory = length-apply (arriving.arrival (d .units) matched f v (w .memory) (w .holding) .writes) (w .memory);
       holding = arrival-length (d .units) matched f v (w .memory) (w .holding);

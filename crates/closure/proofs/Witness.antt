@@ -54,7 +54,7 @@ area-right = zeros-length 2048
 
 -- the fresh record, and one of zeros, which is the image of no state
 fresh-length : length (imageOf fresh) ≡ 256
-fresh-length = length-image fresh (fresh-wide .own) (fresh-wide .listed)
+fresh-length = length-image fresh (fresh-wide .own)
 
 fresh-holds : Holds (imageOf fresh) fresh
 fresh-holds = record { wide = fresh-wide; range = fresh-range; image = refl }

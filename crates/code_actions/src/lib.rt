@@ -4,8 +4,9 @@ use memory::Offset;
 use memory::RealAddress;
 use packed::setup;
 ghost use mathlib.Core.Path.{_≡_};
-ghost use Prim.Native.Nat.{_<_};
+ghost use Prim.Native.Nat.{_/_, _<_};
 ghost use lib.ListN.{length};
+ghost use Rattle.device.specs.Limits.{addressLength};
 ghost use Rattle.device.specs.Numbers.{actionOf};
 ghost use Rattle.device.specs.declared.Settings.{Settings};
 ghost use Rattle.actions.specs.Setup.{Setup};
@@ -18,12 +19,10 @@ const ARGUMENT: u16 = 6;
 
 const ADDRESSES: u16 = 8;
 
-// An address has six bytes, and at most sixteen are listed. The low 14 bits of an MC-Setup's argument count bytes.
+// An address has six bytes. The low 14 bits of an MC-Setup's argument count bytes.
 const ADDRESS_SIZE: usize = 6;
 
 const ADDRESS_BYTES: u16 = 6;
-
-const LISTED: u16 = 16;
 
 const COUNT_BITS: u16 = 14;
 
@@ -182,36 +181,49 @@ fn configure(memory: &[u8], base: RealAddress, setup: &mut [u8], block: Offset) 
     plainly(FAILED, 0)
 }
 
-// How many addresses an MC-Setup brings: the low 14 bits at +6 count bytes, a remainder ignored.
-fn groups(memory: &[u8], base: RealAddress, block: Offset) -> u16
-    ensures { λ r. ⌜ r ≡ actions.groups base block (now (memory .entry)) ⌝ }
+// How many bytes of addresses an MC-Setup brings: the low 14 bits at +6.
+fn count_of(memory: &[u8], base: RealAddress, block: Offset) -> u16
+    ensures { λ r. ⌜ r ≡ actions.countOf base block (now (memory .entry)) ⌝ }
 {
     scb::bits_at(
         memory::word_at(memory, memory::place(base, block, ARGUMENT)),
         0,
         COUNT_BITS,
     )
-        / ADDRESS_BYTES
 }
 
-// MC-Setup: the list is n addresses from +8 on, the unused slots zero; above 16 addresses 8000h, and the old list kept.
+// The filter of so many bytes of addresses: of each the bit of its hash is set. Where the count runs out inside an address, that remainder is
+// ignored.
+fn filter_of(memory: &[u8], first: RealAddress, count: u16) -> u64
+    ensures { λ r. ⌜ r ≡ actions.filtering (now (memory .entry)) (first .0) (count / addressLength) ⌝ }
+{
+    let mut filter: u64 = 0;
+    let mut i: u16 = 0;
+    'addresses: while i < count {
+        let mut register = hash::ONES;
+        let mut j: usize = 0;
+        while j < ADDRESS_SIZE {
+            if i == count {
+                break 'addresses;
+            }
+            register = hash::take(register, memory::byte_behind(memory, first, i));
+            i += 1;
+            j += 1;
+        }
+        filter = filter | 1 << hash::select(register);
+    }
+    filter
+}
+
+// MC-Setup: the filter is that of its addresses, and nothing of the old one stays.
 fn mc_setup(memory: &[u8], base: RealAddress, setup: &mut [u8], block: Offset) -> Done
     requires { ⌜ length (now setup) ≡ setupSize ⌝ }
     ensures { λ r. ⌜ ((s : Setup) → SetIs s (now (setup .entry)) → acts.Sets (actions.mcSetup base s block (now (memory .entry))) r (now (setup .exit))) ⌝ }
 {
-    let n = groups(memory, base, block);
-    if n <= LISTED {
-        numerals::clear(setup, setup::LISTED, setup::LISTED_SIZE);
-        copies::copy_out(
-            memory,
-            memory::place(base, block, ADDRESSES),
-            n as usize * ADDRESS_SIZE,
-            setup,
-            setup::LISTED,
-        );
-        return plainly(DONE, 0);
-    }
-    plainly(FAILED, 0)
+    let first = memory::place(base, block, ADDRESSES);
+    let filter = filter_of(memory, first, count_of(memory, base, block));
+    numerals::put64(setup, setup::FILTER, filter);
+    plainly(DONE, 0)
 }
 
 // TDR: the word at +6 becomes 8000h.

@@ -7,6 +7,8 @@ use native.Mathlib.Omega.{arith}
 use lib.Bits.{bitOr}
 use lib.ListN.{length, take, drop, length-append}
 use lib.Seq.{sets, sets-eq, drop-length}
+use Rattle.memory.specs.Memory.{digits}
+use Rattle.memory.proofs.Fields.{length-digits}
 use Rattle.scb.specs.Words.{joined, eventBits, ruNumber}
 use Rattle.scb.proofs.Fields.{join-law}
 use Rattle.device.specs.State.{ruState, freshUnits, fresh}
@@ -77,10 +79,10 @@ fresh-is =
 
 -- ---- the setup
 
-pub setup-length : (s : Setup) (b : List ℕ) → SetIs s b → length b ≡ 104
+pub setup-length : (s : Setup) (b : List ℕ) → SetIs s b → length b ≡ 16
 unfolding setupBytes
 setup-length s b h =
-    ap length (h .bytes-are) ∙ rw (length-append (s .own) (s .listed), h .own-wide, h .listed-wide)
+    ap length (h .bytes-are) ∙ rw (length-append (s .own) (digits 8 (s .filter)), h .own-wide, length-digits 8 (s .filter))
 
 take-zero : (l : List ℕ) → take 0 l ≡ []
 take-zero [] = refl
@@ -93,4 +95,4 @@ run-over vs l e =
     sets-eq vs l 0 (omega arith) ∙ ap (λ (x : List ℕ). x ++ vs ++ drop (0 + length vs) l) (take-zero l) ∙ ap (λ (x : List ℕ). vs ++ x) d ∙ append-nil vs
 
 pub setup-fresh : (b : List ℕ) → b ≡ setupBytes (setupOf fresh) → SetIs (setupOf fresh) b
-setup-fresh b e = record { bytes-are = e; minimum-wide = omega arith; own-wide = refl; listed-wide = refl }
+setup-fresh b e = record { bytes-are = e; minimum-wide = omega arith; own-wide = refl; filter-wide = omega arith }

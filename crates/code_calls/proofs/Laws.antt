@@ -63,38 +63,38 @@ module _ (x : Asked) (a : Areas) (f : List ℕ) (line budget unit : ℕ) (r : Re
 
 -- ---- numbers that go to a record
 
-put-whole : (k n : Packed) (set : List ℕ) → length set ≡ 104
-    → storedUnits ((unitBytes k ++ replicate 112 0) ++ set) n ≡ unitBytes n ++ (replicate 112 0 ++ set)
+put-whole : (k n : Packed) (set : List ℕ) → length set ≡ 16
+    → storedUnits ((unitBytes k ++ replicate 200 0) ++ set) n ≡ unitBytes n ++ (replicate 200 0 ++ set)
 unfolding storedUnits unitBytes front digits
 put-whole k n set l = rw l
 
-told : (d : Device) (n : Packed) (set : List ℕ) → DeviceIs d n set → unitBytes n ++ (replicate 112 0 ++ set) ≡ imageOf d
+told : (d : Device) (n : Packed) (set : List ℕ) → DeviceIs d n set → unitBytes n ++ (replicate 200 0 ++ set) ≡ imageOf d
 unfolding imageOf
 told d n set e = rw (e .units .same, e .setup .bytes-are)
 
 -- ---- a record whose setup is lent, and to which numbers go back
 
 module _ (r : List ℕ) (k : Packed) (u : Units) (l : length r ≡ 256) (b : Bytes r) (f : Finds r k u) where
-  -- the numbers and the last 104 bytes are the device's
-  pub lent-device : DeviceIs (deviceAt r u) k (take 104 (drop 152 r))
+  -- the numbers and the last 16 bytes are the device's
+  pub lent-device : DeviceIs (deviceAt r u) k (take 16 (drop 240 r))
   unfolding deviceAt deviceFrom
   lent-device = rw (setup-lent r l) (record { units = its-numbers r u l b (f .found) k (f .numbers); setup = its-setup r u l b (f .found) })
 
-  put-there : (d : Device) (n : Packed) (set : List ℕ) → DeviceIs d n set → storedUnits (take 152 r ++ set) n ≡ imageOf d
+  put-there : (d : Device) (n : Packed) (set : List ℕ) → DeviceIs d n set → storedUnits (take 240 r ++ set) n ≡ imageOf d
   put-there d n set e =
-      let s : take 152 r ≡ unitBytes (packedOf (deviceAt r u .units)) ++ replicate 112 0 =
-      subst (λ (x : List ℕ). take 152 x ≡ unitBytes (packedOf (deviceAt r u .units)) ++ replicate 112 0) (sym (its-image r u l b (f .found) .same)) (first-part (deviceAt r u)) in
+      let s : take 240 r ≡ unitBytes (packedOf (deviceAt r u .units)) ++ replicate 200 0 =
+      subst (λ (x : List ℕ). take 240 x ≡ unitBytes (packedOf (deviceAt r u .units)) ++ replicate 200 0) (sym (its-image r u l b (f .found) .same)) (first-part (deviceAt r u)) in
       rw s (put-whole (packedOf (deviceAt r u .units)) n set (setup-length (setupOf d) set (e .setup)) ∙ told d n set e)
 
   -- with other numbers and another setup, it is the image of the device that they are
-  pub put-back : (d : Device) (n : Packed) (set : List ℕ) → DeviceIs d n set → storedUnits (take 152 r ++ (set ++ drop 104 (drop 152 r))) n ≡ imageOf d
+  pub put-back : (d : Device) (n : Packed) (set : List ℕ) → DeviceIs d n set → storedUnits (take 240 r ++ (set ++ drop 16 (drop 240 r))) n ≡ imageOf d
   put-back d n set e = rw (setup-returned r l set) (put-there d n set e)
 
   -- with other numbers alone
-  pub put-numbers : (d : Device) (n : Packed) → DeviceIs d n (take 104 (drop 152 r)) → storedUnits r n ≡ imageOf d
+  pub put-numbers : (d : Device) (n : Packed) → DeviceIs d n (take 16 (drop 240 r)) → storedUnits r n ≡ imageOf d
   put-numbers d n e =
-      let x : DeviceIs d n (drop 152 r) = rw (setup-lent r l) at e in
-      ap (λ (y : List ℕ). storedUnits y n) (sym (take-append-drop 152 r)) ∙ put-there d n (drop 152 r) x
+      let x : DeviceIs d n (drop 240 r) = rw (setup-lent r l) at e in
+      ap (λ (y : List ℕ). storedUnits y n) (sym (take-append-drop 240 r)) ∙ put-there d n (drop 240 r) x
 
 -- an attention leaves both areas alone, an arrival the outgoing one
 pub attention-holding : (w : World) → w .holding ≡ attentionOf w .holding

@@ -268,7 +268,7 @@ module _ (d : Device) (f : List ℕ) (v : ℕ) (m h out : List ℕ) (k : Packed)
   world = worldOf d m h out
 
   abbrev matched : Bool
-  matched = matches (d .units .settings) (d .own) (d .listed) f
+  matched = matches (d .units .settings) (d .own) (d .filter) f
 
   -- under 14 bytes, or no match: dropped
   dropped : (few match : Bool) → (few || not match) ≡ true → ltb (length f) 14 ≡ few → matched ≡ match → DeviceIs d k set → Arrives (arrivalOf world f v) k set m h

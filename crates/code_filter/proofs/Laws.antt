@@ -1,16 +1,14 @@
--- The low bit of a byte; a setup's own address and its listed addresses, byte by byte. Assumes nothing.
-use mathlib.Core.Path.{_≡_, sym}
+-- The low bit of a byte; a setup's own address, byte by byte. Assumes nothing.
+use mathlib.Core.Path.{_≡_}
 use mathlib.Core.List.{List}
-use Prim.Native.Nat.{ℕ, _+_, _*_, _%_}
+use Prim.Native.Nat.{ℕ, _%_}
 use native.Mathlib.Nat.{div-one}
 use native.Mathlib.Omega.{arith}
-use lib.ListN.{getD, drop}
-use lib.Seq.{getD-drop}
 use Rattle.scb.specs.Words.{bitsAt, bit}
 use Rattle.filter.specs.Match.{agree}
 use Rattle.phases.specs.Fields.{odd}
 use Rattle.actions.specs.Setup.{Setup}
-use Rattle.packed.specs.SetUp.{ownAt, listedAt, SetIs}
+use Rattle.packed.specs.SetUp.{ownAt, SetIs}
 use Rattle.packed.proofs.SetUps.{own-byte}
 
 -- ---- bits of a byte
@@ -18,14 +16,6 @@ use Rattle.packed.proofs.SetUps.{own-byte}
 pub low-bit : (w : ℕ) → odd w ≡ bit w 0
 unfolding bitsAt
 low-bit w = rw (div-one w)
-
--- ---- lists
-
--- byte j of listed address i
-pub listed-byte : (l : List ℕ) (i j : ℕ) → getD l (listedAt + i * 6 + j) 0 ≡ getD (drop listedAt l) (i * 6 + j) 0
-listed-byte l i j =
-    let e : listedAt + i * 6 + j ≡ listedAt + (i * 6 + j) = omega arith in
-    rw e (sym (getD-drop listedAt l (i * 6 + j) 0))
 
 -- ---- a setup's bytes
 

@@ -1,2 +1,2 @@
--- What the loops over the listed addresses rest on, and what is read of the lent bytes.
+-- What is read of the lent bytes.
 mod Laws

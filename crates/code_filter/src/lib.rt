@@ -1,18 +1,17 @@
-// Is this frame for us: the one question that an arrival asks of the settings and the addresses, which are lent as the record keeps them.
-// It assumes all their bytes and a frame of at least 14 bytes. filter's Match says the answer.
+// Is this frame for us: the one question that an arrival asks of the settings, the own address and the filter, which are lent as the record
+// keeps them. It assumes all their bytes and a frame of at least 14 bytes. filter's Match says the answer.
 use packed::setup;
 ghost use mathlib.Core.Path.{_≡_};
-ghost use Prim.Native.Nat.{_≤_};
-ghost use lib.ListN.{length, drop};
-ghost use Rattle.device.specs.Limits.{addressLength, mostListed};
+ghost use Prim.Native.Nat.{_≤_, _<_};
+ghost use lib.ListN.{length, take};
+ghost use Rattle.hash.specs.Hash.{hash};
+ghost use Rattle.device.specs.Limits.{addressLength, filterBits};
 ghost use Rattle.filter.specs.Match as match;
 ghost use Rattle.actions.specs.Setup.{Setup};
-ghost use Rattle.packed.specs.SetUp.{ownAt, listedAt, setupSize, SetIs};
+ghost use Rattle.packed.specs.SetUp.{ownAt, setupSize, SetIs};
 
-// An address has six bytes, and sixteen addresses are listed.
+// An address has six bytes.
 const ADDRESS: usize = 6;
-
-const LISTED: usize = 16;
 
 // The broadcast address is all FFh.
 const ONES: u8 = 0xFF;
@@ -43,27 +42,26 @@ fn is_own(setup: &[u8], frame: &[u8]) -> bool
         & (setup[setup::OWN + 5] == frame[5])
 }
 
-// Whether the destination is one of the sixteen listed addresses. A listed address is left at the first byte that differs, and the list
-// at the first address that agrees.
-fn is_listed(setup: &[u8], frame: &[u8]) -> bool
-    requires { ⌜ (length (now setup) ≡ setupSize) × (14 ≤ length (now frame)) ⌝ }
-    ensures { λ r. ⌜ r ≡ match.isListed (drop listedAt (now (setup .entry))) (now (frame .entry)) mostListed ⌝ }
+// The hash of the destination.
+fn hash_of(frame: &[u8]) -> u64
+    requires { ⌜ 14 ≤ length (now frame) ⌝ }
+    ensures { λ r. ⌜ (r < filterBits) × (r ≡ hash (take addressLength (now (frame .entry)))) ⌝ }
 {
-    let mut found = false;
+    let mut register = hash::ONES;
     let mut i: usize = 0;
-    'listed: while i < LISTED {
-        let mut j: usize = 0;
-        while j < ADDRESS {
-            if setup[setup::LISTED + i * ADDRESS + j] != frame[j] {
-                i += 1;
-                continue 'listed;
-            }
-            j += 1;
-        }
-        found = true;
-        break 'listed;
+    while i < ADDRESS {
+        register = hash::take(register, frame[i]);
+        i += 1;
     }
-    found
+    hash::select(register)
+}
+
+// Whether its bit is set in the filter.
+fn is_filtered(setup: &[u8], frame: &[u8]) -> bool
+    requires { ⌜ (length (now setup) ≡ setupSize) × (14 ≤ length (now frame)) ⌝ }
+    ensures { λ r. ⌜ ((s : Setup) → SetIs s (now (setup .entry)) → r ≡ match.isFiltered (s .filter) (now (frame .entry))) ⌝ }
+{
+    setup::filter(setup) >> hash_of(frame) & 1 == 1
 }
 
 // Whether the low bit of the first byte is set.
@@ -75,10 +73,10 @@ fn is_group(frame: &[u8]) -> bool
 }
 
 // Match: promiscuous; or all FFh with broadcast enabled; or not all FFh and either own address or, with the low bit of the first byte
-// set, a listed address.
+// set, a set bit of the filter.
 pub fn matches(setup: &[u8], frame: &[u8]) -> bool
     requires { ⌜ (length (now setup) ≡ setupSize) × (14 ≤ length (now frame)) ⌝ }
-    ensures { λ r. ⌜ ((s : Setup) → SetIs s (now (setup .entry)) → r ≡ match.matches (s .settings) (s .own) (s .listed) (now (frame .entry))) ⌝ }
+    ensures { λ r. ⌜ ((s : Setup) → SetIs s (now (setup .entry)) → r ≡ match.matches (s .settings) (s .own) (s .filter) (now (frame .entry))) ⌝ }
 {
     if setup::promiscuous(setup) {
         return true;
@@ -90,7 +88,7 @@ pub fn matches(setup: &[u8], frame: &[u8]) -> bool
         return true;
     }
     if is_group(frame) {
-        return is_listed(setup, frame);
+        return is_filtered(setup, frame);
     }
     false
 }

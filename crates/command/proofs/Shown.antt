@@ -7,13 +7,14 @@ use lib.ListN.{replicate, getD}
 use Rattle.memory.specs.Address.{place}
 use Rattle.memory.specs.Memory.{byteAt, putByte, bytesAt, putBytes, value, digits, fieldAt, wordAt, Write, wordTo, apply}
 use Rattle.scb.specs.Words.{bitsAt}
+use Rattle.hash.specs.Hash.{ones, shifted, step, bitsIn, register, selected, hash}
 use Rattle.device.specs.Numbers.{actionOf, actionNumber}
 use Rattle.device.specs.State.{freshSettings}
 use Rattle.device.specs.declared.Action.the-variants as action
 use Rattle.device.specs.declared.Begun.{Begun}
 use Rattle.device.specs.declared.Cu.{Cu}
 use Rattle.device.specs.declared.Cu.the-variants as cu
-use Rattle.actions.specs.Actions.{act, reported, isSent, sent}
+use Rattle.actions.specs.Actions.{filtering, act, reported, isSent, sent}
 use Rattle.command.specs.Begin.{begin, begunBy, headerOf}
 use Rattle.command.specs.Buffer.{descriptorAt, buffer}
 use Rattle.command.specs.End.{nextAfter, end}
@@ -26,7 +27,7 @@ part unit =
     record {
       base = record { 0 = 0x10 };
       unit = unit;
-      setup = record { settings = freshSettings; own = replicate 6 0x66; listed = replicate 96 0 };
+      setup = record { settings = freshSettings; own = replicate 6 0x66; filter = 0 };
       outgoing = replicate 2048 0;
     }
 
@@ -133,6 +134,23 @@ ended word pausing =
     let b = flags word in
     let whole : Begun = record { block = b .block; el = b .el; suspend = b .suspend; interrupt = b .interrupt; pausing = pausing } in
     served (cu.Acting whole action.Nop) []
+
+-- 02, Wish 1: an MC-Setup's addresses are read at the end turn, before the status is written. In 32 bytes eleven of them, from 18h on, run twice
+-- over the end of memory and over the block at 10h, whose status is 4000h then
+abbrev ring : List ℕ
+ring =
+    0x20 ∷ 0x21 ∷ 0x22 ∷ 0x23 ∷ 0x24 ∷ 0x25 ∷ 0x26 ∷ 0x27 ∷ 0x28 ∷ 0x29 ∷ 0x2A ∷ 0x2B ∷ 0x2C ∷ 0x2D ∷ 0x2E ∷ 0x2F
+    ∷ 0 ∷ 0 ∷ 0x03 ∷ 0x80 ∷ 0 ∷ 0 ∷ 66 ∷ 0 ∷ 1 ∷ 2 ∷ 3 ∷ 4 ∷ 5 ∷ 6 ∷ 7 ∷ 8 ∷ []
+
+abbrev beginning : Service
+beginning =
+    let p = part (cu.Waiting (record { 0 = 0x10 })) in
+    service (record { base = record { 0 = 0 }; unit = p .unit; setup = p .setup; outgoing = p .outgoing }) ring 0
+
+-- 00-40-03-80-00-00 falls on bit 13 and 2E-2F-00-40-03-80 on bit 3; with 0000h in that word they would be 61 and 27, with A000h 37 and 47
+pub overItsOwnBlock : T (eqb (service (beginning .part) (apply (beginning .writes) ring) 0 .part .setup .filter) 0x8A40080120002208)
+unfolding byteAt putByte bytesAt putBytes value digits fieldAt place bitsAt actionOf begunBy headerOf begin ones shifted step bitsIn register selected hash filtering act nextAfter end service
+overItsOwnBlock = tt
 
 -- EL makes CU Idle, else S or a waiting SUSPEND makes it Suspended. EL wins over S
 pub elOverS : T (eqb (phase (ended 0xC000 false .part .unit)) 0 && eqb (phase (ended 0x4000 false .part .unit)) 1

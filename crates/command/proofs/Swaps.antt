@@ -27,7 +27,7 @@ part unit =
     record {
       base = record { 0 = 0x10 };
       unit = unit;
-      setup = record { settings = freshSettings; own = replicate 6 255; listed = replicate 96 0 };
+      setup = record { settings = freshSettings; own = replicate 6 255; filter = 0 };
       outgoing = replicate 32 0;
     }
 

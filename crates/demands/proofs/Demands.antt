@@ -1,20 +1,26 @@
 -- The three demands and the inspector's list, sentence by sentence. That every call ends and does nothing undefined is what the check of the code
 -- says of all functions; what each exported call promises is in crates/lentoquist/src/lib.rt. Assumes nothing.
 use mathlib.Core.Path.{_≡_}
-use mathlib.Core.Bool.{Bool, true, false, _||_}
+use mathlib.Core.Bool.{Bool, true, false, not, _&&_, _||_}
 use mathlib.Core.List.{List, [], _∷_, _++_, map}
-use Prim.Native.Nat.{ℕ, _+_, _*_, _%_, _^_, _≤_, _<_}
-use lib.Dec.{T}
-use lib.ListN.{length, replicate}
-use Rattle.memory.specs.Address.{none}
-use Rattle.memory.specs.Memory.{putBytes, digits, fieldAt, wordAt}
+use Prim.Native.Nat.{ℕ, _+_, _-_, _*_, _%_, _^_, _≤_, _<_}
+use lib.Dec.{T, eqb}
+use lib.ListN.{length, take, replicate}
+use Rattle.memory.specs.Address.{place, none}
+use Rattle.memory.specs.Memory.{putBytes, digits, fieldAt, wordAt, wordTo}
 use Rattle.memory.specs.declared.Offset.{Offset}
 use Rattle.memory.proofs.Bytes.{Bytes}
 use Rattle.memory.proofs.Fields as fields
-use Rattle.scb.specs.Words.{bitsAt, joined, cblAt}
+use Rattle.scb.specs.Words.{bitsAt, bit, joined, cblAt}
 use Rattle.scb.specs.declared.RuState.the-variants as rus
 use Rattle.scb.proofs.Fields as bit-fields
+use Rattle.hash.specs.Hash.{hash}
+use Rattle.hash.specs.Numbers.{fast}
+use Rattle.hash.proofs.Faster.{faster-is-hash}
+use Rattle.hash.proofs.Shown as folded
+use Rattle.device.specs.Limits.{addressLength}
 use Rattle.device.specs.State.{ruState, isHolding, heldIn, isGood}
+use Rattle.device.specs.declared.Begun.{Begun}
 use Rattle.device.specs.declared.Counter.{Counter}
 use Rattle.device.specs.declared.Counter.the-variants as counter
 use Rattle.device.specs.declared.Device.{Device}
@@ -24,6 +30,12 @@ use Rattle.device.specs.declared.Refusal.{Refusal}
 use Rattle.device.specs.declared.Ru.the-variants as ru
 use Rattle.device.specs.declared.Storing.{Storing}
 use Rattle.device.specs.declared.Verdict.the-variants as verdict
+use Rattle.filter.specs.Match.{allOnes, isOwn, isGroup}
+use Rattle.filter.proofs.Laws as match
+use Rattle.actions.specs.Actions.{countOf, done}
+use Rattle.actions.specs.Block.{blockStatusAt}
+use Rattle.command.specs.Part.{partOf}
+use Rattle.command.specs.Service.{service}
 use Rattle.numerals.specs.Places.{field}
 use Rattle.packed.specs.Packed.{ruTagIn}
 use Rattle.packed.specs.Record.{ruAt, restAt}
@@ -53,6 +65,7 @@ use Rattle.closure.proofs.Carried as carried
 use Rattle.closure.proofs.Outside as outside
 use Rattle.closure.proofs.Turns as run-of-turns
 use Rattle.frames.specs.Arrival as arrival
+use Rattle.frames.specs.Filtered.{EndsMcSetup, leftBy, FallsIn, SetUpBy, FilterAfter}
 use Rattle.frames.specs.Held.{ends, heldFates, FatesOfHeld, GoodFate, BadFate}
 use Rattle.frames.specs.Fates.{Deed, alter, Scene, namesOf, opening, still, advance, beginnings, endings, times, timesFated, timesAltered, AllFates}
 use Rattle.frames.specs.Fates.{by-call, by-altering, isUnaltered, AllProper}
@@ -61,6 +74,7 @@ use Rattle.frames.specs.Stands.{NoOverlap, pieces, counters, otherCounters, lac
 use Rattle.frames.specs.Data.{Staying, dataOf, Delivered, ArrivedDelivered, EndLent, DeliveredOnBytes, ArrivedOnBytes}
 use Rattle.frames.proofs.Arrival as arrivals
 use Rattle.frames.proofs.Arrived as arrived
+use Rattle.frames.proofs.Filtered as filtered
 use Rattle.frames.proofs.Held as holdings
 use Rattle.frames.proofs.Stands as exits
 use Rattle.frames.proofs.Clear as clear
@@ -68,6 +82,7 @@ use Rattle.frames.proofs.Data as stored
 use Rattle.frames.proofs.Fates as fates
 use Rattle.frames.proofs.OnBytes as on-bytes
 use Rattle.frames.proofs.DataWitness as data-run
+use Rattle.frames.proofs.FilterWitness as filter-run
 use Rattle.frames.proofs.DataBytesWitness as data-bytes-run
 use Rattle.frames.proofs.BytesWitness as bytes-run
 use Rattle.lists.specs.Uses.{Listed, firstOf}
@@ -81,6 +96,7 @@ use Rattle.worked.proofs.BytesWitness as list-bytes-run
 use Rattle.worked.proofs.RunsWitness as list-drives
 use Rattle.worked.proofs.Suspended as suspended-run
 use Rattle.worked.proofs.Resumed as resumed-run
+use Rattle.worked.proofs.Grouped as grouped-run
 use Rattle.held.specs.Held as held
 use Rattle.held.specs.OnRecords as on-records
 use Rattle.held.proofs.Held as held-frames
@@ -170,6 +186,65 @@ as-document-01-says = demanded.has-demand2
 -- on, what becomes of every arrival and of every held frame, and what is stored of those that arrive in it, is what is said below
 pub as-document-01-says-of-frames : (chip : Chip) → Meets chip → Demand2Frames chip
 as-document-01-says-of-frames = chip-frames.has-demand2-frames
+
+-- 02, Wish 1: 'Demand 2's "addressed to us" now means passed by this filter' (`isOurs`): by its bit, a frame that is passed by no other rule
+pub addressed-to-us-by-the-filter : (w : World) (f : List ℕ) → arrival.settingsOf w .promiscuous ≡ false → allOnes f ≡ false → isOwn (w .device .own) f ≡ false
+    → arrival.isOurs w f ≡ (isGroup f && bit (w .device .filter) (hash (take addressLength f)))
+addressed-to-us-by-the-filter w f = match.by-the-filter (arrival.settingsOf w) (w .device .own) (w .device .filter) f
+
+-- "Broadcast, own address and promiscuous mode keep their rules"
+pub addressed-to-us-by-broadcast : (w : World) (f : List ℕ) → arrival.settingsOf w .promiscuous ≡ false → allOnes f ≡ true
+    → arrival.isOurs w f ≡ not (arrival.settingsOf w .nobroadcast)
+addressed-to-us-by-broadcast w f = match.by-broadcast (arrival.settingsOf w) (w .device .own) (w .device .filter) f
+
+pub addressed-to-us-by-the-own-address : (w : World) (f : List ℕ) → allOnes f ≡ false → isOwn (w .device .own) f ≡ true → arrival.isOurs w f ≡ true
+addressed-to-us-by-the-own-address w f = match.by-own-address (arrival.settingsOf w) (w .device .own) (w .device .filter) f
+
+pub addressed-to-us-by-promiscuous-mode : (w : World) (f : List ℕ) → arrival.settingsOf w .promiscuous ≡ true → arrival.isOurs w f ≡ true
+addressed-to-us-by-promiscuous-mode w f = match.by-promiscuous (arrival.settingsOf w) (w .device .own) (w .device .filter) f
+
+-- "It folds each address through the CRC into a 64-bit filter": the turn that ends an MC-Setup leaves a filter whose bits are those on which an address
+-- of its list falls, each of them and no other, and nothing else of the setup is changed
+pub an-mc-setup-makes-the-filter : (w : World) (b : Begun) (report : ℕ) → EndsMcSetup w b → SetUpBy w b (leftBy w report)
+an-mc-setup-makes-the-filter = filtered.set-up
+
+-- "and a multicast frame passes when its bit is set, listed or not": after that turn, if an address of the list falls on the same bit
+pub a-multicast-frame-passes-by-its-bit : (w : World) (b : Begun) (report : ℕ) → EndsMcSetup w b → (f : List ℕ) → allOnes f ≡ false → isGroup f ≡ true
+    → FallsIn w b (hash (take addressLength f)) → arrival.isOurs (leftBy w report) f ≡ true
+a-multicast-frame-passes-by-its-bit = filtered.passes
+
+-- and only then, where no other rule passes it
+pub and-by-no-other : (w : World) (b : Begun) (report : ℕ) → EndsMcSetup w b → (f : List ℕ)
+    → arrival.settingsOf (leftBy w report) .promiscuous ≡ false → allOnes f ≡ false → isOwn (leftBy w report .device .own) f ≡ false
+    → arrival.isOurs (leftBy w report) f ≡ true → (isGroup f ≡ true) × FallsIn w b (hash (take addressLength f))
+and-by-no-other = filtered.passed
+
+-- "any count works": A000h goes to the block, and nothing else, whatever stands there; "a count of 0 empties the filter", as does one below 6
+pub mc-setup-is-always-done : (w : World) (b : Begun) (report : ℕ) → EndsMcSetup w b
+    → service (partOf (w .device) (w .outgoing)) (w .memory) report .writes ≡ wordTo (place (w .device .units .base) (b .block) blockStatusAt) done ∷ []
+mc-setup-is-always-done = filtered.status-done
+
+pub a-count-of-0-empties-the-filter : (w : World) (b : Begun) (report : ℕ) → EndsMcSetup w b
+    → countOf (w .device .units .base) (b .block) (w .memory) < addressLength → leftBy w report .device .filter ≡ 0
+a-count-of-0-empties-the-filter = filtered.emptied
+
+-- and no other call changes the filter but a reset, of either kind
+pub the-filter-after-a-call : (c : Call) (w : World) → FilterAfter w c
+the-filter-after-a-call = filtered.filter-after
+
+-- "The fold is that of document 000, section 5.5": `hash`, which is that section's program; values of it, of short addresses too; 64 addresses that fall on
+-- all 64 bits; and that the form which the code has is the same
+pub the-values-of-the-fold : T (folded.all-are folded.values)
+the-values-of-the-fold = folded.values-are
+
+pub the-fold-of-short-addresses : T (eqb (fast (0x01 ∷ [])) 50 && eqb (hash (0x01 ∷ [])) 50 && eqb (fast (0xAB ∷ 0xCD ∷ [])) 19 && eqb (hash (0xAB ∷ 0xCD ∷ [])) 19)
+the-fold-of-short-addresses = folded.short-values
+
+pub the-fold-reaches-every-bit : T (eqb (folded.bits-of 64) (2 ^ 64 - 1))
+the-fold-reaches-every-bit = folded.all-bits
+
+pub the-faster-fold-is-the-same : (bs : List ℕ) → fast bs ≡ hash bs
+the-faster-fold-is-the-same = faster-is-hash
 
 -- "A good frame addressed to us, arriving while the receive unit is Ready, is held to be stored"
 pub a-good-frame-is-held : (w : World) (f : List ℕ) (v : ℕ) (fd : Offset) → arrival.RightLengths w f → arrival.Ours w f → arrival.Good w f v
@@ -597,6 +672,10 @@ bits-below-stay = bit-fields.bits-kept
 
 -- ---- the premises are met, each by a run that is computed
 
+-- demand 2: an MC-Setup of two groups; a frame to a third that is not listed is held by the bit that it shares, and one whose bit is clear is dropped
+pub a-group-that-is-not-listed : filter-run.Seen
+a-group-that-is-not-listed = filter-run.seen
+
 -- demand 2: 60 bytes arrive, and 46 of them get to three buffers, or 40 to two
 pub a-frame-whose-data-is-stored : data-run.Seen 0xA0 (replicate 4 (call (turn 0))) 46
 a-frame-whose-data-is-stored = data-run.enough
@@ -650,6 +729,11 @@ pub a-list-that-is-resumed : Resumes 0x20 resumed-run.before
     × Premises DuringList enough resumed-run.behind resumed-run.trace resumed-run.begun
     × Done resumed-run.behind resumed-run.trace resumed-run.begun
 a-list-that-is-resumed = (resumed-run.resumes, resumed-run.listed, resumed-run.premises, resumed-run.resumed-done)
+
+-- and one with an MC-Setup whose addresses run over the end of memory, from 8186 to 5
+pub a-list-with-an-mc-setup : Started grouped-run.two grouped-run.begun × Premises DuringList enough grouped-run.two grouped-run.trace grouped-run.begun
+    × Done grouped-run.two grouped-run.trace grouped-run.begun
+a-list-with-an-mc-setup = (grouped-run.is-started, grouped-run.premises, grouped-run.grouped-done)
 
 -- second half: among refusals, with another memory and other areas at each call
 pub a-frame-that-is-settled :

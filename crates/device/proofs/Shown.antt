@@ -6,7 +6,7 @@ use lib.ListN.{length, replicate}
 use Rattle.memory.specs.Memory.{byteAt, putByte, bytesAt, putBytes, value, digits, fieldAt, apply}
 use Rattle.memory.specs.Address.{place}
 use Rattle.device.specs.Answers.{counterOf, counts}
-use Rattle.device.specs.Limits.{header, holdingSize, outgoingSize, recordSize, longest, mostBuffers, mostListed, fcs}
+use Rattle.device.specs.Limits.{header, holdingSize, outgoingSize, recordSize, longest, mostBuffers, filterBits, fcs}
 use Rattle.device.specs.Numbers.{verdictNumber, verdictOf, refusalNumber, counterPlace}
 use Rattle.device.specs.State.{goodBy, ruWorks, cuWorks, fresh}
 use Rattle.device.specs.declared.Counter.{Counter}
@@ -47,16 +47,16 @@ countersOfFates = tt
 pub shortIsBad : T (not (goodBy true verdict.Good) && goodBy false verdict.Good)
 shortIsBad = tt
 
--- 01, "Turns": after reset the address is six FFh, the minimum length 64, those bits 0; RU first
+-- 01, "Turns": after reset the address is six FFh, the minimum length 64, those bits 0; the filter empty, RU first
 pub afterReset : T (eqb (length (fresh .own)) 6 && eqb (value (fresh .own)) 0xFFFFFFFFFFFF && eqb (fresh .units .settings .minimum) 64
     && not (fresh .units .settings .savebad) && not (fresh .units .settings .promiscuous) && not (fresh .units .settings .nobroadcast)
-    && not (fresh .units .rulast) && not (fresh .units .initialised))
+    && eqb (fresh .filter) 0 && not (fresh .units .rulast) && not (fresh .units .initialised))
 unfolding value
 afterReset = tt
 
 -- the sizes and limits
 pub limits : T (eqb header 14 && eqb holdingSize 2048 && eqb outgoingSize 2048 && eqb recordSize 256 && eqb longest 2048
-    && eqb mostBuffers 64 && eqb mostListed 16 && eqb fcs 4)
+    && eqb mostBuffers 64 && eqb filterBits 64 && eqb fcs 4)
 limits = tt
 
 -- 01, "Turns": RU has work while a frame is held, CU while Active

@@ -134,14 +134,14 @@ withUnits d units =
     record {
       units = units;
       own = d .own;
-      listed = d .listed;
+      filter = d .filter;
     }
 
--- other addresses, own and listed
-abbrev pub withAddresses : Device → List ℕ → List ℕ → Device
-withAddresses d own listed =
+-- another own address and another filter
+abbrev pub withAddressing : Device → List ℕ → ℕ → Device
+withAddressing d own filter =
     record {
       units = d .units;
       own = own;
-      listed = listed;
+      filter = filter;
     }

@@ -1,5 +1,5 @@
--- The sizes that document 01 names, each once. Assumes nothing.
-use Prim.Native.Nat.{ℕ, _+_, _*_}
+-- The sizes that documents 01 and 02 name, each once. Assumes nothing.
+use Prim.Native.Nat.{ℕ, _+_}
 
 -- a frame's header: destination, source, type
 abbrev pub addressLength : ℕ
@@ -33,12 +33,9 @@ longest = 2048
 abbrev pub mostBuffers : ℕ
 mostBuffers = 64
 
--- the listed addresses: 16 of six bytes
-abbrev pub mostListed : ℕ
-mostListed = 16
-
-abbrev pub listedSize : ℕ
-listedSize = mostListed * addressLength
+-- 02, Wish 1: a 64-bit filter
+abbrev pub filterBits : ℕ
+filterBits = 64
 
 -- bytes sent with every frame that no call hands over: the FCS
 abbrev pub fcs : ℕ

@@ -9,7 +9,7 @@ use Rattle.scb.specs.declared.CuState.the-variants as cus
 use Rattle.scb.specs.declared.RuState.{RuState}
 use Rattle.scb.specs.declared.RuState.the-variants as rus
 use Rattle.scb.specs.Words.{noEvents}
-use Rattle.device.specs.Limits.{addressLength, listedSize}
+use Rattle.device.specs.Limits.{addressLength}
 use Rattle.device.specs.declared.Begun.{Begun}
 use Rattle.device.specs.declared.Cu.{Cu}
 use Rattle.device.specs.declared.Cu.the-variants as cu
@@ -118,6 +118,6 @@ freshUnits =
       ru = ru.Idle;
     }
 
--- 01, IA-Setup: after reset the address is six FFh. No address is listed
+-- 01, IA-Setup: after reset the address is six FFh. 000, 2.8.5: "RESET causes the HASH table to become all zeros"
 abbrev pub fresh : Device
-fresh = record { units = freshUnits; own = replicate addressLength 255; listed = replicate listedSize 0 }
+fresh = record { units = freshUnits; own = replicate addressLength 255; filter = 0 }

@@ -97,7 +97,7 @@ pub struct Settings {
     pub minimum: u8,
 }
 
-// All of the state but the addresses. `rulast`: the receive unit was served at the last working turn.
+// All of the state but the own address and the filter. `rulast`: the receive unit was served at the last working turn.
 pub struct Units {
     pub initialised: bool,
     pub base: RealAddress,
@@ -109,11 +109,11 @@ pub struct Units {
     pub ru: Ru,
 }
 
-// The state. `listed` is sixteen addresses, unused ones zero: no multicast destination is zero, so no count is kept.
+// The state. `filter` is 64 bits: bit k is set if the last MC-Setup brought an address that falls on it.
 pub struct Device {
     pub units: Units,
     pub own: [u8; 6],
-    pub listed: [u8; 96],
+    pub filter: u64,
 }
 
 // ---- what a call answers

@@ -350,7 +350,7 @@ ownGroup =
           ++ (receiving ∷ came (1 ∷ 3 ∷ 0 ∷ 0 ∷ 0 ∷ 0 ∷ counting 1 54) good [] ∷ turned (0x60 is 0 ∷ []) ∷ came (1 ∷ 2 ∷ 0 ∷ 0 ∷ 0 ∷ 0 ∷ counting 1 54) good [] ∷ turned (0x60 is 0x4000 ∷ []) ∷ []);
     }
 
--- a listed address of all FFh does not help where broadcast is disabled; promiscuous does
+-- all FFh in the list does not help where broadcast is disabled; promiscuous does
 listedOnes : (byte descriptor : ℕ) → Case
 listedOnes byte descriptor =
     record {
@@ -359,6 +359,29 @@ listedOnes byte descriptor =
           ∷ 0x82 is 0x8002 ∷ 0x86 is 0x0009 ∷ 0x88 is 0x0600 ∷ 0x8E is byte ∷ descriptors ++ board;
       steps =
           initialised ∷ commanding ∷ turned [] ∷ turned (0x40 is 0xA000 ∷ []) ∷ turned [] ∷ settling (0x80 is 0xA000 ∷ []) ∷ receiving ∷ came (broadcast 46) good [] ∷ turned (0x60 is descriptor ∷ []) ∷ [];
+    }
+
+-- all FFh passes by no bit, not even by its own, 59, which AB-00-00-02-00-00 shares: with broadcast disabled that group passes and all FFh does
+-- not, whichever of them is listed
+bitOfOnes : (first second third : ℕ) → Case
+bitOfOnes first second third =
+    record {
+      given =
+          0x42 is 0x0003 ∷ 0x44 is 0x80 ∷ 0x46 is 6 ∷ 0x48 is first ∷ 0x4A is second ∷ 0x4C is third
+          ∷ 0x82 is 0x8002 ∷ 0x86 is 0x0009 ∷ 0x88 is 0x0600 ∷ 0x8E is 2 ∷ descriptors ++ board;
+      steps =
+          initialised
+          ∷ commanding
+          ∷ turned []
+          ∷ turned (0x40 is 0xA000 ∷ [])
+          ∷ turned []
+          ∷ settling (0x80 is 0xA000 ∷ [])
+          ∷ receiving
+          ∷ came (broadcast 46) good []
+          ∷ turned (0x60 is 0 ∷ [])
+          ∷ came (0xAB ∷ 0 ∷ 0 ∷ 2 ∷ 0 ∷ 0 ∷ counting 1 54) good []
+          ∷ turned (0x60 is 0x4000 ∷ [])
+          ∷ [];
     }
 
 -- ---- Configure and MC-Setup
@@ -408,9 +431,9 @@ rejectedKeeps =
           ∷ [];
     }
 
--- an address is listed; a second MC-Setup with a count: its status, and whether the address still is
-listedThen : (count status descriptor : ℕ) → Case
-listedThen count status descriptor =
+-- a group is listed; a second MC-Setup, with any count, is done and leaves nothing of that filter. In its list stand addresses of zeros, if any
+listedThen : (count : ℕ) → Case
+listedThen count =
     record {
       given = 0x42 is 0x0003 ∷ 0x44 is 0x80 ∷ 0x46 is 6 ∷ 0x48 is 0x0203 ∷ 0x82 is 0x8003 ∷ 0x86 is count ∷ 0x64 is 0x80 ∷ board;
       steps =
@@ -419,19 +442,26 @@ listedThen count status descriptor =
           ∷ turned []
           ∷ turned (0x40 is 0xA000 ∷ [])
           ∷ turned []
-          ∷ settling (0x80 is status ∷ 0x30 is 0x2000 ∷ [])
+          ∷ settling (0x80 is 0xA000 ∷ 0x30 is 0x2000 ∷ [])
           ∷ receiving
           ∷ came (3 ∷ 2 ∷ 0 ∷ 0 ∷ 0 ∷ 0 ∷ counting 1 54) good []
-          ∷ turned (0x60 is descriptor ∷ [])
+          ∷ turned (0x60 is 0 ∷ [])
           ∷ [];
     }
 
--- sixteen addresses: the last of them is listed
-sixteenth : Case
-sixteenth =
+-- thirty addresses: the last of them counts as the first does
+thirtieth : Case
+thirtieth =
     record {
-      given = 0x42 is 0x8003 ∷ 0x46 is 96 ∷ 0xA2 is 0x0203 ∷ board;
-      steps = configured ++ (receiving ∷ came (3 ∷ 2 ∷ 0 ∷ 0 ∷ 0 ∷ 0 ∷ counting 1 54) good [] ∷ turned (0x60 is 0x4000 ∷ []) ∷ []);
+      given = 0x42 is 0x8003 ∷ 0x46 is 180 ∷ 0xF6 is 0x0203 ∷ board;
+      steps =
+          configured
+          ++ (receiving
+          ∷ came (3 ∷ 3 ∷ 0 ∷ 0 ∷ 0 ∷ 0 ∷ counting 1 54) good []
+          ∷ turned (0x60 is 0 ∷ [])
+          ∷ came (3 ∷ 2 ∷ 0 ∷ 0 ∷ 0 ∷ 0 ∷ counting 1 54) good []
+          ∷ turned (0x60 is 0x4000 ∷ [])
+          ∷ []);
     }
 
 -- ---- Transmit
@@ -724,11 +754,13 @@ calls =
 
 -- the filter, the commands, and how frames are stored
 pub works : List Case
-unfolding ownGroup listedOnes thirdByte takesMinimum takesPromiscuous rejectedKeeps listedThen sixteenth readAtBegin sourceSent alteredOutgoing alteredHolding reportOfNop tooLong endlessBuffers storedAsRead noResourcesWins freeOfOnes frameLinkOfOnes freeThenStatus counterAfterHeader shortSavedLacks
+unfolding ownGroup listedOnes bitOfOnes thirdByte takesMinimum takesPromiscuous rejectedKeeps listedThen thirtieth readAtBegin sourceSent alteredOutgoing alteredHolding reportOfNop tooLong endlessBuffers storedAsRead noResourcesWins freeOfOnes frameLinkOfOnes freeThenStatus counterAfterHeader shortSavedLacks
 works =
     ownGroup
     ∷ listedOnes 2 0
     ∷ listedOnes 3 0x4000
+    ∷ bitOfOnes 0xFFFF 0xFFFF 0xFFFF
+    ∷ bitOfOnes 0x00AB 0x0200 0x0000
     ∷ thirdByte 0x36 0xA000
     ∷ thirdByte 0x02 0x8000
     ∷ thirdByte 0x04 0x8000
@@ -743,10 +775,12 @@ works =
     ∷ takesPromiscuous 0x09 0x4000
     ∷ takesPromiscuous 0x00 0
     ∷ rejectedKeeps
-    ∷ listedThen 102 0x8000 0x4000
-    ∷ listedThen 5 0xA000 0
-    ∷ listedThen 0xC000 0xA000 0
-    ∷ sixteenth
+    ∷ listedThen 102
+    ∷ listedThen 6
+    ∷ listedThen 5
+    ∷ listedThen 0
+    ∷ listedThen 0xC000
+    ∷ thirtieth
     ∷ readAtBegin
     ∷ sourceSent
     ∷ alteredOutgoing

@@ -1,53 +1,90 @@
--- How `agree` and `isListed` grow by one, and what one difference or one agreement decides. No contract cites this file. Assumes nothing.
-use mathlib.Core.Path.{_≡_, refl}
-use mathlib.Core.Bool.{Bool, true, false, _&&_, _||_}
+-- What a filter's bits are once one of them is set, how large a filter is, and what passes. No contract cites this file. Assumes nothing.
+use mathlib.Core.Path.{_≡_, refl, sym, ap, ap₂, _∙_}
+use mathlib.Core.Bool.{Bool, true, false, not, _&&_, _||_}
 use mathlib.Core.List.{List}
 use mathlib.Core.Logic.{⊎-elim}
-use Prim.Native.Nat.{ℕ, zero, suc, _+_, _*_, _<_}
-use native.Mathlib.Nat.{not-suc-le-zero, eq-or-lt-of-le, le-of-suc-le-suc}
-use native.Mathlib.Numerals.{add-one}
-use lib.ListN.{getD}
-use lib.Dec.{eqb}
-use borrow.Author.Tests.{eq-eqb, ne-eqb}
-use Rattle.filter.specs.Match.{agree, isListed}
+use Prim.Native.Nat.{ℕ, zero, suc, _+_, _*_, _/_, _%_, _<_, _^_, max}
+use native.Mathlib.Nat.{not-suc-le-zero, le-of-suc-le-suc, mod-lt, pow-suc, mul-div-cancel, mul-mod-left, zero-div, div-one, zero-lt-suc}
+use native.Mathlib.Omega.{arith}
+use lib.Arith.{digits-mod}
+use lib.Bits.{bitOr, or-lt, or-step, or-shr}
+use lib.Pow.{pow-lt, shr-shr}
+use lib.Dec.{eqb, eqb·zero-suc, eqb·suc-zero, eqb·suc-suc}
+use Rattle.scb.specs.Words.{bitsAt, bit}
+use Rattle.device.specs.Limits.{filterBits}
+use Rattle.device.specs.declared.Settings.{Settings}
+use Rattle.filter.specs.Match.{withBit, allOnes, isOwn, isGroup, isFiltered, matches}
 
-false-and : (a b : Bool) → a ≡ false → (a && b) ≡ false
-false-and a b e = rw e
+-- a filter stays one
+pub with-bit-wide : (filter k : ℕ) → filter < 2 ^ filterBits → k < filterBits → withBit filter k < 2 ^ filterBits
+with-bit-wide filter k f h = or-lt filterBits filter (2 ^ k) f (pow-lt h)
 
-and-false : (a b : Bool) → b ≡ false → (a && b) ≡ false
-and-false true b e = e
-and-false false b e = refl
+-- ---- bits
 
-or-true : (a b : Bool) → b ≡ true → (a || b) ≡ true
-or-true true b e = refl
-or-true false b e = e
+-- one digit of two
+either : (a b : ℕ) → a < 2 → b < 2 → eqb (max a b) 1 ≡ (eqb a 1 || eqb b 1)
+either zero zero p q = refl
+either zero (suc zero) p q = refl
+either zero (suc (suc b)) p q = absurd (not-suc-le-zero (le-of-suc-le-suc (le-of-suc-le-suc q)))
+either (suc zero) zero p q = refl
+either (suc zero) (suc zero) p q = refl
+either (suc zero) (suc (suc b)) p q = absurd (not-suc-le-zero (le-of-suc-le-suc (le-of-suc-le-suc q)))
+either (suc (suc a)) b p q = absurd (not-suc-le-zero (le-of-suc-le-suc (le-of-suc-le-suc p)))
 
--- one more byte is the same
-pub agree-more : (a : List ℕ) (i : ℕ) (f : List ℕ) (k : ℕ) → agree a i f k ≡ true → getD a (i + k) 0 ≡ getD f k 0 → agree a i f (k + 1) ≡ true
-unfolding agree
-agree-more a i f k h e = rw (add-one, h) (eq-eqb (getD a (i + k) 0) (getD f k 0) e)
+max-below : (a b : ℕ) → a < 2 → b < 2 → max a b < 2
+max-below a b p q = omega arith
 
--- one byte that differs is enough
-pub differs : (a : List ℕ) (i : ℕ) (f : List ℕ) (k n : ℕ) → k < n → (getD a (i + k) 0 ≡ getD f k 0 → ⊥) → agree a i f n ≡ false
-unfolding agree
-differs a i f k zero h d = absurd (not-suc-le-zero h)
-differs a i f k (suc n) h d =
-    ⊎-elim
-    (λ (e : k ≡ n). and-false (agree a i f n) (eqb (getD a (i + n) 0) (getD f n 0)) (rw (← e) (ne-eqb (getD a (i + k) 0) (getD f k 0) d)))
-    (λ (g : k < n). false-and (agree a i f n) (eqb (getD a (i + n) 0) (getD f n 0)) (differs a i f k n g d))
-    (eq-or-lt-of-le (le-of-suc-le-suc h))
+or-digit : (x y : ℕ) → eqb (bitOr x y % 2) 1 ≡ (eqb (x % 2) 1 || eqb (y % 2) 1)
+or-digit x y =
+    let e : bitOr x y % 2 ≡ max (x % 2) (y % 2) = ap (λ (n : ℕ). n % 2) (or-step x y) ∙ digits-mod (bitOr (x / 2) (y / 2)) (max-below (x % 2) (y % 2) (mod-lt x (omega arith)) (mod-lt y (omega arith))) in
+    rw e (either (x % 2) (y % 2) (mod-lt x (omega arith)) (mod-lt y (omega arith)))
 
--- one more listed address is another
-pub none-more : (l f : List ℕ) (n : ℕ) → agree l (n * 6) f 6 ≡ false → isListed l f n ≡ false → isListed l f (n + 1) ≡ false
-unfolding isListed
-none-more l f n a e = rw (add-one, e) a
+-- a bit but the lowest is one of the half
+half-bit : (n i : ℕ) → bit n (suc i) ≡ bit (n / 2) i
+unfolding bitsAt
+half-bit n i = let e : n / 2 / 2 ^ i ≡ n / 2 ^ (1 + i) = shr-shr n 1 i in let z : 1 + i ≡ suc i = omega arith in rw (← z, ← e)
 
--- one listed address that agrees is enough
-pub some : (l f : List ℕ) (n c : ℕ) → n < c → agree l (n * 6) f 6 ≡ true → isListed l f c ≡ true
-unfolding isListed
-some l f n zero h a = absurd (not-suc-le-zero h)
-some l f n (suc c) h a =
-    ⊎-elim
-    (λ (e : n ≡ c). or-true (isListed l f c) (agree l (c * 6) f 6) (rw (← e) a))
-    (λ (g : n < c). rw (some l f n c g a))
-    (eq-or-lt-of-le (le-of-suc-le-suc h))
+-- the power of a number has its bit alone
+power-bit : (k i : ℕ) → bit (2 ^ k) i ≡ eqb i k
+unfolding bitsAt
+power-bit zero zero = refl
+power-bit zero (suc i) = half-bit 1 i ∙ rw (zero-div (2 ^ i), eqb·suc-zero i)
+power-bit (suc k) zero = rw (div-one (2 ^ suc k), pow-suc 2 k, mul-mod-left (2 ^ k) 2, eqb·zero-suc k)
+power-bit (suc k) (suc i) = half-bit (2 ^ suc k) i ∙ rw (pow-suc 2 k, mul-div-cancel (2 ^ k) (zero-lt-suc 1), eqb·suc-suc i k) (power-bit k i)
+
+-- a bit is set if it was, or if it is the one
+pub with-bit : (filter k i : ℕ) → bit (withBit filter k) i ≡ (bit filter i || eqb i k)
+unfolding bitsAt
+with-bit filter k i = rw (or-shr filter (2 ^ k) i, or-digit (filter / 2 ^ i) (2 ^ k / 2 ^ i)) (ap (λ (b : Bool). bit filter i || b) (power-bit k i))
+
+-- no bit of an empty filter is set
+pub none-set : (i : ℕ) → bit 0 i ≡ false
+unfolding bitsAt
+none-set i = rw (zero-div (2 ^ i))
+
+-- ---- what passes
+
+pub or-right : (a b : Bool) → b ≡ true → (a || b) ≡ true
+or-right true b e = refl
+or-right false b e = e
+
+module _ (s : Settings) (own : List ℕ) (filter : ℕ) (f : List ℕ) where
+  pub by-promiscuous : s .promiscuous ≡ true → matches s own filter f ≡ true
+  unfolding matches
+  by-promiscuous p = rw p
+
+  pub by-broadcast : s .promiscuous ≡ false → allOnes f ≡ true → matches s own filter f ≡ not (s .nobroadcast)
+  unfolding matches
+  by-broadcast p o = rw (p, o)
+
+  pub by-own-address : allOnes f ≡ false → isOwn own f ≡ true → matches s own filter f ≡ true
+  unfolding matches
+  by-own-address o w = or-right (s .promiscuous) _ (rw (o, w))
+
+  pub by-a-set-bit : allOnes f ≡ false → isGroup f ≡ true → isFiltered filter f ≡ true → matches s own filter f ≡ true
+  unfolding matches
+  by-a-set-bit o g b = or-right (s .promiscuous) _ (rw o (or-right (isOwn own f) (isGroup f && isFiltered filter f) (rw (g, b))))
+
+  pub by-the-filter : s .promiscuous ≡ false → allOnes f ≡ false → isOwn own f ≡ false → matches s own filter f ≡ (isGroup f && isFiltered filter f)
+  unfolding matches
+  by-the-filter p o w = rw (p, o, w)

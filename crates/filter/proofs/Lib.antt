@@ -1,3 +1,3 @@
--- What loops over an address and over the listed addresses rest on, and what Match says, clause by clause.
+-- What a filter's bits are, and what Match says, clause by clause.
 pub mod Laws
 pub mod Shown

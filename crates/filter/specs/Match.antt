@@ -1,11 +1,14 @@
--- Match: 01, "Arrival and storing". A frame begins with its destination. Assumes nothing.
+-- Match: 01, "Arrival and storing", as 02, Wish 1, mends it: the 64-bit filter stands where the listed addresses did. A frame begins with its
+-- destination. Assumes nothing.
 use mathlib.Core.Bool.{Bool, true, false, not, _&&_, _||_}
 use mathlib.Core.List.{List}
-use Prim.Native.Nat.{ℕ, zero, suc, _+_, _*_}
+use Prim.Native.Nat.{ℕ, zero, suc, _+_, _^_}
+use lib.Bits.{bitOr}
 use lib.Dec.{eqb}
-use lib.ListN.{getD, replicate}
+use lib.ListN.{getD, take, replicate}
 use Rattle.scb.specs.Words.{bit}
-use Rattle.device.specs.Limits.{addressLength, mostListed}
+use Rattle.hash.specs.Hash.{hash}
+use Rattle.device.specs.Limits.{addressLength}
 use Rattle.device.specs.declared.Settings.{Settings}
 
 -- the first k bytes of the frame f are the k bytes from index i on of a
@@ -20,21 +23,25 @@ allOnes f = agree (replicate addressLength 255) 0 f addressLength
 abbrev pub isOwn : List ℕ → List ℕ → Bool
 isOwn own f = agree own 0 f addressLength
 
--- it is one of the first n listed addresses
-unfoldable pub isListed : List ℕ → List ℕ → ℕ → Bool
-isListed listed f zero = false
-isListed listed f (suc n) = isListed listed f n || agree listed (n * addressLength) f addressLength
+-- a filter with its bit k set
+abbrev pub withBit : ℕ → ℕ → ℕ
+withBit filter k = bitOr filter (2 ^ k)
+
+-- the bit of the destination's hash is set in the filter
+abbrev pub isFiltered : ℕ → List ℕ → Bool
+isFiltered filter f = bit filter (hash (take addressLength f))
 
 -- the low bit of the first byte is set
 abbrev pub isGroup : List ℕ → Bool
 isGroup f = bit (getD f 0 0) 0
 
--- all FFh: with broadcast enabled. Not all FFh: own address or, with the low bit of the first byte set, a listed address
-abbrev pub addressed : (ones enabled own group listed : Bool) → Bool
-addressed true enabled own group listed = enabled
-addressed false enabled own group listed = own || (group && listed)
+-- all FFh: with broadcast enabled. Not all FFh: own address or, with the low bit of the first byte set, a set bit (02, Wish 1: "a multicast
+-- frame passes when its bit is set, listed or not")
+abbrev pub addressed : (ones enabled own group filtered : Bool) → Bool
+addressed true enabled own group filtered = enabled
+addressed false enabled own group filtered = own || (group && filtered)
 
 -- promiscuous; or so addressed
-unfoldable pub matches : Settings → List ℕ → List ℕ → List ℕ → Bool
-matches s own listed f =
-    s .promiscuous || addressed (allOnes f) (not (s .nobroadcast)) (isOwn own f) (isGroup f) (isListed listed f mostListed)
+unfoldable pub matches : Settings → List ℕ → ℕ → List ℕ → Bool
+matches s own filter f =
+    s .promiscuous || addressed (allOnes f) (not (s .nobroadcast)) (isOwn own f) (isGroup f) (isFiltered filter f)

@@ -18,7 +18,7 @@ use Rattle.device.specs.Numbers.{verdictOf}
 use Rattle.device.specs.State.{heldIn}
 use Rattle.device.specs.declared.Device.{Device}
 use Rattle.device.specs.declared.Fate.the-variants as fate
-use Rattle.filter.specs.Match.{agree, isListed, matches}
+use Rattle.filter.specs.Match.{agree, matches}
 use Rattle.phases.specs.Phases.{cuWord, ruWord}
 use Rattle.image.specs.Image.{imageOf}
 use Rattle.image.specs.Ranges.{inRange, Wide}
@@ -168,9 +168,8 @@ first-wide =
       cu = record { at = lit≤ tt; kind = lit≤ tt; size = lit≤ tt; next = lit≤ tt };
       ru = record { at = lit≤ tt; kind = lit≤ tt; size = lit≤ tt; next = lit≤ tt };
       own = refl;
-      listed = refl;
       own-bytes = fresh-wide .own-bytes;
-      listed-bytes = fresh-wide .listed-bytes;
+      filter = fresh-wide .filter;
     }
 
 pub first-holds : Holds (lentOf first .kept) first
@@ -240,7 +239,7 @@ abbrev howMany : Device → ℕ
 howMany d = length (heldIn (d .units .ru))
 
 holds-one : howMany (next comes first) ≡ 1
-unfolding matches agree isListed lengthOf judged fateOf arrival arrivals.arrival arrivals.arrivalOf verdictOf counts
+unfolding matches agree lengthOf judged fateOf arrival arrivals.arrival arrivals.arrivalOf verdictOf counts
 holds-one = refl
 
 another : imageOf first ≡ imageOf (next comes first) → ⊥
@@ -282,7 +281,7 @@ storyOf ds w =
 
 deeds-story : (r : inRange first ≡ true) → storyOf (deeds r) (worldIn first (lentOf first))
     ≡ record { held = 1 ∷ 2 ∷ []; ends = (1, by-altering) ∷ (2, by-call fate.Stored) ∷ []; still = [] }
-unfolding byteAt putByte bytesAt putBytes value digits fieldAt place beyond bitsAt joined anyOf eventBits statusWord counts verdictOf agree isListed matches lengthOf judged fateOf arrival receive-begin.begunBy receive-begin.begin frameStatus settles close receive-service.service statusTo arrivals.arrival arrivals.arrivalOf concluded receiveTurn turnOf
+unfolding byteAt putByte bytesAt putBytes value digits fieldAt place beyond bitsAt joined anyOf eventBits statusWord counts verdictOf agree matches lengthOf judged fateOf arrival receive-begin.begunBy receive-begin.begin frameStatus settles close receive-service.service statusTo arrivals.arrival arrivals.arrivalOf concluded receiveTurn turnOf
 deeds-story r = refl
 
 abbrev pub story : Story

@@ -108,9 +108,8 @@ ready-wide =
       cu = record { at = lit≤ tt; kind = lit≤ tt; size = lit≤ tt; next = lit≤ tt };
       ru = record { at = lit≤ tt; kind = lit≤ tt; size = lit≤ tt; next = lit≤ tt };
       own = refl;
-      listed = refl;
       own-bytes = fresh-wide .own-bytes;
-      listed-bytes = fresh-wide .listed-bytes;
+      filter = fresh-wide .filter;
     }
 
 lent-fits : (third : ℕ) → Right (lent third) ready

@@ -26,7 +26,7 @@ use Rattle.device.specs.declared.Ru.{Ru}
 use Rattle.device.specs.declared.Ru.the-variants as ru
 use Rattle.device.specs.declared.Storing.{Storing}
 use Rattle.device.specs.declared.Verdict.the-variants as verdict
-use Rattle.filter.specs.Match.{agree, isListed, matches}
+use Rattle.filter.specs.Match.{agree, matches}
 use Rattle.image.specs.Ranges.{inRange, unitsFit, cuFits, ruFits, frameFits, initialisedOrFresh}
 use Rattle.receive.specs.Arrival.{lengthOf, judged, fateOf, arrival}
 use Rattle.receive.specs.Begin as receive-begin
@@ -64,7 +64,7 @@ ready =
             ru = ru.Ready (record { 0 = 0x60 });
           };
       own = fresh .own;
-      listed = fresh .listed;
+      filter = fresh .filter;
     }
 
 -- so many bytes, each another
@@ -119,12 +119,12 @@ pub record Seen (third : ℕ) (trace : List Event) (got : ℕ) : Type 0 where
 
 -- begin and three buffers: all 46
 pub enough : Seen 0xA0 (call (turn 0) ∷ call (turn 0) ∷ call (turn 0) ∷ call (turn 0) ∷ []) 46
-unfolding byteAt putByte bytesAt putBytes value digits fieldAt place beyond bitsAt joined anyOf eventBits statusWord counts verdictOf agree isListed matches lengthOf judged fateOf arrival receive-begin.begunBy receive-begin.begin receive-buffer.descriptorAt receive-buffer.buffer frameStatus settles close lack receive-service.service statusTo arrivals.arrival arrivals.arrivalOf concluded receiveTurn turnOf
+unfolding byteAt putByte bytesAt putBytes value digits fieldAt place beyond bitsAt joined anyOf eventBits statusWord counts verdictOf agree matches lengthOf judged fateOf arrival receive-begin.begunBy receive-begin.begin receive-buffer.descriptorAt receive-buffer.buffer frameStatus settles close lack receive-service.service statusTo arrivals.arrival arrivals.arrivalOf concluded receiveTurn turnOf
 enough = record { fate = refl; unit = refl; may = ((refl, refl), ((refl, refl), ((refl, refl), ((refl, refl), tt)))); ends = refl; bytes = refl }
 
 -- begin and two buffers: 40 of them
 pub too-few : Seen 0xFFFF (call (turn 0) ∷ call (turn 0) ∷ call (turn 0) ∷ []) 40
-unfolding byteAt putByte bytesAt putBytes value digits fieldAt place beyond bitsAt joined anyOf eventBits statusWord counts verdictOf agree isListed matches lengthOf judged fateOf arrival receive-begin.begunBy receive-begin.begin receive-buffer.descriptorAt receive-buffer.buffer frameStatus settles close lack receive-service.service statusTo arrivals.arrival arrivals.arrivalOf concluded receiveTurn turnOf
+unfolding byteAt putByte bytesAt putBytes value digits fieldAt place beyond bitsAt joined anyOf eventBits statusWord counts verdictOf agree matches lengthOf judged fateOf arrival receive-begin.begunBy receive-begin.begin receive-buffer.descriptorAt receive-buffer.buffer frameStatus settles close lack receive-service.service statusTo arrivals.arrival arrivals.arrivalOf concluded receiveTurn turnOf
 too-few = record { fate = refl; unit = refl; may = ((refl, refl), ((refl, refl), ((refl, refl), tt))); ends = refl; bytes = refl }
 
 -- so both are delivered as said
@@ -164,11 +164,11 @@ record Computed (w : World) (unit : Ru) : Type 0 where
   link : linkNow w storing .0 ≡ 0
 
 closing : Computed (atEnd 0xA0 4) (ru.Closing storing none false)
-unfolding byteAt putByte bytesAt putBytes value digits fieldAt place beyond bitsAt joined anyOf eventBits statusWord counts verdictOf agree isListed matches lengthOf judged fateOf arrival receive-begin.begunBy receive-begin.begin receive-buffer.descriptorAt receive-buffer.buffer frameStatus settles close lack receive-service.service statusTo arrivals.arrival arrivals.arrivalOf concluded receiveTurn turnOf inRange unitsFit cuFits ruFits frameFits initialisedOrFresh
+unfolding byteAt putByte bytesAt putBytes value digits fieldAt place beyond bitsAt joined anyOf eventBits statusWord counts verdictOf agree matches lengthOf judged fateOf arrival receive-begin.begunBy receive-begin.begin receive-buffer.descriptorAt receive-buffer.buffer frameStatus settles close lack receive-service.service statusTo arrivals.arrival arrivals.arrivalOf concluded receiveTurn turnOf inRange unitsFit cuFits ruFits frameFits initialisedOrFresh
 closing = record { now = refl; ends = refl; held = refl; range = refl; size = refl; area = refl; scb = refl; link = refl }
 
 lacking : Computed (atEnd 0xFFFF 3) (ru.Lacking storing)
-unfolding byteAt putByte bytesAt putBytes value digits fieldAt place beyond bitsAt joined anyOf eventBits statusWord counts verdictOf agree isListed matches lengthOf judged fateOf arrival receive-begin.begunBy receive-begin.begin receive-buffer.descriptorAt receive-buffer.buffer frameStatus settles close lack receive-service.service statusTo arrivals.arrival arrivals.arrivalOf concluded receiveTurn turnOf inRange unitsFit cuFits ruFits frameFits initialisedOrFresh
+unfolding byteAt putByte bytesAt putBytes value digits fieldAt place beyond bitsAt joined anyOf eventBits statusWord counts verdictOf agree matches lengthOf judged fateOf arrival receive-begin.begunBy receive-begin.begin receive-buffer.descriptorAt receive-buffer.buffer frameStatus settles close lack receive-service.service statusTo arrivals.arrival arrivals.arrivalOf concluded receiveTurn turnOf inRange unitsFit cuFits ruFits frameFits initialisedOrFresh
 lacking = record { now = refl; ends = refl; held = refl; range = refl; size = refl; area = refl; scb = refl; link = refl }
 
 is-clear : (w : World) (u : Ru) → Computed w u → Clear w storing

@@ -97,7 +97,7 @@ unfolding Balanced Joins chip.arrivalOf chip.arrival arrivals.arrival arrivals.f
 balance-arrival f v s =
     let w = s .world in
     let few = ltb (length f) header in
-    let m = matches (settingsOf w) (w .device .own) (w .device .listed) f in
+    let m = matches (settingsOf w) (w .device .own) (w .device .filter) f in
     let j = arrivals.judged (settingsOf w) f v in
     let x = arrivals.fateBy few m (unitOf w) j in
     subst (λ (b : Bool). Joins (chosen b x []) (isHeld x) (s .next) (s .held) (unitOf w) j) (sym (arrival-new few m (unitOf w) j))
@@ -171,7 +171,7 @@ arrival-fates : (w : World) (f : List ℕ) (v : ℕ) → heldFates (chip.arrival
 unfolding chip.arrivalOf chip.arrival arrivals.arrival arrivals.fateOf
 arrival-fates w f v =
     let few = ltb (length f) header in
-    let m = matches (settingsOf w) (w .device .own) (w .device .listed) f in
+    let m = matches (settingsOf w) (w .device .own) (w .device .filter) f in
     let j = arrivals.judged (settingsOf w) f v in
     ap (λ (b : Bool). chosen b (arrivals.fateBy few m (unitOf w) j) []) (arrival-new few m (unitOf w) j)
 
@@ -369,7 +369,7 @@ arrival-begins : (f : List ℕ) (v : ℕ) (s : Scene) → Begins (event (call (a
 unfolding chip.arrivalOf chip.arrival arrivals.arrival
 arrival-begins f v s =
     let w = s .world in
-    begins-if (isHeld (arrivals.fateOf (settingsOf w) (matches (settingsOf w) (w .device .own) (w .device .listed) f) (unitOf w) f v)) f v s refl
+    begins-if (isHeld (arrivals.fateOf (settingsOf w) (matches (settingsOf w) (w .device .own) (w .device .filter) f) (unitOf w) f v)) f v s refl
 
 nothing : (d : Deed) (s : Scene) → begun d s ≡ [] → Begins d s
 nothing d s e = record { frames = []; begins = e; most = omega arith }

@@ -25,7 +25,7 @@ use Rattle.device.specs.declared.Ru.the-variants as ru
 use Rattle.device.specs.declared.Storing.{Storing}
 use Rattle.device.specs.declared.Units.{Units}
 use Rattle.device.specs.declared.Walk.{Walk}
-use Rattle.image.specs.Ranges.{inRange, sized, hasNext, cuFits, initialisedOrFresh, unitsFresh, unitsIdle, settingsFresh, addressesFresh, unitsFit, ruFits, frameFits}
+use Rattle.image.specs.Ranges.{inRange, sized, hasNext, cuFits, initialisedOrFresh, unitsFresh, unitsIdle, settingsFresh, addressingFresh, unitsFit, ruFits, frameFits}
 use Rattle.phases.proofs.Units.{both as parts}
 use Rattle.receive.specs.Arrival as arrivals
 use Rattle.receive.specs.Part as receive
@@ -94,8 +94,8 @@ fresh-idle u h i =
 pub held-initialised : (d : Device) → inRange d ≡ true → isHolding (d .units .ru) ≡ true → d .units .initialised ≡ true
 unfolding inRange initialisedOrFresh
 held-initialised d r h =
-    or-left (d .units .initialised) (unitsFresh (d .units) && addressesFresh d) (parts (unitsFit (d .units)) (initialisedOrFresh d) r .1)
-    (λ i. fresh-idle (d .units) h (parts (unitsFresh (d .units)) (addressesFresh d) i .0))
+    or-left (d .units .initialised) (unitsFresh (d .units) && addressingFresh d) (parts (unitsFit (d .units)) (initialisedOrFresh d) r .1)
+    (λ i. fresh-idle (d .units) h (parts (unitsFresh (d .units)) (addressingFresh d) i .0))
 
 -- a bad frame is held only to be saved
 frame-saved : (f : Frame) → frameFits f ≡ true → (isGood f || f .savebad) ≡ true
@@ -162,7 +162,7 @@ at-arrival : (w : World) (f : Frame) (bs : List ℕ) (v : ℕ) → heldIn (unitO
 unfolding chip.arrivalOf chip.arrival arrivals.arrival arrivals.fateOf
 at-arrival w f bs v h =
     let few = ltb (length bs) header in
-    let matched = matches (settingsOf w) (w .device .own) (w .device .listed) bs in
+    let matched = matches (settingsOf w) (w .device .own) (w .device .filter) bs in
     let j = arrivals.judged (settingsOf w) bs v in
     let k = arrival-fate few matched (unitOf w) j f h in
     record { unit = rw (k .0) h; holding = rw (k .0); fates = ap (λ (b : Bool). chosen b (arrivals.fateBy few matched (unitOf w) j) []) (k .1) }
@@ -173,7 +173,7 @@ arrival-untouched : (w : World) (f : Frame) (bs : List ℕ) (v : ℕ) → heldIn
 unfolding chip.arrivalOf chip.arrival arrivals.arrival arrivals.fateOf
 arrival-untouched w f bs v h =
     let few = ltb (length bs) header in
-    let matched = matches (settingsOf w) (w .device .own) (w .device .listed) bs in
+    let matched = matches (settingsOf w) (w .device .own) (w .device .filter) bs in
     rw (arrival-fate few matched (unitOf w) (arrivals.judged (settingsOf w) bs v) f h .0)
 
 -- ---- an attention

@@ -1,4 +1,4 @@
--- Demand 2 of frames. At an arrival: `Arrival.arrival-fate`, and a theorem for each class of frames. At every call while a frame is held:
+-- Demand 2 of frames. Which are addressed to us: `Filtered`, `FilterWitness`. At an arrival: `Arrival.arrival-fate`, and a theorem for each class of frames. At every call while a frame is held:
 -- `Held.good-held`, `Held.bad-held`; as facts about memory at exit `Stands.good-exit`, `Stands.bad-exit`, and when their premise is met, `Clear`.
 -- What the buffers get, put together: `Data.delivered`, `Data.arrived`, on bytes `Data.delivered-on-bytes`, `Data.arrived-on-bytes`;
 -- `DataWitness`, `DataBytesWitness`.
@@ -8,11 +8,13 @@
 pub mod Arrival
 pub mod End
 pub mod Held
+pub mod Filtered
 pub mod Sound
 pub mod Stands
 pub mod Clear
 pub mod Data
 pub mod DataWitness
+pub mod FilterWitness
 pub mod Fates
 pub mod Arrived
 pub mod OnBytes

@@ -22,7 +22,7 @@ use Rattle.device.specs.declared.Frame.{Frame}
 use Rattle.device.specs.declared.Ru.{Ru}
 use Rattle.device.specs.declared.Ru.the-variants as ru
 use Rattle.device.specs.declared.Units.{Units}
-use Rattle.image.specs.Ranges.{inRange, initialisedOrFresh, unitsFresh, unitsIdle, settingsFresh, addressesFresh, unitsFit}
+use Rattle.image.specs.Ranges.{inRange, initialisedOrFresh, unitsFresh, unitsIdle, settingsFresh, addressingFresh, unitsFit}
 use Rattle.phases.proofs.Units.{both as parts}
 use Rattle.receive.specs.Arrival as arrivals
 use Rattle.control.specs.Control.{ruBy, lostBy}
@@ -116,9 +116,9 @@ unfolding inRange initialisedOrFresh
 in-range-sound d r =
     record {
       started =
-          or-by (d .units .initialised) (unitsFresh (d .units) && addressesFresh d) (idle (d .units .ru))
+          or-by (d .units .initialised) (unitsFresh (d .units) && addressingFresh d) (idle (d .units .ru))
           (parts (unitsFit (d .units)) (initialisedOrFresh d) r .1)
-          (λ k. fresh-idle (d .units) (parts (unitsFresh (d .units)) (addressesFresh d) k .0));
+          (λ k. fresh-idle (d .units) (parts (unitsFresh (d .units)) (addressingFresh d) k .0));
       saved = range-saved d r (held-or-none (d .units .ru));
     }
 
@@ -363,7 +363,7 @@ arrival-sound : (w : World) (f : List ℕ) (v : ℕ) → Sound (w .device) → S
 unfolding chip.arrivalOf chip.arrival arrivals.arrival arrivals.fateOf arrived
 arrival-sound w f v s =
     let few = ltb (length f) header in
-    let m = matches (settingsOf w) (w .device .own) (w .device .listed) f in
+    let m = matches (settingsOf w) (w .device .own) (w .device .filter) f in
     let j = arrivals.judged (settingsOf w) f v in
     record {
       started =

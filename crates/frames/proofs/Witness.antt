@@ -18,7 +18,7 @@ use Rattle.device.specs.declared.Fate.the-variants as fate
 use Rattle.device.specs.declared.Frame.{Frame}
 use Rattle.device.specs.declared.Ru.{Ru}
 use Rattle.device.specs.declared.Ru.the-variants as ru
-use Rattle.filter.specs.Match.{agree, isListed, matches}
+use Rattle.filter.specs.Match.{agree, matches}
 use Rattle.image.specs.Ranges.{inRange, unitsFit, cuFits, ruFits, initialisedOrFresh}
 use Rattle.receive.specs.Arrival.{lengthOf, judged, fateOf, arrival}
 use Rattle.receive.specs.Begin as receive-begin
@@ -54,7 +54,7 @@ deviceWith unit savebad =
             ru = unit;
           };
       own = fresh .own;
-      listed = fresh .listed;
+      filter = fresh .filter;
     }
 
 abbrev pub ready : Bool → Device
@@ -108,7 +108,7 @@ pub start : World
 start = worldOf (ready false) zeros zeros zeros
 
 pub story : Story
-unfolding start byteAt putByte bytesAt putBytes value digits fieldAt place beyond codeOf bitsAt joined acknowledged anyOf eventBits statusWord counts actionOf verdictOf agree isListed matches lengthOf judged fateOf arrival receive-begin.begunBy receive-begin.begin receive-buffer.descriptorAt receive-buffer.buffer frameStatus settles close lack receive-service.service statusTo resetOf attentions.iscpOf attentions.initialise obeyCuc obeyRuc attentions.attendBy attentions.attend attentions.attention attentionOf arrivals.arrival arrivals.arrivalOf concluded commandTurn receiveTurn turnOf
+unfolding start byteAt putByte bytesAt putBytes value digits fieldAt place beyond codeOf bitsAt joined acknowledged anyOf eventBits statusWord counts actionOf verdictOf agree matches lengthOf judged fateOf arrival receive-begin.begunBy receive-begin.begin receive-buffer.descriptorAt receive-buffer.buffer frameStatus settles close lack receive-service.service statusTo resetOf attentions.iscpOf attentions.initialise obeyCuc obeyRuc attentions.attendBy attentions.attend attentions.attention attentionOf arrivals.arrival arrivals.arrivalOf concluded commandTurn receiveTurn turnOf
 story =
     record {
       held = numbersOf (beginnings trace (opening start));

@@ -42,9 +42,9 @@ settingsOf w = w .device .units .settings
 abbrev pub unitOf : World → Ru
 unitOf w = w .device .units .ru
 
--- it matches
+-- 02, Wish 1: 'demand 2's "addressed to us" now means passed by this filter': it matches
 abbrev pub isOurs : World → List ℕ → Bool
-isOurs w f = matches (settingsOf w) (w .device .own) (w .device .listed) f
+isOurs w f = matches (settingsOf w) (w .device .own) (w .device .filter) f
 
 -- addressed to us, of 14 bytes or more
 pub record Ours (w : World) (f : List ℕ) : Type 0 where

@@ -124,9 +124,8 @@ device-wide =
       cu = record { at = lit≤ tt; kind = lit≤ tt; size = lit≤ tt; next = lit≤ tt };
       ru = record { at = lit≤ tt; kind = lit≤ tt; size = lit≤ tt; next = lit≤ tt };
       own = refl;
-      listed = refl;
       own-bytes = fresh-wide .own-bytes;
-      listed-bytes = fresh-wide .listed-bytes;
+      filter = fresh-wide .filter;
     }
 
 -- ---- the calls on these areas are turns of these states
@@ -161,7 +160,7 @@ lengths m h d r w =
       memory = r .size;
       holding = r .long;
       outgoing = length-replicate outgoingSize (getD h 0 0);
-      kept = length-image d (w .own) (w .listed);
+      kept = length-image d (w .own);
       frame = lit≤ tt;
     }
 

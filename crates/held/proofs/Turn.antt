@@ -107,7 +107,7 @@ arrival-unit w f v h =
     let u = w .device .units in
     let g = arrivals.judged (u .settings) f v in
     let few = ltb (length f) header in
-    let matched = matches (u .settings) (w .device .own) (w .device .listed) f in
+    let matched = matches (u .settings) (w .device .own) (w .device .filter) f in
     unit-stays (isHeld (arrivals.fateBy few matched (u .ru) g)) (u .ru) g (not-held few matched (u .ru) g h)
 
 pub arrival-last : (w : World) (f : List ℕ) (v : ℕ) → chip-arrival.arrivalOf w f v .outcome .device .units .rulast ≡ w .device .units .rulast

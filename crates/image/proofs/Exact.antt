@@ -12,7 +12,7 @@ use lib.ListN.{length, getD, replicate}
 use Rattle.memory.specs.Address.{isNone}
 use Rattle.memory.specs.Memory.{value, digits}
 use Rattle.memory.proofs.Bytes.{Bytes, digits-value, bytes-cons, bytes-tail, digits-bytes}
-use Rattle.memory.proofs.Fields.{value-append}
+use Rattle.memory.proofs.Fields.{value-append, length-digits}
 use Rattle.scb.specs.Words.{one, joined, noEvents, eventBits, anyOf, cuNumber, ruNumber}
 use Rattle.scb.specs.declared.Events.{Events}
 use Rattle.scb.proofs.Below.{below}
@@ -36,7 +36,7 @@ use Rattle.packed.specs.Packed.{marksBy, marksOf, statusOf, packedOf, statusIs,
 use Rattle.packed.specs.SetUp.{settingsByte, setupBytes}
 use Rattle.packed.specs.declared.Packed.{Packed}
 use Rattle.packed.proofs.Laws.{cu-tag-below, ru-tag-below, marks-below, scb-is, base-is, cu-is, ru-is, cu-of, ru-of, events-is, initialised-is, rulast-is}
-use Rattle.image.specs.Ranges.{settingsFresh, unitsIdle, addressesFresh, sized, unitsFit, cuFits, frameFits, ruFits, unitsFresh, initialisedOrFresh, inRange, Wide}
+use Rattle.image.specs.Ranges.{settingsFresh, unitsIdle, addressingFresh, sized, unitsFit, cuFits, frameFits, ruFits, unitsFresh, initialisedOrFresh, inRange, Wide}
 use Rattle.image.specs.Found as is
 use Rattle.image.specs.Image.{front, unitBytes, imageOf, packedAt, eventsOf, settingsOf, unitsBy, unitsAt, deviceFrom, deviceAt, headShaped, unitsShaped, spareZero, shaped, rangeFrom, decodeFull, decodeOf}
 use Rattle.image.proofs.Steps.{full-taken, full-out, full-other, decode-full, device-full, length-units, length-image}
@@ -147,48 +147,53 @@ module _ (d : Device) where
   unfolding imageOf unitBytes front digits field bytesFrom
   at32 = refl
 
-  -- from byte 40 on: spare, and from byte 152 on the setup
-  behind : (at n : ℕ) → bytesFrom (imageOf d) (40 + at) n ≡ bytesFrom (replicate 112 0 ++ setupBytes (setupOf d)) at n
+  -- from byte 40 on: spare, and from byte 240 on the setup
+  behind : (at n : ℕ) → bytesFrom (imageOf d) (40 + at) n ≡ bytesFrom (replicate 200 0 ++ setupBytes (setupOf d)) at n
   unfolding imageOf
-  behind at n = rw (length-units (packedOf (d .units))) at (second-of (unitBytes (packedOf (d .units))) (replicate 112 0 ++ setupBytes (setupOf d)) at n)
+  behind at n = rw (length-units (packedOf (d .units))) at (second-of (unitBytes (packedOf (d .units))) (replicate 200 0 ++ setupBytes (setupOf d)) at n)
 
-  spare-back : bytesFrom (imageOf d) 40 112 ≡ replicate 112 0
-  spare-back = behind 0 112 ∙ first-of (replicate 112 0) (setupBytes (setupOf d))
+  spare-back : bytesFrom (imageOf d) 40 200 ≡ replicate 200 0
+  spare-back = behind 0 200 ∙ first-of (replicate 200 0) (setupBytes (setupOf d))
 
-  pub set-behind : (at n : ℕ) → bytesFrom (imageOf d) (152 + at) n ≡ bytesFrom (setupBytes (setupOf d)) at n
+  pub set-behind : (at n : ℕ) → bytesFrom (imageOf d) (240 + at) n ≡ bytesFrom (setupBytes (setupOf d)) at n
   set-behind at n =
-      let e : 152 + at ≡ 40 + (112 + at) = omega arith in
-      rw e (behind (112 + at) n ∙ second-of (replicate 112 0) (setupBytes (setupOf d)) at n)
+      let e : 240 + at ≡ 40 + (200 + at) = omega arith in
+      rw e (behind (200 + at) n ∙ second-of (replicate 200 0) (setupBytes (setupOf d)) at n)
 
-  at152 : field (imageOf d) 152 1 ≡ settingsByte (d .units .settings)
+  at240 : field (imageOf d) 240 1 ≡ settingsByte (d .units .settings)
   unfolding field setupBytes
-  at152 = rw (set-behind 0 1) (field-one (setupBytes (setupOf d)) 0)
+  at240 = rw (set-behind 0 1) (field-one (setupBytes (setupOf d)) 0)
 
-  at153 : field (imageOf d) 153 1 ≡ d .units .settings .minimum
+  at241 : field (imageOf d) 241 1 ≡ d .units .settings .minimum
   unfolding field setupBytes
-  at153 = rw (set-behind 1 1) (field-one (setupBytes (setupOf d)) 1)
+  at241 = rw (set-behind 1 1) (field-one (setupBytes (setupOf d)) 1)
 
   module _ (h : Wide d) where
-    own-back : bytesFrom (imageOf d) 154 6 ≡ d .own
+    own-back : bytesFrom (imageOf d) 242 6 ≡ d .own
     unfolding setupBytes
     own-back =
         set-behind 2 6
-        ∙ from-cons _ (d .units .settings .minimum ∷ (d .own ++ d .listed)) 1 6
-        ∙ from-cons _ (d .own ++ d .listed) 0 6
-        ∙ rw (h .own) at (first-of (d .own) (d .listed))
+        ∙ from-cons _ (d .units .settings .minimum ∷ (d .own ++ digits 8 (d .filter))) 1 6
+        ∙ from-cons _ (d .own ++ digits 8 (d .filter)) 0 6
+        ∙ rw (h .own) at (first-of (d .own) (digits 8 (d .filter)))
 
-    listed-back : bytesFrom (imageOf d) 160 96 ≡ d .listed
+    digits-back : bytesFrom (imageOf d) 248 8 ≡ digits 8 (d .filter)
     unfolding setupBytes
-    listed-back =
-        set-behind 8 96
-        ∙ from-cons _ (d .units .settings .minimum ∷ (d .own ++ d .listed)) 7 96
-        ∙ from-cons _ (d .own ++ d .listed) 6 96
-        ∙ rw (h .own) at (second-of (d .own) (d .listed) 0 96)
-        ∙ rw (h .listed) at (whole (d .listed))
+    digits-back =
+        let f = digits 8 (d .filter) in
+        set-behind 8 8
+        ∙ from-cons _ (d .units .settings .minimum ∷ (d .own ++ f)) 7 8
+        ∙ from-cons _ (d .own ++ f) 6 8
+        ∙ rw (h .own) at (second-of (d .own) f 0 8)
+        ∙ rw (length-digits 8 (d .filter)) at (whole f)
 
-    pub device-back-from : (u : Units) → deviceFrom (imageOf d) u ≡ record { units = u; own = d .own; listed = d .listed }
+    filter-back : field (imageOf d) 248 8 ≡ d .filter
+    unfolding field
+    filter-back = rw digits-back (fit 8 (d .filter) (h .filter))
+
+    pub device-back-from : (u : Units) → deviceFrom (imageOf d) u ≡ record { units = u; own = d .own; filter = d .filter }
     unfolding deviceFrom
-    device-back-from u = rw (own-back, listed-back)
+    device-back-from u = rw (own-back, filter-back)
 
 -- ---- an image is decoded to its state
 
@@ -280,7 +285,7 @@ module _ (d : Device) (h : Wide d) (e : unitsFit (d .units) ≡ true) where
 
   pub units-back : unitsAt (imageOf d) ≡ d .units
   unfolding unitsAt
-  units-back = rw (at152 d, at153 d, settings-back (d .units .settings)) (units-by (d .units) (packedAt (imageOf d)) kept-is)
+  units-back = rw (at240 d, at241 d, settings-back (d .units .settings)) (units-by (d .units) (packedAt (imageOf d)) kept-is)
 
   is5 : field (imageOf d) 5 8 ≡ statusOf (d .units)
   unfolding packedOf
@@ -296,7 +301,7 @@ module _ (d : Device) (h : Wide d) (e : unitsFit (d .units) ≡ true) where
         eq-eqb _ 0 (t .0),
         eq-eqb _ 0 (t .1),
         eq-eqb _ 0 (t .2),
-        at152 d,
+        at240 d,
         lt-ltb _ 8 (setting-below (d .units .settings)),
       )
 
@@ -333,29 +338,29 @@ module _ (d : Device) (h : Wide d) (e : inRange d ≡ true) where
   unfolding rangeFrom
   decode-image =
       let b = units-back d h fits in
-      let l : length (imageOf d) ≡ 256 = length-image d (h .own) (h .listed) in
+      let l : length (imageOf d) ≡ 256 = length-image d (h .own) in
       let k : rangeFrom (imageOf d) (unitsAt (imageOf d)) ≡ true = rw (b, device-back-from d h (d .units)) e in
       sym (decode-full (imageOf d) l) ∙ sym (full-taken (imageOf d) (shaped-true d h fits) k) ∙ rw b
 
 -- with the addresses that stand in it, it is decoded to the whole state
 pub device-back : (d : Device) → Wide d → deviceAt (imageOf d) (d .units) ≡ d
-device-back d h = sym (device-full (imageOf d) (d .units) (length-image d (h .own) (h .listed))) ∙ device-back-from d h (d .units)
+device-back d h = sym (device-full (imageOf d) (d .units) (length-image d (h .own))) ∙ device-back-from d h (d .units)
 
 -- ---- what is decoded is the image of its state
 
 -- an image and a record, in the same pieces
-flat : (k : Packed) (u : Units) (own listed : List ℕ)
-    → unitBytes k ++ (replicate 112 0 ++ setupBytes (record { settings = u .settings; own = own; listed = listed }))
+flat : (k : Packed) (u : Units) (own : List ℕ) (filter : ℕ)
+    → unitBytes k ++ (replicate 200 0 ++ setupBytes (record { settings = u .settings; own = own; filter = filter }))
     ≡ digits 5 0x0001544742
     ++ (digits 8 (k .status)
     ++ (replicate 3 0
     ++ (digits 8 (k .cu)
     ++ (digits 8 (k .ru)
     ++ (digits 8 (k .rest)
-    ++ (replicate 112 0
-    ++ (settingsByte (u .settings) ∷ (u .settings .minimum ∷ (own ++ listed)))))))))
+    ++ (replicate 200 0
+    ++ (settingsByte (u .settings) ∷ (u .settings .minimum ∷ (own ++ digits 8 filter)))))))))
 unfolding unitBytes front digits setupBytes
-flat k u own listed = refl
+flat k u own filter = refl
 
 cut : (r : List ℕ)
     → bytesFrom r 0 256
@@ -365,8 +370,8 @@ cut : (r : List ℕ)
     ++ (bytesFrom r 16 8
     ++ (bytesFrom r 24 8
     ++ (bytesFrom r 32 8
-    ++ (bytesFrom r 40 112
-    ++ (getD r 152 0 ∷ (getD r 153 0 ∷ (bytesFrom r 154 6 ++ bytesFrom r 160 96)))))))))
+    ++ (bytesFrom r 40 200
+    ++ (getD r 240 0 ∷ (getD r 241 0 ∷ (bytesFrom r 242 6 ++ bytesFrom r 248 8)))))))))
 unfolding bytesFrom
 cut r = refl
 
@@ -406,15 +411,15 @@ module _ (r : List ℕ) (e : shaped r ≡ true) where
   -- the tests of the head, one by one
   pub front-test : field r 0 8 % 1099511627776 ≡ 0x0001544742
   unfolding headShaped
-  front-test = eqb-true _ _ (both (eqb (field r 0 8 % 1099511627776) 0x0001544742) (statusIs (field r 5 8)) (both _ (ltb (field r 152 1) 8) head-is .0) .0)
+  front-test = eqb-true _ _ (both (eqb (field r 0 8 % 1099511627776) 0x0001544742) (statusIs (field r 5 8)) (both _ (ltb (field r 240 1) 8) head-is .0) .0)
 
   status-test : statusIs (field r 5 8) ≡ true
   unfolding headShaped
-  status-test = both (eqb (field r 0 8 % 1099511627776) 0x0001544742) (statusIs (field r 5 8)) (both _ (ltb (field r 152 1) 8) head-is .0) .1
+  status-test = both (eqb (field r 0 8 % 1099511627776) 0x0001544742) (statusIs (field r 5 8)) (both _ (ltb (field r 240 1) 8) head-is .0) .1
 
-  pub settings-test : field r 152 1 < 8
+  pub settings-test : field r 240 1 < 8
   unfolding headShaped
-  settings-test = ltb-true _ _ (both (eqb (field r 0 8 % 1099511627776) 0x0001544742 && statusIs (field r 5 8)) (ltb (field r 152 1) 8) head-is .1)
+  settings-test = ltb-true _ _ (both (eqb (field r 0 8 % 1099511627776) 0x0001544742 && statusIs (field r 5 8)) (ltb (field r 240 1) 8) head-is .1)
 
   pub cu-shape : cuShaped (cuTagIn (packedAt r)) (packedAt r .cu) ≡ true
   unfolding unitsShaped
@@ -469,21 +474,21 @@ module _ (r : List ℕ) (l : length r ≡ 256) (b : Bytes r) (e : shaped r ≡ t
       let q : field r 0 5 ≡ 0x0001544742 = omega (arith, front-test r e) in
       piece r b 0 5 ∙ rw q
 
-  spare-none : (bytesFrom r 13 3 ≡ replicate 3 0) × (bytesFrom r 40 112 ≡ replicate 112 0)
+  spare-none : (bytesFrom r 13 3 ≡ replicate 3 0) × (bytesFrom r 40 200 ≡ replicate 200 0)
   unfolding spareZero
   spare-none =
-      let t = both (eqb (field r 13 3) 0) (eqb (field r 40 112) 0) (spare-is r e) in
+      let t = both (eqb (field r 13 3) 0) (eqb (field r 40 200) 0) (spare-is r e) in
       let p : field r 13 3 ≡ 0 = eqb-true _ _ (t .0) in
-      let q : field r 40 112 ≡ 0 = eqb-true _ _ (t .1) in
-      (piece r b 13 3 ∙ rw p (digits-zero 3), piece r b 40 112 ∙ rw q (digits-zero 112))
+      let q : field r 40 200 ≡ 0 = eqb-true _ _ (t .1) in
+      (piece r b 13 3 ∙ rw p (digits-zero 3), piece r b 40 200 ∙ rw q (digits-zero 200))
 
-  settings-are : settingsByte (unitsAt r .settings) ≡ getD r 152 0
+  settings-are : settingsByte (unitsAt r .settings) ≡ getD r 240 0
   unfolding unitsAt unitsBy
-  settings-are = settings-same (field r 152 1) (field r 153 1) (settings-test r e) ∙ field-one r 152
+  settings-are = settings-same (field r 240 1) (field r 241 1) (settings-test r e) ∙ field-one r 240
 
-  minimum-is : unitsAt r .settings .minimum ≡ getD r 153 0
+  minimum-is : unitsAt r .settings .minimum ≡ getD r 241 0
   unfolding unitsAt unitsBy
-  minimum-is = field-one r 153
+  minimum-is = field-one r 241
 
   -- a record that is shaped is the image of what it is read as
   exact-from : r ≡ imageOf (deviceFrom r (unitsAt r))
@@ -493,7 +498,7 @@ module _ (r : List ℕ) (l : length r ≡ 256) (b : Bytes r) (e : shaped r ≡ t
       ∙ cut r
       ∙ rw (
         kept-same r e,
-        flat (packedAt r) (unitsAt r) (bytesFrom r 154 6) (bytesFrom r 160 96),
+        flat (packedAt r) (unitsAt r) (bytesFrom r 242 6) (field r 248 8),
         settings-are,
         minimum-is,
         front-is,
@@ -503,6 +508,7 @@ module _ (r : List ℕ) (l : length r ≡ 256) (b : Bytes r) (e : shaped r ≡ t
         piece r b 16 8,
         piece r b 24 8,
         piece r b 32 8,
+        piece r b 248 8,
       )
 
   wide-from : Wide (deviceFrom r (unitsAt r))
@@ -510,13 +516,12 @@ module _ (r : List ℕ) (l : length r ≡ 256) (b : Bytes r) (e : shaped r ≡ t
   wide-from =
       record {
         scb = omega arith;
-        minimum = field-below r b 153 1;
+        minimum = field-below r b 241 1;
         cu = rw (cu-same-at r e .word-same) (wide-of (field r 16 8) (field-below r b 16 8));
         ru = rw (ru-same-at r e .0 .word-same) (wide-of (field r 24 8) (field-below r b 24 8));
-        own = length-from r 154 6;
-        listed = length-from r 160 96;
-        own-bytes = from-bytes r 154 6 b .each;
-        listed-bytes = from-bytes r 160 96 b .each;
+        own = length-from r 242 6;
+        own-bytes = from-bytes r 242 6 b .each;
+        filter = field-below r b 248 8;
       }
 
 -- ---- the statements
@@ -597,9 +602,8 @@ fresh-wide =
       cu = record { at = omega arith; kind = omega arith; size = omega arith; next = omega arith };
       ru = record { at = omega arith; kind = omega arith; size = omega arith; next = omega arith };
       own = refl;
-      listed = refl;
       own-bytes = all-below 255 6 (omega arith);
-      listed-bytes = all-below 0 96 (omega arith);
+      filter = omega arith;
     }
 
 -- before the first attention there is one state
@@ -666,15 +670,14 @@ or-second false b i e = e
 pub one-fresh : (d : Device) → Wide d → inRange d ≡ true → d .units .initialised ≡ false → d ≡ fresh
 unfolding inRange initialisedOrFresh
 one-fresh d h e i =
-    let x = or-second (d .units .initialised) (unitsFresh (d .units) && addressesFresh d) i (both (unitsFit (d .units)) (initialisedOrFresh d) e .1) in
-    let y = both (unitsFresh (d .units)) (addressesFresh d) x in
-    let z = both (eqb (value (d .own)) 0xFFFFFFFFFFFF) (eqb (value (d .listed)) 0) (y .1) in
+    let x = or-second (d .units .initialised) (unitsFresh (d .units) && addressingFresh d) i (both (unitsFit (d .units)) (initialisedOrFresh d) e .1) in
+    let y = both (unitsFresh (d .units)) (addressingFresh d) x in
+    let z = both (eqb (value (d .own)) 0xFFFFFFFFFFFF) (eqb (d .filter) 0) (y .1) in
     rw (
       units-fresh (d .units) i (y .0),
       spelled (d .own) 6 0xFFFFFFFFFFFF (record { each = h .own-bytes }) (h .own) (eqb-true _ _ (z .0)),
-      spelled (d .listed) 96 0 (record { each = h .listed-bytes }) (h .listed) (eqb-true _ _ (z .1)),
+      eqb-true (d .filter) 0 (z .1),
       six-ff,
-      digits-zero 96,
     )
 
 -- ---- every element of an image is a byte
@@ -690,9 +693,9 @@ pub image-bytes : (d : Device) → Wide d → Bytes (imageOf d)
 unfolding imageOf
 image-bytes d h =
     let k = packedOf (d .units) in
-    rw (flat k (d .units) (d .own) (d .listed))
+    rw (flat k (d .units) (d .own) (d .filter))
     (spelt 5 0x0001544742 _ (spelt 8 (k .status) _ (append-bytes (replicate 3 0) _ (record { each = all-below 0 3 (omega arith) })
     (spelt 8 (k .cu) _ (spelt 8 (k .ru) _ (spelt 8 (k .rest) _
-    (append-bytes (replicate 112 0) _ (record { each = all-below 0 112 (omega arith) })
+    (append-bytes (replicate 200 0) _ (record { each = all-below 0 200 (omega arith) })
     (bytes-cons _ _ (omega (arith, setting-below (d .units .settings))) (bytes-cons _ _ (h .minimum)
-    (append-bytes (d .own) (d .listed) (record { each = h .own-bytes }) (record { each = h .listed-bytes })))))))))))
+    (append-bytes (d .own) (digits 8 (d .filter)) (record { each = h .own-bytes }) (digits-bytes 8 (d .filter))))))))))))

@@ -1,4 +1,4 @@
--- For a caller that lends the parts of a record: what is decoded is the numbers of a state, the last 104 bytes are its setup, and numbers and
+-- For a caller that lends the parts of a record: what is decoded is the numbers of a state, the last 16 bytes are its setup, and numbers and
 -- setup put back are the image of the state that they say. Assumes nothing.
 use mathlib.Core.Path.{_≡_, refl, sym, ap, subst}
 use mathlib.Core.List.{List, [], _++_, append-nil}
@@ -50,17 +50,17 @@ found-foreign is.Foreign e = refl
 
 module _ (d : Device) where
   -- the front, the numbers and the spare bytes
-  pub first-part : take 152 (imageOf d) ≡ unitBytes (packedOf (d .units)) ++ replicate 112 0
+  pub first-part : take 240 (imageOf d) ≡ unitBytes (packedOf (d .units)) ++ replicate 200 0
   unfolding imageOf unitBytes front digits
   first-part = refl
 
   -- the setup
-  pub last-part : drop 152 (imageOf d) ≡ setupBytes (setupOf d)
+  pub last-part : drop 240 (imageOf d) ≡ setupBytes (setupOf d)
   unfolding imageOf unitBytes front digits
   last-part = refl
 
-  pub setup-is : Wide d → SetIs (setupOf d) (drop 152 (imageOf d))
-  setup-is h = record { bytes-are = last-part; minimum-wide = h .minimum; own-wide = h .own; listed-wide = h .listed }
+  pub setup-is : Wide d → SetIs (setupOf d) (drop 240 (imageOf d))
+  setup-is h = record { bytes-are = last-part; minimum-wide = h .minimum; own-wide = h .own; filter-wide = h .filter }
 
 -- ---- the same of a record that was decoded
 
@@ -72,32 +72,32 @@ module _ (r : List ℕ) (u : Units) (l : length r ≡ 256) (b : Bytes r) (e : de
   unfolding deviceAt deviceFrom
   its-numbers k q = record { same = q; wide = wide-units (deviceAt r u) (its-image .wide) (fits (deviceAt r u) (its-image .wide) (its-image .range)) }
 
-  pub its-setup : SetIs (setupOf (deviceAt r u)) (drop 152 r)
-  its-setup = let s = setup-is (deviceAt r u) (its-image .wide) in subst (λ (x : List ℕ). SetIs (setupOf (deviceAt r u)) (drop 152 x)) (sym (its-image .same)) s
+  pub its-setup : SetIs (setupOf (deviceAt r u)) (drop 240 r)
+  its-setup = let s = setup-is (deviceAt r u) (its-image .wide) in subst (λ (x : List ℕ). SetIs (setupOf (deviceAt r u)) (drop 240 x)) (sym (its-image .same)) s
 
 -- ---- what is put back
 
 -- numbers that go to an image
-pub units-put : (d : Device) (k : Packed) → putPacked (imageOf d) k ≡ unitBytes k ++ (replicate 112 0 ++ setupBytes (setupOf d))
+pub units-put : (d : Device) (k : Packed) → putPacked (imageOf d) k ≡ unitBytes k ++ (replicate 200 0 ++ setupBytes (setupOf d))
 unfolding imageOf unitBytes front digits
 units-put d k = refl
 
 module _ (d : Device) (u : Units) (k : Packed) (s : Setup) (h : PackedIs u k) (same : u .settings ≡ s .settings) where
   -- with the numbers of some units and the bytes of a setup, it is the image of the device that has both
-  pub parts-put : take 152 (putPacked (imageOf d) k) ++ setupBytes s ≡ imageOf (record { units = u; own = s .own; listed = s .listed })
+  pub parts-put : take 240 (putPacked (imageOf d) k) ++ setupBytes s ≡ imageOf (record { units = u; own = s .own; filter = s .filter })
   unfolding imageOf unitBytes front digits
   parts-put = rw (h .same, ← same)
 
--- ---- the last 104 bytes of a record, lent and returned
+-- ---- the last 16 bytes of a record, lent and returned
 
 module _ (r : List ℕ) (l : length r ≡ 256) where
-  last-length : length (drop 152 r) ≡ 104
-  last-length = let e : length (drop 152 r) ≡ length r - 152 = length-drop 152 r in omega arith
+  last-length : length (drop 240 r) ≡ 16
+  last-length = let e : length (drop 240 r) ≡ length r - 240 = length-drop 240 r in omega arith
 
-  pub setup-lent : take 104 (drop 152 r) ≡ drop 152 r
-  setup-lent = take-all 104 (drop 152 r) (omega (arith, last-length))
+  pub setup-lent : take 16 (drop 240 r) ≡ drop 240 r
+  setup-lent = take-all 16 (drop 240 r) (omega (arith, last-length))
 
-  pub setup-returned : (b : List ℕ) → take 152 r ++ (b ++ drop 104 (drop 152 r)) ≡ take 152 r ++ b
+  pub setup-returned : (b : List ℕ) → take 240 r ++ (b ++ drop 16 (drop 240 r)) ≡ take 240 r ++ b
   setup-returned b =
-      let e : drop 104 (drop 152 r) ≡ [] = drop-of-length-le (drop 152 r) {i = 104} (omega (arith, last-length)) in
-      rw e (ap (λ (x : List ℕ). take 152 r ++ x) (append-nil b))
+      let e : drop 16 (drop 240 r) ≡ [] = drop-of-length-le (drop 240 r) {i = 16} (omega (arith, last-length)) in
+      rw e (ap (λ (x : List ℕ). take 240 r ++ x) (append-nil b))

@@ -7,13 +7,13 @@ use native.Mathlib.Omega.{arith}
 use borrow.Author.Tests.{eq-eqb, ne-eqb}
 use lib.ListN.{length, replicate, length-append}
 use lib.Seq.{sets}
-use Rattle.memory.specs.Memory.{digits}
+use Rattle.memory.specs.Memory.{value, digits}
 use Rattle.scb.specs.Words.{joined, eventBits}
 use Rattle.device.specs.State.{fresh}
 use Rattle.device.specs.declared.Device.{Device}
 use Rattle.device.specs.declared.Units.{Units}
 use Rattle.actions.specs.Setup.{Setup, setupOf}
-use Rattle.numerals.specs.Places.{bytesFrom}
+use Rattle.numerals.specs.Places.{bytesFrom, field}
 use Rattle.numerals.proofs.Laws.{sets-whole}
 use Rattle.phases.specs.Phases.{numberOf, cuWord, ruWord, ruRest}
 use Rattle.packed.specs.Packed.{packedOf}
@@ -28,26 +28,26 @@ pub length-units : (k : Packed) → length (unitBytes k) ≡ 40
 unfolding unitBytes front digits
 length-units k = refl
 
-pub length-setup : (s : Setup) → length (s .own) ≡ 6 → length (s .listed) ≡ 96 → length (setupBytes s) ≡ 104
-unfolding setupBytes
-length-setup s p q =
-    let e : length (s .own ++ s .listed) ≡ 102 = simp length-append (omega arith) in
+pub length-setup : (s : Setup) → length (s .own) ≡ 6 → length (setupBytes s) ≡ 16
+unfolding setupBytes digits
+length-setup s p =
+    let e : length (s .own ++ digits 8 (s .filter)) ≡ 14 = simp length-append (omega arith) in
     omega arith
 
-pub length-image : (d : Device) → length (d .own) ≡ 6 → length (d .listed) ≡ 96 → length (imageOf d) ≡ 256
+pub length-image : (d : Device) → length (d .own) ≡ 6 → length (imageOf d) ≡ 256
 unfolding imageOf
-length-image d p q = simp length-append (omega (arith, length-units (packedOf (d .units)), length-setup (setupOf d) p q))
+length-image d p = simp length-append (omega (arith, length-units (packedOf (d .units)), length-setup (setupOf d) p))
 
 -- ---- the stores of a record
 
 -- the fresh image, over zeros
-fresh-over : sets (sets (sets (sets (sets (replicate 256 0) 0 (digits 3 0x544742)) 3 (digits 2 1)) 153 (digits 1 64)) 154 (digits 3 0xFFFFFF)) 157 (digits 3 0xFFFFFF)
+fresh-over : sets (sets (sets (sets (sets (replicate 256 0) 0 (digits 3 0x544742)) 3 (digits 2 1)) 241 (digits 1 64)) 242 (digits 3 0xFFFFFF)) 245 (digits 3 0xFFFFFF)
     ≡ imageOf fresh
 unfolding imageOf unitBytes front setupBytes packedOf eventBits joined numberOf cuWord ruWord ruRest digits
 fresh-over = refl
 
 pub fresh-stores : (r : List ℕ) → length r ≡ 256
-    → sets (sets (sets (sets (sets (sets r 0 (replicate 256 0)) 0 (digits 3 0x544742)) 3 (digits 2 1)) 153 (digits 1 64)) 154 (digits 3 0xFFFFFF)) 157 (digits 3 0xFFFFFF)
+    → sets (sets (sets (sets (sets (sets r 0 (replicate 256 0)) 0 (digits 3 0x544742)) 3 (digits 2 1)) 241 (digits 1 64)) 242 (digits 3 0xFFFFFF)) 245 (digits 3 0xFFFFFF)
     ≡ imageOf fresh
 fresh-stores r h = rw (sets-whole r (replicate 256 0) (sym h)) fresh-over
 
@@ -95,6 +95,6 @@ module _ (r : List ℕ) where
   unfolding deviceAt
   device-full u h = rw (eq-eqb (length r) 256 h)
 
-  pub device-other : (u : Units) → (length r ≡ 256 → ⊥) → record { units = u; own = replicate 6 0; listed = replicate 96 0 } ≡ deviceAt r u
-  unfolding deviceAt deviceFrom bytesFrom
+  pub device-other : (u : Units) → (length r ≡ 256 → ⊥) → record { units = u; own = replicate 6 0; filter = 0 } ≡ deviceAt r u
+  unfolding deviceAt deviceFrom bytesFrom field value
   device-other u h = rw (ne-eqb (length r) 256 h)

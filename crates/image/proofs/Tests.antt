@@ -17,7 +17,7 @@ use Rattle.phases.specs.Phases.{wordOf, cuOf, cuShaped, ruOf, ruShaped}
 use Rattle.phases.proofs.Units.{both}
 use Rattle.packed.specs.Packed.{statusOf, statusIs, marksIn, cuTagIn, ruTagIn}
 use Rattle.packed.specs.SetUp.{settingsByte}
-use Rattle.image.specs.Ranges.{cuFits, ruFits, unitsFit, unitsFresh, addressesFresh, initialisedOrFresh, inRange}
+use Rattle.image.specs.Ranges.{cuFits, ruFits, unitsFit, unitsFresh, addressingFresh, initialisedOrFresh, inRange}
 use Rattle.image.specs.Found as is
 use Rattle.image.specs.Image.{packedAt, unitsBy, unitsAt, deviceFrom, frontIs, headShaped, unitsShaped, spareZero, shaped, rangeFrom, imaged, decodeFull, decodeOf, decodedBy}
 use Rattle.image.specs.Numbers.{cuIs, ruIs, wordsAre, freshAt, tested}
@@ -35,50 +35,46 @@ module _ (r : List ℕ) where
   unfolding unitsAt unitsBy
   initialised-at = refl
 
-  settings-are : shaped r ≡ true → settingsByte (unitsAt r .settings) ≡ field r 152 1
+  settings-are : shaped r ≡ true → settingsByte (unitsAt r .settings) ≡ field r 240 1
   unfolding unitsAt unitsBy
-  settings-are g = settings-same (field r 152 1) (field r 153 1) (settings-test r g)
+  settings-are g = settings-same (field r 240 1) (field r 241 1) (settings-test r g)
 
-  minimum-is : unitsAt r .settings .minimum ≡ field r 153 1
+  minimum-is : unitsAt r .settings .minimum ≡ field r 241 1
   unfolding unitsAt unitsBy
   minimum-is = refl
 
   -- before the first attention: the state is fresh exactly if the bytes are
-  fresh-state : unitsAt r .initialised ≡ false → shaped r ≡ true → (unitsFresh (unitsAt r) && addressesFresh (deviceFrom r (unitsAt r))) ≡ true → freshAt r ≡ true
+  fresh-state : unitsAt r .initialised ≡ false → shaped r ≡ true → (unitsFresh (unitsAt r) && addressingFresh (deviceFrom r (unitsAt r))) ≡ true → freshAt r ≡ true
   unfolding freshAt deviceFrom field packedAt eventBits joined
   fresh-state i h e =
-      let x = both (unitsFresh (unitsAt r)) (addressesFresh (deviceFrom r (unitsAt r))) e in
-      let y = both (eqb (value (bytesFrom r 154 6)) 0xFFFFFFFFFFFF) (eqb (value (bytesFrom r 160 96)) 0) (x .1) in
+      let x = both (unitsFresh (unitsAt r)) (addressingFresh (deviceFrom r (unitsAt r))) e in
+      let y = both (eqb (value (bytesFrom r 242 6)) 0xFFFFFFFFFFFF) (eqb (field r 248 8) 0) (x .1) in
       let p : unitsAt r ≡ freshUnits = units-fresh (unitsAt r) i (x .0) in
       let s : field r 5 8 ≡ 0 = sym (status-same r h) ∙ ap (λ (u : Units). statusOf u) p in
-      let b : field r 152 1 ≡ 0 = sym (settings-are h) ∙ ap (λ (u : Units). settingsByte (u .settings)) p in
-      let m : field r 153 1 ≡ 64 = sym minimum-is ∙ ap (λ (u : Units). u .settings .minimum) p in
-      rw (eq-eqb (field r 5 8) 0 s, eq-eqb (field r 152 1) 0 b, eq-eqb (field r 153 1) 64 m, y .0, y .1)
+      let b : field r 240 1 ≡ 0 = sym (settings-are h) ∙ ap (λ (u : Units). settingsByte (u .settings)) p in
+      let m : field r 241 1 ≡ 64 = sym minimum-is ∙ ap (λ (u : Units). u .settings .minimum) p in
+      rw (eq-eqb (field r 5 8) 0 s, eq-eqb (field r 240 1) 0 b, eq-eqb (field r 241 1) 64 m, y .0, y .1)
 
-  own-is : eqb (field r 154 6) 0xFFFFFFFFFFFF ≡ true → eqb (value (bytesFrom r 154 6)) 0xFFFFFFFFFFFF ≡ true
+  own-is : eqb (field r 242 6) 0xFFFFFFFFFFFF ≡ true → eqb (value (bytesFrom r 242 6)) 0xFFFFFFFFFFFF ≡ true
   unfolding field
   own-is h = h
 
-  listed-is : eqb (field r 160 96) 0 ≡ true → eqb (value (bytesFrom r 160 96)) 0 ≡ true
-  unfolding field
-  listed-is h = h
-
-  fresh-bytes : freshAt r ≡ true → (unitsFresh (unitsAt r) && addressesFresh (deviceFrom r (unitsAt r))) ≡ true
+  fresh-bytes : freshAt r ≡ true → (unitsFresh (unitsAt r) && addressingFresh (deviceFrom r (unitsAt r))) ≡ true
   unfolding freshAt unitsFresh unitsAt unitsBy packedAt deviceFrom cuOf ruOf eventBits joined
   fresh-bytes e =
-      let v = both _ (eqb (field r 160 96) 0) e in
-      let w = both _ (eqb (field r 154 6) 0xFFFFFFFFFFFF) (v .0) in
-      let x = both _ (eqb (field r 153 1) 64) (w .0) in
-      let y = both (eqb (field r 5 8) 0) (eqb (field r 152 1) 0) (x .0) in
+      let v = both _ (eqb (field r 248 8) 0) e in
+      let w = both _ (eqb (field r 242 6) 0xFFFFFFFFFFFF) (v .0) in
+      let x = both _ (eqb (field r 241 1) 64) (w .0) in
+      let y = both (eqb (field r 5 8) 0) (eqb (field r 240 1) 0) (x .0) in
       let s : field r 5 8 ≡ 0 = eqb-true _ _ (y .0) in
-      let b : field r 152 1 ≡ 0 = eqb-true _ _ (y .1) in
-      rw (s, b, x .1, own-is (w .1), listed-is (v .1))
+      let b : field r 240 1 ≡ 0 = eqb-true _ _ (y .1) in
+      rw (s, b, x .1, own-is (w .1), v .1)
 
   fresh-same : shaped r ≡ true → initialisedOrFresh (deviceFrom r (unitsAt r)) ≡ (odd (marksIn (packedAt r)) || freshAt r)
   unfolding initialisedOrFresh deviceFrom
   fresh-same h =
-      or-else (unitsAt r .initialised) (unitsFresh (unitsAt r) && addressesFresh (deviceFrom r (unitsAt r))) (freshAt r)
-      (λ i. same (unitsFresh (unitsAt r) && addressesFresh (deviceFrom r (unitsAt r))) (freshAt r) (fresh-state i h) fresh-bytes)
+      or-else (unitsAt r .initialised) (unitsFresh (unitsAt r) && addressingFresh (deviceFrom r (unitsAt r))) (freshAt r)
+      (λ i. same (unitsFresh (unitsAt r) && addressingFresh (deviceFrom r (unitsAt r))) (freshAt r) (fresh-state i h) fresh-bytes)
       ∙ ap (λ (x : Bool). x || freshAt r) initialised-at
 
   -- the units fit if their numbers do: the base has no more than 24 bits
@@ -87,7 +83,7 @@ module _ (r : List ℕ) where
   unfolding unitsFit unitsAt unitsBy packedAt
   fit-same w c v = rw (lt-ltb (field r 5 8 / 1099511627776) 16777216 (omega arith), c, v)
 
-  shape : frontIs (field r 0 8) ≡ true → statusIs (packedAt r .status) ≡ true → ltb (field r 152 1) 8 ≡ true
+  shape : frontIs (field r 0 8) ≡ true → statusIs (packedAt r .status) ≡ true → ltb (field r 240 1) 8 ≡ true
       → cuShaped (cuTagIn (packedAt r)) (packedAt r .cu) ≡ true → ruShaped (ruTagIn (packedAt r)) (packedAt r .ru) (packedAt r .rest) ≡ true
       → spareZero r ≡ true → shaped r ≡ true
   unfolding shaped headShaped unitsShaped packedAt
@@ -108,8 +104,8 @@ module _ (r : List ℕ) where
       let u = both (cuIs (cuTagIn k) (k .cu)) (ruIs (ruTagIn k) (k .ru) (k .rest)) (b .1) in
       let c = both (cuShaped (cuTagIn k) (k .cu)) (cuFits (cuOf (cuTagIn k) (wordOf (k .cu)))) (u .0) in
       let v = both (ruShaped (ruTagIn k) (k .ru) (k .rest)) (ruFits (ruOf (ruTagIn k) (wordOf (k .ru)) (k .rest))) (u .1) in
-      let s = both (spareZero r && ltb (field r 152 1) 8) (odd (marksIn (packedAt r)) || freshAt r) (a .1) in
-      let t = both (spareZero r) (ltb (field r 152 1) 8) (s .0) in
+      let s = both (spareZero r && ltb (field r 240 1) 8) (odd (marksIn (packedAt r)) || freshAt r) (a .1) in
+      let t = both (spareZero r) (ltb (field r 240 1) 8) (s .0) in
       let h = shape (f .0) (f .1) (t .1) (c .0) (v .0) (t .0) in
       let g : unitsFit (deviceFrom r (unitsAt r) .units) ≡ true = at-device (fit-same w (c .1) (v .1)) in
       rw (h, g) (fresh-same h ∙ s .1)
@@ -128,13 +124,13 @@ module _ (r : List ℕ) where
 
   pieces : shaped r ≡ true
       → (frontIs (field r 0 8) ≡ true) × (statusIs (packedAt r .status) ≡ true) × (cuShaped (cuTagIn (packedAt r)) (packedAt r .cu) ≡ true)
-      × (ruShaped (ruTagIn (packedAt r)) (packedAt r .ru) (packedAt r .rest) ≡ true) × (spareZero r ≡ true) × (ltb (field r 152 1) 8 ≡ true)
+      × (ruShaped (ruTagIn (packedAt r)) (packedAt r .ru) (packedAt r .rest) ≡ true) × (spareZero r ≡ true) × (ltb (field r 240 1) 8 ≡ true)
   unfolding shaped headShaped unitsShaped packedAt
   pieces h =
       let k = packedAt r in
       let x = both (headShaped r && unitsShaped r) (spareZero r) h in
       let y = both (headShaped r) (unitsShaped r) (x .0) in
-      let z = both (frontIs (field r 0 8) && statusIs (k .status)) (ltb (field r 152 1) 8) (y .0) in
+      let z = both (frontIs (field r 0 8) && statusIs (k .status)) (ltb (field r 240 1) 8) (y .0) in
       let w = both (frontIs (field r 0 8)) (statusIs (k .status)) (z .0) in
       let u = both (cuShaped (cuTagIn k) (k .cu)) (ruShaped (ruTagIn k) (k .ru) (k .rest)) (y .1) in
       (w .0, w .1, u .0, u .1, x .1, z .1)
@@ -158,15 +154,15 @@ module _ (r : List ℕ) where
     image-words a = rw a at (tested-is w)
 
     module _ (a : wordsAre (field r 0 8) (packedAt r) ≡ true) where
-      pub image-spare : (spareZero r && ltb (field r 152 1) 8) ≡ false → false ≡ imaged r
+      pub image-spare : (spareZero r && ltb (field r 240 1) 8) ≡ false → false ≡ imaged r
       unfolding tested
       image-spare b = rw (a, b) at (tested-is w)
 
-      pub image-working : (spareZero r && ltb (field r 152 1) 8) ≡ true → odd (marksIn (packedAt r)) ≡ true → true ≡ imaged r
+      pub image-working : (spareZero r && ltb (field r 240 1) 8) ≡ true → odd (marksIn (packedAt r)) ≡ true → true ≡ imaged r
       unfolding tested
       image-working b i = rw (a, b, i) at (tested-is w)
 
-      pub image-fresh : (spareZero r && ltb (field r 152 1) 8) ≡ true → odd (marksIn (packedAt r)) ≡ false → freshAt r ≡ imaged r
+      pub image-fresh : (spareZero r && ltb (field r 240 1) 8) ≡ true → odd (marksIn (packedAt r)) ≡ false → freshAt r ≡ imaged r
       unfolding tested
       image-fresh b i = rw (a, b, i) at (tested-is w)
 

@@ -7,7 +7,7 @@ use lib.ListN.{length, replicate}
 use lib.Seq.{sets}
 use Rattle.memory.specs.Memory.{digits}
 use Rattle.scb.specs.declared.Events.{Events}
-use Rattle.device.specs.Limits.{addressLength, recordSize, listedSize}
+use Rattle.device.specs.Limits.{addressLength, recordSize}
 use Rattle.device.specs.declared.Cu.{Cu}
 use Rattle.device.specs.declared.Device.{Device}
 use Rattle.device.specs.declared.Ru.{Ru}
@@ -18,7 +18,7 @@ use Rattle.numerals.specs.Places.{bytesFrom, field}
 use Rattle.phases.specs.Fields.{odd, flagAt}
 use Rattle.phases.specs.Phases.{wordOf, cuOf, cuShaped, ruOf, ruShaped}
 use Rattle.packed.specs.Packed.{packedOf, statusIs, baseIn, scbIn, marksIn, cuTagIn, ruTagIn}
-use Rattle.packed.specs.SetUp.{setupBytes, settingsEnd, settingsAt, minimumAt, ownAt, listedAt}
+use Rattle.packed.specs.SetUp.{setupBytes, settingsEnd, filterSize, settingsAt, minimumAt, ownAt, filterAt}
 use Rattle.packed.specs.Record.{lettersAt, statusAt, cuAt, ruAt, restAt, gapAt, gapSize, spareAt, spareSize, setupAt}
 use Rattle.packed.specs.declared.Packed.{Packed}
 use Rattle.image.specs.Ranges.{inRange}
@@ -37,7 +37,7 @@ front = digits 3 0x544742 ++ digits 2 1
 unfoldable pub unitBytes : Packed → List ℕ
 unitBytes k = front ++ (digits 8 (k .status) ++ (replicate gapSize 0 ++ (digits 8 (k .cu) ++ (digits 8 (k .ru) ++ digits 8 (k .rest)))))
 
--- all 256: bytes 40-151 are spare, the last 104 are the setup
+-- all 256: bytes 40-239 are spare, the last 16 are the setup
 unfoldable pub imageOf : Device → List ℕ
 imageOf d = unitBytes (packedOf (d .units)) ++ (replicate spareSize 0 ++ setupBytes (setupOf d))
 
@@ -74,7 +74,7 @@ unitsBy k s =
       ru = ruBy k;
     }
 
--- byte 152 settings, byte 153 minimum length
+-- byte 240 settings, byte 241 minimum length
 abbrev pub settingsIn : List ℕ → Settings
 settingsIn r = settingsOf (field r (setupAt + settingsAt) 1) (field r (setupAt + minimumAt) 1)
 
@@ -82,11 +82,11 @@ settingsIn r = settingsOf (field r (setupAt + settingsAt) 1) (field r (setupAt +
 unfoldable pub unitsAt : List ℕ → Units
 unitsAt r = unitsBy (packedAt r) (settingsIn r)
 
--- units with the addresses of a record: bytes 154-159 the own, bytes 160-255 the listed
+-- units with the own address and the filter of a record: bytes 242-247, bytes 248-255
 unfoldable pub deviceFrom : List ℕ → Units → Device
-deviceFrom r u = record { units = u; own = bytesFrom r (setupAt + ownAt) addressLength; listed = bytesFrom r (setupAt + listedAt) listedSize }
+deviceFrom r u = record { units = u; own = bytesFrom r (setupAt + ownAt) addressLength; filter = field r (setupAt + filterAt) filterSize }
 
--- a record of another length is read as an empty one: its addresses are zero
+-- a record of another length is read as an empty one: its own address and its filter are zero
 unfoldable pub deviceAt : List ℕ → Units → Device
 deviceAt r u = deviceFrom (cond (eqb (length r) recordSize) r []) u
 
@@ -107,7 +107,7 @@ wordsShaped k = cuShaped (cuTagIn k) (k .cu) && ruShaped (ruTagIn k) (k .ru) (k 
 unfoldable pub unitsShaped : List ℕ → Bool
 unitsShaped r = wordsShaped (packedAt r)
 
--- bytes 13-15 and 40-151 are zero
+-- bytes 13-15 and 40-239 are zero
 unfoldable pub spareZero : List ℕ → Bool
 spareZero r = eqb (field r gapAt gapSize) 0 && eqb (field r spareAt spareSize) 0
 
@@ -115,7 +115,7 @@ spareZero r = eqb (field r gapAt gapSize) 0 && eqb (field r spareAt spareSize) 0
 unfoldable pub shaped : List ℕ → Bool
 shaped r = headShaped r && unitsShaped r && spareZero r
 
--- units, with the addresses of a record, are in range
+-- units, with the own address and the filter of a record, are in range
 unfoldable pub rangeFrom : List ℕ → Units → Bool
 rangeFrom r u = inRange (deviceFrom r u)
 

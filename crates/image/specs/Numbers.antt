@@ -5,12 +5,12 @@ use mathlib.Core.List.{List}
 use Prim.Native.Nat.{ℕ, _+_}
 use lib.Dec.{eqb, leb, ltb}
 use Rattle.numerals.specs.Places.{field}
-use Rattle.device.specs.Limits.{addressLength, listedSize}
+use Rattle.device.specs.Limits.{addressLength}
 use Rattle.phases.specs.Fields.{odd, flagsIn, kindIn, sizeIn, nextIn, sizedMost, filledIn, aboveFilled, filledMost}
 use Rattle.phases.specs.Phases.{wordOf, actingTag, sendingTag, endingTag, failingTag, begunFlags, begunMost, actingMost, cuOf, cuShaped}
 use Rattle.phases.specs.Phases.{heldTag, fillingTag, closingTag, lackingTag, heldFlags, storingFlags, closingFlags, frameOf, ruOf, ruShaped}
 use Rattle.packed.specs.Packed.{statusIs, marksIn, cuTagIn, ruTagIn}
-use Rattle.packed.specs.SetUp.{settingsEnd, settingsAt, minimumAt, ownAt, listedAt}
+use Rattle.packed.specs.SetUp.{settingsEnd, filterSize, settingsAt, minimumAt, ownAt, filterAt}
 use Rattle.packed.specs.Record.{lettersAt, statusAt, setupAt}
 use Rattle.packed.specs.declared.Packed.{Packed}
 use Rattle.image.specs.Ranges.{cuFits, ruFits}
@@ -92,14 +92,14 @@ ruIs t n rest = ruShaped t n rest && ruFits (ruOf t (wordOf n) rest)
 unfoldable pub wordsAre : ℕ → Packed → Bool
 wordsAre front k = (frontIs front && statusIs (k .status)) && (cuIs (cuTagIn k) (k .cu) && ruIs (ruTagIn k) (k .ru) (k .rest))
 
--- all is as after reset: no bit of the status, minimum length 64, own address six FFh, no address listed
+-- all is as after reset: no bit of the status, minimum length 64, own address six FFh, the filter empty
 unfoldable pub freshAt : List ℕ → Bool
 freshAt r =
     eqb (field r statusAt 8) 0
     && eqb (field r (setupAt + settingsAt) 1) 0
     && eqb (field r (setupAt + minimumAt) 1) 64
     && eqb (field r (setupAt + ownAt) addressLength) 0xFFFFFFFFFFFF
-    && eqb (field r (setupAt + listedAt) listedSize) 0
+    && eqb (field r (setupAt + filterAt) filterSize) 0
 
 -- all of them
 unfoldable pub tested : List ℕ → Bool

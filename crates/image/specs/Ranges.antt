@@ -7,7 +7,7 @@ use lib.ListN.{length, getD}
 use Rattle.memory.specs.Address.{isNone}
 use Rattle.memory.specs.Memory.{value}
 use Rattle.scb.specs.Words.{cuNumber, ruNumber, eventBits}
-use Rattle.device.specs.Limits.{addressLength, header, longest, listedSize}
+use Rattle.device.specs.Limits.{addressLength, header, longest, filterBits}
 use Rattle.device.specs.State.{cuState, ruState, isGood}
 use Rattle.device.specs.declared.Cu.{Cu}
 use Rattle.device.specs.declared.Cu.the-variants as cu
@@ -84,7 +84,7 @@ settingsFresh s = not (s .savebad) && not (s .promiscuous) && not (s .nobroadcas
 abbrev pub unitsIdle : Cu → Ru → Bool
 unitsIdle c u = eqb (cuNumber (cuState c)) 0 && eqb (ruNumber (ruState u)) 0
 
--- all that stands beside the addresses
+-- all that stands beside the own address and the filter
 unfoldable pub unitsFresh : Units → Bool
 unitsFresh u =
     eqb (eventBits (u .events)) 0
@@ -94,13 +94,13 @@ unitsFresh u =
     && settingsFresh (u .settings)
     && unitsIdle (u .cu) (u .ru)
 
--- six FFh, and no listed address
-abbrev pub addressesFresh : Device → Bool
-addressesFresh d = eqb (value (d .own)) 0xFFFFFFFFFFFF && eqb (value (d .listed)) 0
+-- six FFh, and an empty filter
+abbrev pub addressingFresh : Device → Bool
+addressingFresh d = eqb (value (d .own)) 0xFFFFFFFFFFFF && eqb (d .filter) 0
 
 -- the clause of its own: a device that is not initialised is the fresh one
 unfoldable pub initialisedOrFresh : Device → Bool
-initialisedOrFresh d = d .units .initialised || (unitsFresh (d .units) && addressesFresh d)
+initialisedOrFresh d = d .units .initialised || (unitsFresh (d .units) && addressingFresh d)
 
 -- ---- all of them
 
@@ -115,6 +115,5 @@ pub record Wide (d : Device) : Type 0 where
   pub cu : WordWide (cuWord (d .units .cu))
   pub ru : WordWide (ruWord (d .units .ru))
   pub own : length (d .own) ≡ addressLength
-  pub listed : length (d .listed) ≡ listedSize
   pub own-bytes : (i : ℕ) → getD (d .own) i 0 < 2 ^ 8
-  pub listed-bytes : (i : ℕ) → getD (d .listed) i 0 < 2 ^ 8
+  pub filter : d .filter < 2 ^ filterBits

@@ -269,7 +269,7 @@ fn is_fresh(r: &[u8]) -> bool
         & (numerals::read8(r, record::SETTINGS) == 0)
         & (numerals::read8(r, record::MINIMUM) == MINIMUM)
         & (numerals::read48(r, record::OWN) == ONES)
-        & numerals::is_zero(r, record::LISTED, setup::LISTED_SIZE / 8)
+        & (numerals::read64(r, record::FILTER) == 0)
 }
 
 // Whether a record of 256 bytes is the image of a state in range. Before the first attention there is one such state.

@@ -29,13 +29,13 @@ module _ (d : Device) (m h out : List ℕ) where
       → Wide d → inRange d ≡ true → calledBy (refusalOf (lentOf d m h out) f) run (lentOf d m h out) ≡ onBytes (run (worldOf d m h out))
   any-run f run n p q l w e =
       accepted (lentOf d m h out) f
-      (record { memory = size-allowed (length m) n; holding = p; outgoing = q; kept = length-image d (w .own) (w .listed); frame = l })
+      (record { memory = size-allowed (length m) n; holding = p; outgoing = q; kept = length-image d (w .own); frame = l })
       (λ x. onBytes (run x)) (d .units) (decode-image d w e)
       ∙ ap (λ (x : Device). onBytes (run (worldOf x m h out))) (device-back d w)
 
   pub accepted-call : (c : Call) → Acceptable c d m h out → called c (lentOf d m h out) ≡ onBytes (ran c (worldOf d m h out))
   unfolding attentionCall arrivalCall turnCall resetCall
-  accepted-call reset s = rw (eq-eqb (length (imageOf d)) recordSize (length-image d (s .wide .own) (s .wide .listed)))
+  accepted-call reset s = rw (eq-eqb (length (imageOf d)) recordSize (length-image d (s .wide .own)))
   accepted-call attention s = any-run [] attentionOf (s .size) (s .holding) (s .outgoing) (omega arith) (s .wide) (s .range)
   accepted-call (arrive f v) s = any-run f (λ w. arrivalOf w f v) (s .size) (s .holding) (s .outgoing) (s .frame) (s .wide) (s .range)
   accepted-call (turn report) s = any-run [] (λ w. turnOf w report) (s .size) (s .holding) (s .outgoing) (omega arith) (s .wide) (s .range)

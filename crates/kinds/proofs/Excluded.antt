@@ -42,7 +42,7 @@ module _ (chip : Chip) where
       (gives-none (turn 0) a
       (record {
         size = s .size;
-        kept = length-image fresh (fresh-wide .own) (fresh-wide .listed);
+        kept = length-image fresh (fresh-wide .own);
         holding = s .holding;
         outgoing = s .outgoing;
         frame = omega arith;

@@ -233,7 +233,7 @@ abbrev unit : Ru
 unit = ru.Held (record { 0 = 0x60 }) sixty false
 
 abbrev holder : Device
-holder = record { units = withRu (unitsWith cu.Idle) unit; own = replicate 6 255; listed = replicate 96 0 }
+holder = record { units = withRu (unitsWith cu.Idle) unit; own = replicate 6 255; filter = 0 }
 
 holder-wide : Wide holder
 unfolding ruWord
@@ -244,9 +244,8 @@ holder-wide =
       cu = idle-wide .cu;
       ru = record { at = omega arith; kind = omega arith; size = omega arith; next = omega arith };
       own = refl;
-      listed = refl;
       own-bytes = idle-wide .own-bytes;
-      listed-bytes = idle-wide .listed-bytes;
+      filter = idle-wide .filter;
     }
 
 holder-range : inRange holder ≡ true

@@ -53,7 +53,7 @@ spliced : (q s : List ℕ) → length q ≡ 256 → length s ≡ setupSize → s
 spliced q s n size =
     let before = take setupAt q in
     let behind = drop (setupAt + length s) q in
-    let long : length before ≡ 152 = length-take-le setupAt q (omega (arith, n)) in
+    let long : length before ≡ 240 = length-take-le setupAt q (omega (arith, n)) in
     rw (sets-eq s q setupAt (omega (arith, n, size)), append-assoc before s behind)
     (rw long at (second-of before (s ++ behind) 0 setupSize) ∙ ap (λ (j : ℕ). bytesFrom (s ++ behind) 0 j) (sym size) ∙ first-of s behind)
 
@@ -91,7 +91,7 @@ module _ (report : ℕ) (d : Device) (m h out : List ℕ) (k : Acceptable (turn 
       (gives-none (turn report) lent
       (record {
         size = k .size;
-        kept = length-image d (k .wide .own) (k .wide .listed);
+        kept = length-image d (k .wide .own);
         holding = k .holding;
         outgoing = k .outgoing;
         frame = k .frame;
@@ -109,7 +109,7 @@ module _ (report : ℕ) (d : Device) (m h out : List ℕ) (k : Acceptable (turn 
   settings-back =
       let q = left .areas .kept in
       let s = setupIn (imageOf d) in
-      let n : length q ≡ 256 = areas-as-long (turn report) lent (l .given .frame) (l .areas) .kept ∙ length-image d (k .wide .own) (k .wide .listed) in
+      let n : length q ≡ 256 = areas-as-long (turn report) lent (l .given .frame) (l .areas) .kept ∙ length-image d (k .wide .own) in
       let size : length s ≡ setupSize = length-from (imageOf d) setupAt setupSize in
       spliced q s n size
 

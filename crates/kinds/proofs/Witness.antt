@@ -135,7 +135,7 @@ unitsWith c =
     }
 
 abbrev pub withUnit : Cu → Device
-withUnit c = record { units = unitsWith c; own = replicate 6 255; listed = replicate 96 0 }
+withUnit c = record { units = unitsWith c; own = replicate 6 255; filter = 0 }
 
 abbrev pub turned : Cu → Ran
 turned c = ran (turn 0) (worldOf (withUnit c) zeros heldArea sentArea)
@@ -149,9 +149,8 @@ wide-with c k =
       cu = k;
       ru = record { at = omega arith; kind = omega arith; size = omega arith; next = omega arith };
       own = refl;
-      listed = refl;
       own-bytes = fresh-wide .own-bytes;
-      listed-bytes = fresh-wide .listed-bytes;
+      filter = fresh-wide .filter;
     }
 
 pub range-with : (c : Cu) → cuFits c ≡ true → inRange (withUnit c) ≡ true

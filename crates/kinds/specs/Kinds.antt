@@ -92,7 +92,7 @@ AtCompletion chip p =
     → Handed (turn report) (lentOf d m h out)
     → Completes d m (chip .calls s (turn report) (lentOf d m h out)) o → p d m o (chip .calls s (turn report) (lentOf d m h out))
 
--- every setting, in the record: what Configure sets, the own address, the listed ones
+-- every setting, in the record: what Configure sets, the own address, the filter
 abbrev pub setupIn : List ℕ → List ℕ
 setupIn r = bytesFrom r setupAt setupSize
 

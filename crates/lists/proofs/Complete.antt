@@ -16,7 +16,6 @@ use Rattle.memory.proofs.Laws.{length-apply, apply-append}
 use Rattle.memory.proofs.Fields.{word-same}
 use Rattle.scb.specs.Words.{bitsAt, bit}
 use Rattle.scb.proofs.Fields.{bits-below}
-use Rattle.device.specs.Limits.{mostListed}
 use Rattle.device.specs.declared.Action.{Action}
 use Rattle.device.specs.declared.Action.the-variants as action
 use Rattle.device.specs.declared.Begun.{Begun}
@@ -57,7 +56,7 @@ unfolding act
 act-c action.Nop base s o m = (omega arith, omega arith)
 act-c action.IaSetup base s o m = (omega arith, omega arith)
 act-c action.Configure base s o m = plain (acceptable (byteOf base o m 3))
-act-c action.McSetup base s o m = plain (leb (groups base o m) mostListed)
+act-c action.McSetup base s o m = (omega arith, omega arith)
 act-c action.Tdr base s o m = (omega arith, omega arith)
 act-c action.Dump base s o m = (omega arith, omega arith)
 act-c action.Diagnose base s o m = (omega arith, omega arith)

@@ -12,7 +12,7 @@ use Rattle.memory.specs.Memory.{bytesAt, fieldAt, wordAt, realAt, wordTo, apply
 use Rattle.memory.specs.Address.{place}
 use Rattle.memory.specs.declared.Offset.{Offset}
 use Rattle.memory.specs.declared.RealAddress.{RealAddress}
-use Rattle.device.specs.Limits.{addressLength, typeLength, mostListed}
+use Rattle.device.specs.Limits.{addressLength, typeLength}
 use Rattle.device.specs.Numbers.{transmit}
 use Rattle.device.specs.State.{cuState, isActive, cuWorks, ruWorks}
 use Rattle.device.specs.declared.Action.{Action}
@@ -22,7 +22,7 @@ use Rattle.device.specs.declared.Cu.{Cu}
 use Rattle.device.specs.declared.Cu.the-variants as cu
 use Rattle.device.specs.declared.Settings.{Settings}
 use Rattle.device.specs.declared.Walk.{Walk}
-use Rattle.actions.specs.Actions.{Acted, act, sent, notSent, clamped, byteOf, settingsBy, groups, listing, mcSetup, configure, setting}
+use Rattle.actions.specs.Actions.{Acted, act, sent, notSent, clamped, byteOf, settingsBy, groups, filtering, mcSetup, configure, setting}
 use Rattle.actions.specs.Block.{blockStatusAt, blockCommandAt, blockLinkAt, argumentAt, destinationAt, typeAt}
 use Rattle.actions.specs.Setup.{Setup}
 use Rattle.command.specs.Begin.{cmd, begunBy, headerOf, toBegun, begin}
@@ -38,7 +38,7 @@ use Rattle.traces.specs.Event.{Event, call, host, isTurn, DuringList}
 use Rattle.progress.specs.Machine.{Laws, Served, Passed, Between}
 use Rattle.progress.specs.Same.{In, here, there, range, Same}
 use Rattle.progress.proofs.Same.{in-left, in-right, same-part, same-apply, same-bytes, same-field}
-use Rattle.lists.specs.Uses.{block, from, addressLengthOf, headerBytes, argumentBytes, listedBytes, descriptorBytes}
+use Rattle.lists.specs.Uses.{block, from, addressLengthOf, headerBytes, argumentBytes, descriptorBytes}
 use Rattle.lists.specs.Unit.{noteBy, beginReads, dataReads, endReads, readsBy, commandNext, machine}
 
 -- ---- parts of a list of addresses
@@ -132,21 +132,36 @@ configure-local base s o m q h =
     settings-local (ltb 8 n) (ltb 10 n) base o m q n (s .settings) refl refl l h in
     rw (e₀, e₃, es)
 
-listing-local : (t : Bool) (base : RealAddress) (s : Setup) (o : Offset) (m q : List ℕ) (n : ℕ) → Same (listedBytes t base s (o .0) n) m q
-    → setting t s (record { settings = s .settings; own = s .own; listed = listing base o m n })
-    ≡ setting t s (record { settings = s .settings; own = s .own; listed = listing base o q n })
-unfolding listing addressLengthOf
-listing-local true base s o m q n h = rw (same-bytes (place base o destinationAt) (n * addressLength) h)
-listing-local false base s o m q n h = refl
+range-append : (a j k : ℕ) → range a (j + k) ≡ range a j ++ range (a + j) k
+unfolding range
+range-append a zero k = let z : 0 + k ≡ k = omega arith in let w : a + 0 ≡ a = omega arith in rw (z, w)
+range-append a (suc j) k =
+    let z : suc j + k ≡ suc (j + k) = omega arith in
+    let w : a + suc j ≡ suc a + j = omega arith in
+    rw (z, w) (ap (λ (l : List ℕ). a ∷ l) (range-append (suc a) j k))
+
+-- the filter of n addresses is that of another memory which has their bytes
+filtering-local : (m q : List ℕ) (a n : ℕ) → Same (range a (n * addressLength)) m q → filtering m a n ≡ filtering q a n
+unfolding filtering
+filtering-local m q a zero h = refl
+filtering-local m q a (suc n) h =
+    let k = n * addressLength in
+    let e : suc n * addressLength ≡ k + addressLength = omega arith in
+    let p : Same (range a k ++ range (a + k) addressLength) m q = rw (e, range-append a k addressLength) at h in
+    rw (
+      filtering-local m q a n (same-left (range a k) (range (a + k) addressLength) p),
+      same-bytes (a + k) addressLength (same-right (range a k) (range (a + k) addressLength) p),
+    )
 
 mc-local : (base : RealAddress) (s : Setup) (o : Offset) (m q : List ℕ) → Same (argumentBytes action.McSetup base s q (o .0)) m q
     → mcSetup base s o m ≡ mcSetup base s o q
+unfolding addressLengthOf
 mc-local base s o m q h =
     let n = groups base o q in
     let A = from base (o .0) argumentAt 2 in
-    let B = listedBytes (leb n mostListed) base s (o .0) n in
+    let B = from base (o .0) destinationAt (n * addressLength) in
     let word : wordAt m (place base o argumentAt) ≡ wordAt q (place base o argumentAt) = same-at 2 (place base o argumentAt) (same-left A B h) in
-    rw word (listing-local (leb n mostListed) base s o m q n (same-right A B h))
+    rw (word, filtering-local m q (place base o destinationAt) n (same-right A B h))
 
 pub act-local : (a : Action) (base : RealAddress) (s : Setup) (o : Offset) (m q : List ℕ) → Same (argumentBytes a base s q (o .0)) m q
     → act a base s o m ≡ act a base s o q

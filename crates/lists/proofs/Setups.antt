@@ -7,7 +7,6 @@ use mathlib.Core.List.{List, [], _∷_, _++_}
 use Prim.Native.Nat.{ℕ, _%_}
 use lib.Dec.{eqb, leb}
 use Rattle.memory.specs.declared.RealAddress.{RealAddress}
-use Rattle.device.specs.Limits.{mostListed}
 use Rattle.device.specs.Numbers.{transmit, actionOf}
 use Rattle.device.specs.declared.Action.{Action}
 use Rattle.device.specs.declared.Action.the-variants as action
@@ -17,23 +16,17 @@ use Rattle.actions.specs.Setup.{Setup}
 use Rattle.command.specs.Begin.{cmd}
 use Rattle.progress.specs.Same.{In, here, there}
 use Rattle.progress.proofs.Same.{each-nil}
-use Rattle.lists.specs.Uses.{block, from, wordOf, addressLengthOf, headerBytes, headerLengthOf, listedBytes, argumentBytes, ownBytes, uses, setupAfter, listBytes, resultBytes, NoClash}
+use Rattle.lists.specs.Uses.{block, from, wordOf, addressLengthOf, headerBytes, headerLengthOf, argumentBytes, ownBytes, uses, setupAfter, listBytes, resultBytes, NoClash}
 use Rattle.lists.proofs.Blocks.{each-append}
 
 -- ---- what a command uses
 
-listed-alike : (taken : Bool) (base : RealAddress) (s x : Setup) (c n : ℕ) → listedBytes taken base s c n ≡ listedBytes taken base x c n
-unfolding addressLengthOf
-listed-alike true base s x c n = refl
-listed-alike false base s x c n = refl
-
 argument-alike : (a : Action) (base : RealAddress) (s x : Setup) (m : List ℕ) (c : ℕ) → argumentBytes a base s m c ≡ argumentBytes a base x m c
+unfolding addressLengthOf
 argument-alike action.Nop base s x m c = refl
 argument-alike action.IaSetup base s x m c = refl
 argument-alike action.Configure base s x m c = refl
-argument-alike action.McSetup base s x m c =
-    let n = groups base (block c) m in
-    ap (λ (l : List ℕ). from base c argumentAt 2 ++ l) (listed-alike (leb n mostListed) base s x c n)
+argument-alike action.McSetup base s x m c = refl
 argument-alike action.Tdr base s x m c = refl
 argument-alike action.Dump base s x m c = refl
 argument-alike action.Diagnose base s x m c = refl

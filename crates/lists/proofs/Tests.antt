@@ -10,13 +10,14 @@ use Rattle.memory.specs.Memory.{byteAt, putByte, bytesAt, putBytes, value, digi
 use Rattle.memory.specs.Address.{place, beyond}
 use Rattle.memory.specs.declared.RealAddress.{RealAddress}
 use Rattle.scb.specs.Control.{codeOf}
+use Rattle.hash.specs.Hash as hashing
 use Rattle.scb.specs.Words.{bitsAt, joined, acknowledged, anyOf, eventBits, statusWord}
 use Rattle.scb.specs.declared.Events.{Events}
 use Rattle.device.specs.Answers.{counts}
 use Rattle.device.specs.Numbers.{actionOf, verdictOf}
 use Rattle.device.specs.State.{cuWorks, ruWorks}
-use Rattle.filter.specs.Match.{agree, isListed, matches}
-use Rattle.actions.specs.Actions.{settingsBy, listing, act, reported, isSent, sent}
+use Rattle.filter.specs.Match.{agree, matches}
+use Rattle.actions.specs.Actions.{settingsBy, filtering, act, reported, isSent, sent}
 use Rattle.actions.specs.Setup.{Setup}
 use Rattle.command.specs.Begin as command-begin
 use Rattle.command.specs.Buffer as command-buffer
@@ -88,7 +89,7 @@ same-ok L m q t =
 
 -- who unfolds this unfolds all definitions that a call runs through
 unfoldable pub keptb : List ℕ → List Event → World → Bool
-unfolding byteAt putByte bytesAt putBytes value digits fieldAt place beyond codeOf bitsAt joined acknowledged anyOf eventBits statusWord counts actionOf verdictOf agree isListed matches command-begin.begunBy command-begin.headerOf command-begin.begin command-buffer.descriptorAt command-buffer.buffer settingsBy listing act reported isSent sent nextAfter end command-service.service lengthOf judged fateOf arrival receive-begin.begunBy receive-begin.begin receive-buffer.descriptorAt receive-buffer.buffer frameStatus settles close lack receive-service.service statusTo resetOf attentions.iscpOf attentions.initialise obeyCuc obeyRuc attentions.attendBy attentions.attend attentions.attention attentionOf arrivals.arrival arrivals.arrivalOf concluded commandTurn receiveTurn turnOf range addressLengthOf headerBytes headerLengthOf marked uses setupAfter resultBytes
+unfolding byteAt putByte bytesAt putBytes value digits fieldAt place beyond codeOf bitsAt joined acknowledged anyOf eventBits statusWord counts actionOf verdictOf agree matches command-begin.begunBy command-begin.headerOf command-begin.begin command-buffer.descriptorAt command-buffer.buffer hashing.ones hashing.shifted hashing.step hashing.bitsIn hashing.register hashing.selected hashing.hash settingsBy filtering act reported isSent sent nextAfter end command-service.service lengthOf judged fateOf arrival receive-begin.begunBy receive-begin.begin receive-buffer.descriptorAt receive-buffer.buffer frameStatus settles close lack receive-service.service statusTo resetOf attentions.iscpOf attentions.initialise obeyCuc obeyRuc attentions.attendBy attentions.attend attentions.attention attentionOf arrivals.arrival arrivals.arrivalOf concluded commandTurn receiveTurn turnOf range addressLengthOf headerBytes headerLengthOf marked uses setupAfter resultBytes
 keptb L [] w = true
 keptb L (e ∷ es) w = sameb L (step e w .memory) (apply (own machine e w) (w .memory)) && keptb L es (step e w)
 

@@ -12,7 +12,7 @@ use Rattle.memory.specs.Address.{place, offsetAt, isNone}
 use Rattle.memory.specs.declared.Offset.{Offset}
 use Rattle.memory.specs.declared.RealAddress.{RealAddress}
 use Rattle.scb.specs.Words.{bit}
-use Rattle.device.specs.Limits.{addressLength, typeLength, longest, mostListed, mostBuffers}
+use Rattle.device.specs.Limits.{addressLength, typeLength, longest, mostBuffers}
 use Rattle.device.specs.Numbers.{transmit, actionOf, actionNumber}
 use Rattle.device.specs.declared.Action.{Action}
 use Rattle.device.specs.declared.Action.the-variants as action
@@ -51,21 +51,17 @@ headerLengthOf s = addressLengthOf s + addressLengthOf s + typeLength
 -- ---- the bytes that a command uses
 
 -- beside the six of its block, a command that is no Transmit uses what its kind and its count make it read; TDR's word is a result
-abbrev pub listedBytes : (taken : Bool) → RealAddress → Setup → ℕ → ℕ → List ℕ
-listedBytes true base s c n = from base c destinationAt (n * addressLengthOf s)
-listedBytes false base s c n = []
-
 abbrev pub argumentBytes : Action → RealAddress → Setup → List ℕ → ℕ → List ℕ
 argumentBytes action.Nop base s m c = []
 argumentBytes action.IaSetup base s m c = from base c argumentAt addressLength
 argumentBytes action.Configure base s m c = from base c argumentAt (clamped (byteOf base (block c) m 0))
 argumentBytes action.McSetup base s m c =
-    let n = groups base (block c) m in from base c argumentAt 2 ++ listedBytes (leb n mostListed) base s c n
+    from base c argumentAt 2 ++ from base c destinationAt (groups base (block c) m * addressLengthOf s)
 argumentBytes action.Tdr base s m c = from base c argumentAt 2
 argumentBytes action.Dump base s m c = []
 argumentBytes action.Diagnose base s m c = []
 
--- m, once the command at c has begun: a Transmit's chain may lead over its own status word
+-- m, once the command at c has begun: a Transmit's chain, or an MC-Setup's list, may lead over its own status word
 unfoldable pub marked : RealAddress → List ℕ → ℕ → List ℕ
 marked base m c = apply (wordTo (place base (block c) blockStatusAt) 0x4000 ∷ []) m
 

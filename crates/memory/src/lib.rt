@@ -99,6 +99,13 @@ pub fn byte_at(m: &[u8], a: RealAddress) -> u8
     read(m, a.0 as usize)
 }
 
+// The byte i bytes behind a.
+pub fn byte_behind(m: &[u8], a: RealAddress, i: u16) -> u8
+    ensures { λ r. ⌜ r ≡ byteAt (now (m .entry)) (a .0 + i) ⌝ }
+{
+    read(m, a.0 as usize + i as usize)
+}
+
 // The number that two bytes spell, the low one first.
 fn spelled(low: u8, high: u8) -> u16
     ensures { λ r. ⌜ r ≡ low + 256 * high ⌝ }

@@ -7,14 +7,18 @@ use native.Mathlib.Nat.{div-one}
 use native.Mathlib.Omega.{arith}
 use lib.ListN.{length, getD, set, take, drop, replicate, length-replicate, length-append, List·getD-append}
 use lib.Seq.{sets, sets-eq, length-sets, drop-at, take-at}
+use Rattle.memory.specs.Memory.{digits}
+use Rattle.memory.proofs.Fields.{length-digits}
+use Rattle.numerals.specs.Places.{bytesFrom, field}
+use Rattle.numerals.proofs.Laws as places
+use Rattle.numerals.proofs.Laws.{fit, from-cons, whole, sets-whole}
 use Rattle.scb.specs.Words.{one}
-use Rattle.device.specs.Limits.{addressLength, listedSize}
+use Rattle.device.specs.Limits.{addressLength, filterBits}
 use Rattle.device.specs.declared.Settings.{Settings}
 use Rattle.actions.specs.Setup.{Setup}
-use Rattle.actions.proofs.Laws.{whole}
 use Rattle.phases.specs.Fields.{odd}
 use Rattle.phases.proofs.Units.{one-below, one-back}
-use Rattle.packed.specs.SetUp.{settingsByte, modesOf, setupBytes, settingsAt, minimumAt, ownAt, listedAt, SetIs}
+use Rattle.packed.specs.SetUp.{settingsByte, modesOf, setupBytes, filterSize, settingsAt, minimumAt, ownAt, filterAt, SetIs}
 
 -- ---- the byte of settings
 
@@ -54,15 +58,26 @@ module _ (s : Setup) (b : List ℕ) (h : SetIs s b) where
   -- the own address, as a run and byte by byte
   pub own-is : take addressLength (drop ownAt b) ≡ s .own
   unfolding setupBytes
-  own-is = rw (h .bytes-are) (take-at (s .own) (s .listed) addressLength (h .own-wide))
+  own-is = rw (h .bytes-are) (take-at (s .own) (digits filterSize (s .filter)) addressLength (h .own-wide))
 
   pub own-byte : (k : ℕ) → k < addressLength → getD b (suc (suc k)) 0 ≡ getD (s .own) k 0
   unfolding setupBytes
-  own-byte k g = rw (h .bytes-are) (List·getD-append (s .own) (s .listed) 0 k (omega (arith, h .own-wide)))
+  own-byte k g = rw (h .bytes-are) (List·getD-append (s .own) (digits filterSize (s .filter)) 0 k (omega (arith, h .own-wide)))
 
-  pub listed-are : drop listedAt b ≡ s .listed
-  unfolding setupBytes
-  listed-are = rw (h .bytes-are) (drop-at (s .own) (s .listed) addressLength (h .own-wide))
+  -- the filter, as a number
+  pub filter-is : field b filterAt filterSize ≡ s .filter
+  unfolding setupBytes field
+  filter-is =
+      let d = digits filterSize (s .filter) in
+      let e : bytesFrom (s .own ++ d) addressLength filterSize ≡ bytesFrom d 0 filterSize = rw (h .own-wide) at (places.second-of (s .own) d 0 filterSize) in
+      let w : bytesFrom d 0 filterSize ≡ d = rw (length-digits filterSize (s .filter)) at (whole d) in
+      rw (
+        h .bytes-are,
+        from-cons (settingsByte (s .settings)) (s .settings .minimum ∷ (s .own ++ d)) 7 filterSize,
+        from-cons (s .settings .minimum) (s .own ++ d) 6 filterSize,
+        e,
+        w,
+      ) (fit filterSize (s .filter) (h .filter-wide))
 
 -- ---- runs of bytes in a list with others before it
 
@@ -92,14 +107,14 @@ second-of xs ys n bs e =
 
 module _ (s : Setup) (b : List ℕ) (h : SetIs s b) where
   pub settings-set : (v w : ℕ) (new : Settings) → v ≡ settingsByte new → w ≡ new .minimum → w < 2 ^ 8
-      → SetIs (record { settings = new; own = s .own; listed = s .listed }) (set (set b settingsAt v) minimumAt w)
+      → SetIs (record { settings = new; own = s .own; filter = s .filter }) (set (set b settingsAt v) minimumAt w)
   unfolding setupBytes
   settings-set v w new p q l =
       record {
         bytes-are = rw (h .bytes-are, p, q);
         minimum-wide = omega arith;
         own-wide = h .own-wide;
-        listed-wide = h .listed-wide;
+        filter-wide = h .filter-wide;
       }
 
   -- the minimum length is not the settings
@@ -107,48 +122,44 @@ module _ (s : Setup) (b : List ℕ) (h : SetIs s b) where
   unfolding setupBytes
   minimum-stays v = rw (h .bytes-are)
 
-  pub own-set : (bs : List ℕ) → length bs ≡ addressLength → SetIs (record { settings = s .settings; own = bs; listed = s .listed }) (sets b ownAt bs)
+  pub own-set : (bs : List ℕ) → length bs ≡ addressLength → SetIs (record { settings = s .settings; own = bs; filter = s .filter }) (sets b ownAt bs)
   unfolding setupBytes
   own-set bs e =
       let x = settingsByte (s .settings) in
       let y = s .settings .minimum in
+      let d = digits filterSize (s .filter) in
       record {
         bytes-are =
             rw (
               h .bytes-are,
-              sets-cons x (y ∷ (s .own ++ s .listed)) 1 bs,
-              sets-cons y (s .own ++ s .listed) 0 bs,
-              first-of (s .own) (s .listed) bs (e ∙ sym (h .own-wide)),
+              sets-cons x (y ∷ (s .own ++ d)) 1 bs,
+              sets-cons y (s .own ++ d) 0 bs,
+              first-of (s .own) d bs (e ∙ sym (h .own-wide)),
             );
         minimum-wide = h .minimum-wide;
         own-wide = e;
-        listed-wide = h .listed-wide;
+        filter-wide = h .filter-wide;
       }
 
-  pub listed-set : (bs : List ℕ) → SetIs (record { settings = s .settings; own = s .own; listed = sets (s .listed) 0 bs }) (sets b listedAt bs)
+  pub filter-set : (filter : ℕ) → filter < 2 ^ filterBits
+      → SetIs (record { settings = s .settings; own = s .own; filter = filter }) (sets b filterAt (digits filterSize filter))
   unfolding setupBytes
-  listed-set bs =
+  filter-set filter g =
       let x = settingsByte (s .settings) in
       let y = s .settings .minimum in
+      let d = digits filterSize (s .filter) in
+      let new = digits filterSize filter in
+      let e : length new ≡ length d = length-digits filterSize filter ∙ sym (length-digits filterSize (s .filter)) in
       record {
         bytes-are =
             rw (
               h .bytes-are,
-              sets-cons x (y ∷ (s .own ++ s .listed)) 7 bs,
-              sets-cons y (s .own ++ s .listed) 6 bs,
-              second-of (s .own) (s .listed) addressLength bs (h .own-wide),
+              sets-cons x (y ∷ (s .own ++ d)) 7 new,
+              sets-cons y (s .own ++ d) 6 new,
+              second-of (s .own) d addressLength new (h .own-wide),
+              sets-whole d new e,
             );
         minimum-wide = h .minimum-wide;
         own-wide = h .own-wide;
-        listed-wide = length-sets (s .listed) 0 bs ∙ h .listed-wide;
+        filter-wide = g;
       }
-
--- a new list of addresses: zeros everywhere, then the addresses
-pub listing-set : (s : Setup) (b : List ℕ) (bs : List ℕ) → SetIs s b
-    → SetIs (record { settings = s .settings; own = s .own; listed = sets (replicate listedSize 0) 0 bs })
-    (sets (sets b listedAt (replicate listedSize 0)) listedAt bs)
-listing-set s b bs h =
-    let none = replicate {A = ℕ} listedSize 0 in
-    let t : Setup = record { settings = s .settings; own = s .own; listed = sets (s .listed) 0 none } in
-    let e : sets (s .listed) 0 none ≡ none = whole (s .listed) none (length-replicate {A = ℕ} listedSize 0 ∙ sym (h .listed-wide)) in
-    rw e at (listed-set t (sets b listedAt none) (listed-set s b h none) bs)

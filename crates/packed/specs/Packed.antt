@@ -32,7 +32,7 @@ statusBy scb marks cu ru base =
 abbrev pub statusOf : Units → ℕ
 statusOf u = statusBy (u .scb .0) (marksOf u) (cuTag (u .cu)) (ruTag (u .ru)) (u .base .0)
 
--- all of the state but the settings and the addresses, which stand beside it
+-- all of the state but the settings, the own address and the filter, which stand beside it
 unfoldable pub packedOf : Units → Packed
 packedOf u =
     record {

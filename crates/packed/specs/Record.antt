@@ -29,8 +29,8 @@ abbrev pub spareAt : ℕ
 spareAt = 40
 
 abbrev pub spareSize : ℕ
-spareSize = 112
+spareSize = 200
 
 -- what the commands set up, to the end
 abbrev pub setupAt : ℕ
-setupAt = 152
+setupAt = 240

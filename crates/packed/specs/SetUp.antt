@@ -1,10 +1,11 @@
--- What the commands set up, as the record keeps it and a call is lent it: 104 bytes. Assumes nothing.
+-- What the commands set up, as the record keeps it and a call is lent it: 16 bytes. Assumes nothing.
 use mathlib.Core.Path.{_≡_}
 use mathlib.Core.List.{List, _∷_, _++_}
 use Prim.Native.Nat.{ℕ, _+_, _*_, _/_, _<_, _^_}
 use lib.ListN.{length}
+use Rattle.memory.specs.Memory.{digits}
 use Rattle.scb.specs.Words.{one}
-use Rattle.device.specs.Limits.{addressLength, listedSize}
+use Rattle.device.specs.Limits.{addressLength, filterBits}
 use Rattle.device.specs.declared.Settings.{Settings}
 use Rattle.actions.specs.Setup.{Setup}
 
@@ -25,9 +26,13 @@ modesIn b = b / 2
 abbrev pub settingsEnd : ℕ
 settingsEnd = 2 ^ 3
 
--- one byte of settings, one of the minimum length, six of the own address, ninety-six of the listed addresses
+-- the filter's 64 bits, in bytes
+abbrev pub filterSize : ℕ
+filterSize = 8
+
+-- one byte of settings, one of the minimum length, six of the own address, eight of the filter: byte k bit j is its bit 8k + j
 unfoldable pub setupBytes : Setup → List ℕ
-setupBytes s = settingsByte (s .settings) ∷ (s .settings .minimum ∷ (s .own ++ s .listed))
+setupBytes s = settingsByte (s .settings) ∷ (s .settings .minimum ∷ (s .own ++ digits filterSize (s .filter)))
 
 -- where each of them stands, and all of them
 abbrev pub settingsAt : ℕ
@@ -39,15 +44,15 @@ minimumAt = 1
 abbrev pub ownAt : ℕ
 ownAt = 2
 
-abbrev pub listedAt : ℕ
-listedAt = ownAt + addressLength
+abbrev pub filterAt : ℕ
+filterAt = ownAt + addressLength
 
 abbrev pub setupSize : ℕ
-setupSize = listedAt + listedSize
+setupSize = filterAt + filterSize
 
 -- bytes that are a setup's
 pub record SetIs (s : Setup) (b : List ℕ) : Type 0 where
   pub bytes-are : b ≡ setupBytes s
   pub minimum-wide : s .settings .minimum < 2 ^ 8
   pub own-wide : length (s .own) ≡ addressLength
-  pub listed-wide : length (s .listed) ≡ listedSize
+  pub filter-wide : s .filter < 2 ^ filterBits

@@ -31,10 +31,10 @@ pub const GAP: usize = 13;
 
 pub const SPARE: usize = 40;
 
-pub const SPARE_WORDS: usize = 14;
+pub const SPARE_WORDS: usize = 25;
 
 // What the commands set up, to the end.
-pub const SETUP: usize = 152;
+pub const SETUP: usize = 240;
 
 pub const SETTINGS: usize = SETUP + crate::setup::SETTINGS;
 
@@ -42,4 +42,4 @@ pub const MINIMUM: usize = SETUP + crate::setup::MINIMUM;
 
 pub const OWN: usize = SETUP + crate::setup::OWN;
 
-pub const LISTED: usize = SETUP + crate::setup::LISTED;
+pub const FILTER: usize = SETUP + crate::setup::FILTER;

@@ -1,5 +1,5 @@
-// What the commands set up, as the record keeps it and a call is lent it: a byte of settings, one of the minimum length, the own address, the listed
-// addresses. docs/record.md, bytes 152 to 255. It asks for all of them.
+// What the commands set up, as the record keeps it and a call is lent it: a byte of settings, one of the minimum length, the own address, the
+// filter. docs/record.md, bytes 240 to 255. It asks for all of them.
 ghost use mathlib.Core.Path.{_≡_};
 ghost use Prim.Native.Nat.{_<_, _^_};
 ghost use lib.ListN.{length};
@@ -15,11 +15,9 @@ pub const OWN: usize = 2;
 
 pub const OWN_END: usize = 8;
 
-pub const LISTED: usize = 8;
+pub const FILTER: usize = 8;
 
-pub const LISTED_SIZE: usize = 96;
-
-pub const SIZE: usize = 104;
+pub const SIZE: usize = 16;
 
 // The byte of settings: save bad; above it the modes, which are promiscuous and, above that, broadcast disabled.
 const SAVES_BAD: u8 = 1 << 0;
@@ -60,6 +58,14 @@ pub fn minimum(setup: &[u8]) -> u64
     ensures { λ r. ⌜ (r < 2 ^ 8) × ((s : Setup) → SetIs s (now (setup .entry)) → r ≡ s .settings .minimum) ⌝ }
 {
     setup[MINIMUM] as u64
+}
+
+// The filter.
+pub fn filter(setup: &[u8]) -> u64
+    requires { ⌜ length (now setup) ≡ setupSize ⌝ }
+    ensures { λ r. ⌜ ((s : Setup) → SetIs s (now (setup .entry)) → r ≡ s .filter) ⌝ }
+{
+    numerals::read64(setup, FILTER)
 }
 
 // The byte of settings: save bad, and the modes.

@@ -1,5 +1,6 @@
 -- `code_attention::renew` meets its contract. A run over all of the setup. Assumes nothing.
 use mathlib.Core.Path.{_∙_}
+use Rattle.memory.specs.Memory.{digits}
 use Rattle.device.specs.State as states
 use Rattle.actions.specs.Setup.{setupOf}
 use Rattle.packed.specs.SetUp.{setupBytes}
@@ -9,7 +10,7 @@ use Rattle.code_attention.proofs.renew.Statement.{statement}
 use Rattle.code_attention.proofs.renew.Tie as tie
 
 pub renew-spec : {M : Type 1} → statement M
-unfolding setupBytes
+unfolding setupBytes digits
 renew-spec =
     tie.close
     (tie.spec

@@ -2,7 +2,6 @@
 use mathlib.Core.Path.{_≡_, _∙_, sym}
 use mathlib.Core.Bool.{true, false}
 use Rattle.filter.specs.Match.{matches}
-use Rattle.packed.proofs.SetUps.{listed-are}
 use Rattle.code_filter.proofs.Laws.{own-is}
 use borrow.Author.Needs.{needs}
 use Rattle.code_filter.proofs.matches.Statement.{statement}
@@ -44,7 +43,7 @@ matches-spec =
     let is-broadcast = if2 .before in
     let if1 = is-broadcast .before in
     let promiscuous = if1 .before in
-    rw (← promiscuous .promiscuous .ensures s h, if1 .if1 .left, ← is-broadcast .is-broadcast .ensures, if2 .if2 .left, ← own-is s _ h _, ← is-own .is-own .ensures, if3 .if3 .left, ← is-group .is-group .ensures, if4 .if4 .taken, ← listed-are s _ h) (c .is-listed .ensures))
+    rw (← promiscuous .promiscuous .ensures s h, if1 .if1 .left, ← is-broadcast .is-broadcast .ensures, if2 .if2 .left, ← own-is s _ h _, ← is-own .is-own .ensures, if3 .if3 .left, ← is-group .is-group .ensures, if4 .if4 .taken) (c .is-filtered .ensures s h))
     (λ c s h.
     let is-group = c .before in
     let if3 = is-group .before in

@@ -14,4 +14,4 @@ is-fresh-spec =
     (λ c κs. search needs)
     (λ c κs. search needs)
     (λ c κs. search needs)
-    (λ c. rw (c .before .before .before .before .status-at .ensures, c .before .before .before .read8 .ensures, c .before .before .read82 .ensures, c .before .read48 .ensures, c .is-zero .ensures)))
+    (λ c. rw (c .before .before .before .before .status-at .ensures, c .before .before .before .read8 .ensures, c .before .before .read82 .ensures, c .before .read48 .ensures, c .read64 .ensures)))

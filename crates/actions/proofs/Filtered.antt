@@ -1,0 +1,70 @@
+-- What an MC-Setup makes of the setup, and that no other action makes a new filter: 02, Wish 1. Assumes nothing.
+use mathlib.Core.Path.{_≡_, refl}
+use mathlib.Core.Bool.{Bool, true, false, true≢false}
+use mathlib.Core.List.{List}
+use Prim.Native.Nat.{ℕ, _<_}
+use native.Mathlib.Omega.{arith}
+use Rattle.memory.specs.Address.{place}
+use Rattle.memory.specs.declared.Offset.{Offset}
+use Rattle.memory.specs.declared.RealAddress.{RealAddress}
+use Rattle.scb.specs.Words.{bit}
+use Rattle.device.specs.Limits.{addressLength}
+use Rattle.device.specs.declared.Action.{Action}
+use Rattle.device.specs.declared.Action.the-variants as action
+use Rattle.actions.specs.Actions.{Acted, setting, acceptable, byteOf, countOf, groups, filtering, act, done}
+use Rattle.actions.specs.Block.{destinationAt}
+use Rattle.actions.specs.Filtered.{Falls, isMcSetup}
+use Rattle.actions.specs.Setup.{Setup}
+use Rattle.actions.proofs.Laws.{set-falls, falls-set}
+
+module _ (base : RealAddress) (s : Setup) (block : Offset) (m : List ℕ) where
+  abbrev pub grouped : Acted
+  grouped = act action.McSetup base s block m
+
+  -- its addresses: one falls on bit k
+  abbrev pub ListedOn : ℕ → Type 0
+  ListedOn k = Falls m (place base block destinationAt) (groups base block m) k
+
+  -- any count works
+  pub always-done : grouped .status ≡ done
+  unfolding act
+  always-done = refl
+
+  -- settings and own address are as they were
+  pub settings-stay : grouped .setup .settings ≡ s .settings
+  unfolding act
+  settings-stay = refl
+
+  pub own-stays : grouped .setup .own ≡ s .own
+  unfolding act
+  own-stays = refl
+
+  -- a bit is set exactly if one of the addresses falls on it
+  pub set : (k : ℕ) → ListedOn k → bit (grouped .setup .filter) k ≡ true
+  unfolding act
+  set k l = falls-set m (place base block destinationAt) (groups base block m) k l
+
+  pub only : (k : ℕ) → bit (grouped .setup .filter) k ≡ true → ListedOn k
+  unfolding act
+  only k e = set-falls m (place base block destinationAt) (groups base block m) k e
+
+  -- a count of 0, or of fewer bytes than an address has, empties the filter
+  pub emptied : countOf base block m < addressLength → grouped .setup .filter ≡ 0
+  unfolding act filtering
+  emptied l = let z : groups base block m ≡ 0 = omega arith in rw z
+
+-- ---- the other actions leave the filter alone
+
+either-keeps : (accepted : Bool) (s new : Setup) → new .filter ≡ s .filter → setting accepted s new .setup .filter ≡ s .filter
+either-keeps true s new e = e
+either-keeps false s new e = refl
+
+pub filter-stays : (a : Action) (base : RealAddress) (s : Setup) (block : Offset) (m : List ℕ) → isMcSetup a ≡ false → act a base s block m .setup .filter ≡ s .filter
+unfolding act
+filter-stays action.Nop base s block m e = refl
+filter-stays action.IaSetup base s block m e = refl
+filter-stays action.Configure base s block m e = either-keeps (acceptable (byteOf base block m 3)) s _ refl
+filter-stays action.McSetup base s block m e = absurd (true≢false e)
+filter-stays action.Tdr base s block m e = refl
+filter-stays action.Dump base s block m e = refl
+filter-stays action.Diagnose base s block m e = refl
