@@ -16,6 +16,7 @@ use Rattle.scb.specs.declared.RuState.the-variants as rus
 use Rattle.scb.proofs.Fields as bit-fields
 use Rattle.hash.specs.Hash.{hash}
 use Rattle.hash.specs.Numbers.{fast}
+use Rattle.hash.specs.Values.{values, allAre, bitsOf}
 use Rattle.hash.proofs.Faster.{faster-is-hash}
 use Rattle.hash.proofs.Shown as folded
 use Rattle.device.specs.Limits.{addressLength}
@@ -219,7 +220,8 @@ pub and-by-no-other : (w : World) (b : Begun) (report : ℕ) → EndsMcSetup w b
     → arrival.isOurs (leftBy w report) f ≡ true → (isGroup f ≡ true) × FallsIn w b (hash (take addressLength f))
 and-by-no-other = filtered.passed
 
--- "any count works": A000h goes to the block, and nothing else, whatever stands there; "a count of 0 empties the filter", as does one below 6
+-- "any count works": the command unit writes A000h to the block and nothing else, whatever stands there; the turn adds the SCB's status where it is due.
+-- "A count of 0 empties the filter", as does one below 6
 pub mc-setup-is-always-done : (w : World) (b : Begun) (report : ℕ) → EndsMcSetup w b
     → service (partOf (w .device) (w .outgoing)) (w .memory) report .writes ≡ wordTo (place (w .device .units .base) (b .block) blockStatusAt) done ∷ []
 mc-setup-is-always-done = filtered.status-done
@@ -234,13 +236,13 @@ the-filter-after-a-call = filtered.filter-after
 
 -- "The fold is that of document 000, section 5.5": `hash`, which is that section's program; values of it, of short addresses too; 64 addresses that fall on
 -- all 64 bits; and that the form which the code has is the same
-pub the-values-of-the-fold : T (folded.all-are folded.values)
+pub the-values-of-the-fold : T (allAre values)
 the-values-of-the-fold = folded.values-are
 
 pub the-fold-of-short-addresses : T (eqb (fast (0x01 ∷ [])) 50 && eqb (hash (0x01 ∷ [])) 50 && eqb (fast (0xAB ∷ 0xCD ∷ [])) 19 && eqb (hash (0xAB ∷ 0xCD ∷ [])) 19)
 the-fold-of-short-addresses = folded.short-values
 
-pub the-fold-reaches-every-bit : T (eqb (folded.bits-of 64) (2 ^ 64 - 1))
+pub the-fold-reaches-every-bit : T (eqb (bitsOf 64) (2 ^ 64 - 1))
 the-fold-reaches-every-bit = folded.all-bits
 
 pub the-faster-fold-is-the-same : (bs : List ℕ) → fast bs ≡ hash bs

@@ -109,7 +109,8 @@ pub struct Units {
     pub ru: Ru,
 }
 
-// The state. `filter` is 64 bits: bit k is set if the last MC-Setup brought an address that falls on it.
+// The state. `filter` is 64 bits: bit k is set exactly if the last MC-Setup since reset brought an address that falls
+// on it.
 pub struct Device {
     pub units: Units,
     pub own: [u8; 6],

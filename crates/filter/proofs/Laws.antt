@@ -1,9 +1,8 @@
 -- What a filter's bits are once one of them is set, how large a filter is, and what passes. No contract cites this file. Assumes nothing.
-use mathlib.Core.Path.{_≡_, refl, sym, ap, ap₂, _∙_}
+use mathlib.Core.Path.{_≡_, refl, ap, _∙_}
 use mathlib.Core.Bool.{Bool, true, false, not, _&&_, _||_}
 use mathlib.Core.List.{List}
-use mathlib.Core.Logic.{⊎-elim}
-use Prim.Native.Nat.{ℕ, zero, suc, _+_, _*_, _/_, _%_, _<_, _^_, max}
+use Prim.Native.Nat.{ℕ, zero, suc, _+_, _/_, _%_, _<_, _^_, max}
 use native.Mathlib.Nat.{not-suc-le-zero, le-of-suc-le-suc, mod-lt, pow-suc, mul-div-cancel, mul-mod-left, zero-div, div-one, zero-lt-suc}
 use native.Mathlib.Omega.{arith}
 use lib.Arith.{digits-mod}

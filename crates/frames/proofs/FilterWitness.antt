@@ -2,10 +2,10 @@
 -- listed is held by the bit that it shares, and one whose bit is clear is not ours. Assumes nothing.
 use mathlib.Core.Path.{_≡_, refl}
 use mathlib.Core.Bool.{true, false}
-use mathlib.Core.List.{List, [], _∷_, _++_}
+use mathlib.Core.List.{List, [], _∷_}
 use Prim.Native.Nat.{ℕ}
 use native.Mathlib.Omega.{arith}
-use lib.ListN.{length, replicate, take, length-replicate}
+use lib.ListN.{replicate, take}
 use Rattle.memory.specs.Address.{place}
 use Rattle.memory.specs.Memory.{byteAt, putByte, bytesAt, putBytes, value, digits, fieldAt, Write, wordTo, apply}
 use Rattle.scb.specs.Words.{bitsAt, joined, anyOf, eventBits, statusWord}
@@ -19,7 +19,7 @@ use Rattle.device.specs.declared.Counter.the-variants as counter
 use Rattle.device.specs.declared.Cu.the-variants as cu
 use Rattle.device.specs.declared.Fate.the-variants as fate
 use Rattle.filter.specs.Match.{agree, allOnes, isGroup, matches}
-use Rattle.actions.specs.Actions.{filtering, act}
+use Rattle.actions.specs.Actions.{groups, groupAt, filtering, act}
 use Rattle.command.specs.End.{nextAfter, end}
 use Rattle.command.specs.Service.{service}
 use Rattle.receive.specs.Arrival.{lengthOf, judged, fateOf, arrival}
@@ -27,9 +27,9 @@ use Rattle.attention.specs.Status.{statusTo}
 use Rattle.chip.specs.Arrival as arrivals
 use Rattle.chip.specs.Turn.{concluded, commandTurn, turnOf}
 use Rattle.chip.specs.World.{World, worldOf}
-use Rattle.frames.specs.Arrival.{RightLengths, isOurs}
+use Rattle.frames.specs.Arrival.{isOurs}
 use Rattle.frames.specs.Filtered.{EndsMcSetup, leftBy, FallsIn}
-use Rattle.frames.proofs.DataWitness.{ready, upward, sized}
+use Rattle.frames.proofs.DataWitness.{ready, upward}
 use Rattle.frames.proofs.Filtered.{passes}
 
 -- the MC-Setup at 200h is begun: two groups, 01-00-00-00-00-00 and 01-00-5E-00-00-01, which fall on bits 5 and 52
@@ -51,6 +51,9 @@ to last = 0x01 ∷ 0 ∷ 0 ∷ 0 ∷ 0 ∷ last ∷ upward 1 54
 -- what is met, and what comes of it: 01-00-00-00-00-7F shares bit 5 with the first of the two, 01-00-00-00-00-01 shares none
 pub record Seen : Type 0 where
   pub ends : EndsMcSetup world begun
+  pub two : groups (world .device .units .base) (begun .block) (world .memory) ≡ 2
+  pub first : groupAt (world .memory) 0x208 0 ≡ 0x01 ∷ 0 ∷ 0 ∷ 0 ∷ 0 ∷ 0 ∷ []
+  pub second : groupAt (world .memory) 0x208 1 ≡ 0x01 ∷ 0 ∷ 0x5E ∷ 0 ∷ 0 ∷ 0x01 ∷ []
   pub not-ones : allOnes (to 0x7F) ≡ false
   pub group : isGroup (to 0x7F) ≡ true
   pub falls : FallsIn world begun (hash (take addressLength (to 0x7F)))
@@ -65,6 +68,9 @@ seen =
     let f : FallsIn world begun (hash (take addressLength (to 0x7F))) = record { which = 0; among = omega arith; on-it = refl } in
     record {
       ends = e;
+      two = refl;
+      first = refl;
+      second = refl;
       not-ones = refl;
       group = refl;
       falls = f;

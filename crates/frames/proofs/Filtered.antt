@@ -1,7 +1,7 @@
 -- "Addressed to us": what an MC-Setup makes of the filter, that no other call but a reset changes it, and which frames pass: 02, Wish 1. Assumes
 -- nothing.
 use mathlib.Core.Path.{_≡_, refl, sym, ap, _∙_}
-use mathlib.Core.Bool.{Bool, true, false, not, _&&_, and-eq-true-iff}
+use mathlib.Core.Bool.{Bool, true, false, and-eq-true-iff}
 use mathlib.Core.List.{List, [], _∷_}
 use Prim.Native.Nat.{ℕ, _<_}
 use lib.Dec.{eqb}
@@ -12,13 +12,12 @@ use Rattle.scb.specs.Words.{bit, resets}
 use Rattle.hash.specs.Hash.{hash}
 use Rattle.device.specs.Limits.{addressLength}
 use Rattle.device.specs.Numbers.{transmit}
-use Rattle.device.specs.State.{fresh}
 use Rattle.device.specs.declared.Action.{Action}
 use Rattle.device.specs.declared.Action.the-variants as action
 use Rattle.device.specs.declared.Begun.{Begun}
 use Rattle.device.specs.declared.Cu.{Cu}
 use Rattle.device.specs.declared.Cu.the-variants as cu
-use Rattle.filter.specs.Match.{allOnes, isOwn, isGroup, isFiltered, matches}
+use Rattle.filter.specs.Match.{allOnes, isOwn, isGroup, isFiltered}
 use Rattle.filter.proofs.Laws as match
 use Rattle.actions.specs.Actions.{countOf, act, done, sent}
 use Rattle.actions.specs.Block.{blockStatusAt, blockCommandAt}
@@ -34,7 +33,7 @@ use Rattle.attention.specs.Attention.{attendBy, attend, initialise, attention}
 use Rattle.chip.specs.Arrival.{arrivalOf}
 use Rattle.chip.specs.Attention.{attentionOf}
 use Rattle.chip.specs.Call as calls
-use Rattle.chip.specs.Call.{Call, ran}
+use Rattle.chip.specs.Call.{Call}
 use Rattle.chip.specs.Turn.{servedOf, concluded, commandTurn, receiveTurn, turnOf}
 use Rattle.chip.specs.World.{World, resetOf}
 use Rattle.chip.specs.declared.Served.{Served}

@@ -1,5 +1,6 @@
--- Demand 2 of frames. Which are addressed to us: `Filtered`, `FilterWitness`. At an arrival: `Arrival.arrival-fate`, and a theorem for each class of frames. At every call while a frame is held:
--- `Held.good-held`, `Held.bad-held`; as facts about memory at exit `Stands.good-exit`, `Stands.bad-exit`, and when their premise is met, `Clear`.
+-- Demand 2 of frames. Which are addressed to us: `Filtered`, `FilterWitness`. At an arrival: `Arrival.arrival-fate`, and a theorem for each class
+-- of frames. At every call while a frame is held: `Held.good-held`, `Held.bad-held`; as facts about memory at exit `Stands.good-exit`,
+-- `Stands.bad-exit`, and when their premise is met, `Clear`.
 -- What the buffers get, put together: `Data.delivered`, `Data.arrived`, on bytes `Data.delivered-on-bytes`, `Data.arrived-on-bytes`;
 -- `DataWitness`, `DataBytesWitness`.
 -- Over whole traces: `Fates.conserved`, `Fates.exactly-one`, `Fates.all-fates`, `Fates.all-proper`; a run: `Witness`.

@@ -20,8 +20,8 @@ flag a k = getD a k false
 unfoldable pub ones : List Bool
 ones = replicate 32 true
 
--- "shift the CRC register", with the feedback FB: "A[31] := A[30]" down to "A[0] := FB", eight to a line from A[0] on. Each line reads what
--- stood before, since none above it wrote there
+-- "shift the CRC register", with the feedback FB: "A[31] := A[30]" down to "A[0] := FB", here from A[0] on. Each assignment
+-- reads what stood before, since they go downward
 unfoldable pub shifted : List Bool → Bool → List Bool
 shifted a fb =
     fb ∷ (flag a 0 <> fb) ∷ (flag a 1 <> fb) ∷ flag a 2 ∷ (flag a 3 <> fb) ∷ (flag a 4 <> fb) ∷ flag a 5 ∷ (flag a 6 <> fb)

@@ -15,7 +15,8 @@ const FOUR_BITS: u32 = 1 << 4;
 
 const HALF_A_BYTE: u8 = 1 << 4;
 
-// What four bits 0 make of a register of four bits: a table of sixteen, written as a match, of which the compiler makes a constant table.
+// What four bits 0 make of a register of four bits: a table of sixteen. Of a match the compiler makes a constant; an array would be laid out anew at
+// each look.
 fn drained(x: u32) -> u32
     requires { ⌜ x < 16 ⌝ }
     ensures { λ r. ⌜ r ≡ numbers.drained 4 x ⌝ }

@@ -1,7 +1,7 @@
 -- `code_actions::filter_of` meets its contract. The outer invariant: the first i bytes are whole addresses, and the filter is theirs; the inner
 -- one: the register is that behind j bytes of the next. Assumes nothing.
-use mathlib.Core.Path.{_≡_, _∙_, refl, sym}
-use Prim.Native.Nat.{ℕ, zero, suc, _+_, _-_, _*_, _/_, _%_, _<_, _≤_, _^_}
+use mathlib.Core.Path.{_≡_, refl, sym}
+use Prim.Native.Nat.{_+_, _-_, _/_, _%_, _≤_}
 use native.Mathlib.Omega.{arith}
 use borrow.Author.Needs.{needs}
 use Rattle.memory.specs.Memory.{byteAt, bytesAt}

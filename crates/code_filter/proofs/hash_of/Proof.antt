@@ -1,5 +1,5 @@
 -- `code_filter::hash_of` meets its contract. The register is that behind the first i bytes. Assumes nothing.
-use mathlib.Core.Path.{_≡_, _∙_, sym}
+use mathlib.Core.Path.{_≡_, sym}
 use Prim.Native.Nat.{_-_, _≤_, _<_}
 use native.Mathlib.Numerals.{add-one}
 use native.Mathlib.Omega.{arith}
