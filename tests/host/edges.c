@@ -35,17 +35,24 @@
          SETTLING(WORDS({0x80, 0xA000}, {0x30, 0x2040})), \
          SETTLING(WORDS({0x60, status}, {0x30, scb}, COUNTERS(0, 0, 1, 0))))
 
+/* an MC-Setup of one address, in three words, and a Configure with that byte 8; both are done */
+#define LISTED_AND_SET(first, second, third, byte) \
+    WORDS({0x42, 0x0003}, {0x44, 0x80}, {0x46, 6}, {0x48, first}, {0x4A, second}, {0x4C, third}, \
+          {0x82, 0x8002}, {0x86, 0x0009}, {0x88, 0x0600}, {0x8E, byte}, DESCRIPTORS, BOARD)
+
+#define BOTH_DONE \
+    INITIALISED, \
+    COMMANDING, \
+    TURNED(NOTHING), \
+    TURNED(WORDS({0x40, 0xA000})), \
+    TURNED(NOTHING), \
+    SETTLING(WORDS({0x80, 0xA000}))
+
 /* all FFh in the list does not help where broadcast is disabled; promiscuous does */
 #define LISTED_ONES(byte, descriptor) \
     CASE("listed ones", \
-         WORDS({0x42, 0x0003}, {0x44, 0x80}, {0x46, 6}, {0x48, 0xFFFF}, {0x4A, 0xFFFF}, {0x4C, 0xFFFF}, \
-               {0x82, 0x8002}, {0x86, 0x0009}, {0x88, 0x0600}, {0x8E, byte}, DESCRIPTORS, BOARD), \
-         INITIALISED, \
-         COMMANDING, \
-         TURNED(NOTHING), \
-         TURNED(WORDS({0x40, 0xA000})), \
-         TURNED(NOTHING), \
-         SETTLING(WORDS({0x80, 0xA000})), \
+         LISTED_AND_SET(0xFFFF, 0xFFFF, 0xFFFF, byte), \
+         BOTH_DONE, \
          RECEIVING, \
          CAME(BROADCAST(46), GOOD, NOTHING), \
          TURNED(WORDS({0x60, descriptor})))
@@ -54,14 +61,8 @@
    passes and all FFh does not, whichever of them is listed */
 #define BIT_OF_ONES(first, second, third) \
     CASE("bit of ones", \
-         WORDS({0x42, 0x0003}, {0x44, 0x80}, {0x46, 6}, {0x48, first}, {0x4A, second}, {0x4C, third}, \
-               {0x82, 0x8002}, {0x86, 0x0009}, {0x88, 0x0600}, {0x8E, 2}, DESCRIPTORS, BOARD), \
-         INITIALISED, \
-         COMMANDING, \
-         TURNED(NOTHING), \
-         TURNED(WORDS({0x40, 0xA000})), \
-         TURNED(NOTHING), \
-         SETTLING(WORDS({0x80, 0xA000})), \
+         LISTED_AND_SET(first, second, third, 2), \
+         BOTH_DONE, \
          RECEIVING, \
          CAME(BROADCAST(46), GOOD, NOTHING), \
          TURNED(WORDS({0x60, 0})), \

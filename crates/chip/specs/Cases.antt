@@ -8,8 +8,8 @@ use lib.ListN.{replicate}
 use Rattle.memory.specs.Memory.{byteAt, putByte, bytesAt, putBytes, value, digits, fieldAt, wordAt, wordTo, apply}
 use Rattle.memory.specs.Address.{place, beyond}
 use Rattle.scb.specs.Control.{codeOf}
-use Rattle.hash.specs.Hash.{ones, shifted, step, bitsIn, register, selected, hash}
 use Rattle.scb.specs.Words.{bitsAt, joined, acknowledged, anyOf, eventBits, statusWord}
+use Rattle.hash.specs.Hash.{ones, shifted, step, bitsIn, register, selected, hash}
 use Rattle.device.specs.Answers.{counts}
 use Rattle.device.specs.Limits.{holdingSize, outgoingSize}
 use Rattle.device.specs.Numbers.{actionOf, verdictOf, refusalNumber}
@@ -133,7 +133,8 @@ unfoldable pub passes : Case → Bool
 unfolding byteAt putByte bytesAt putBytes value digits fieldAt place beyond
     codeOf bitsAt joined acknowledged anyOf eventBits statusWord counts actionOf verdictOf agree matches
     command-begin.begunBy command-begin.headerOf command-begin.begin command-buffer.descriptorAt command-buffer.buffer
-    ones shifted step bitsIn register selected hash settingsBy filtering act reported isSent sent nextAfter end command-service.service lengthOf judged fateOf arrival
+    ones shifted step bitsIn register selected hash settingsBy filtering act reported isSent sent nextAfter end command-service.service
+    lengthOf judged fateOf arrival
     receive-begin.begunBy receive-begin.begin receive-buffer.descriptorAt receive-buffer.buffer frameStatus settles close lack
     receive-service.service statusTo resetOf attentions.iscpOf attentions.initialise obeyCuc obeyRuc attentions.attendBy attentions.attend
     attentions.attention attentionOf arrivals.arrival arrivals.arrivalOf concluded commandTurn receiveTurn turnOf

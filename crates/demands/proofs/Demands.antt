@@ -39,7 +39,8 @@ use Rattle.command.specs.Part.{partOf}
 use Rattle.command.specs.Service.{service}
 use Rattle.numerals.specs.Places.{field}
 use Rattle.packed.specs.Packed.{ruTagIn}
-use Rattle.packed.specs.Record.{ruAt, restAt}
+use Rattle.packed.specs.Record.{ruAt, restAt, setupAt}
+use Rattle.packed.specs.SetUp.{filterSize, filterAt}
 use Rattle.image.specs.Image.{packedAt}
 use Rattle.image.specs.Ranges.{inRange}
 use Rattle.control.specs.Obey.{ofScb}
@@ -233,6 +234,14 @@ a-count-of-0-empties-the-filter = filtered.emptied
 -- and no other call changes the filter but a reset, of either kind
 pub the-filter-after-a-call : (c : Call) (w : World) → FilterAfter w c
 the-filter-after-a-call = filtered.filter-after
+
+-- the same on bytes: the filter of the state that a record holds is its last eight bytes, low byte first, and what a call leaves there is what is said of it
+pub the-filter-in-the-record : (r : List ℕ) (d : Device) → Holds r d → field r (setupAt + filterAt) filterSize ≡ d .filter
+the-filter-in-the-record = filtered.filter-in-record
+
+pub the-filter-after-a-call-on-bytes : (c : Call) (a : Areas) (d : Device) → FrameBytes c → AreBytes a → Holds (a .kept) d → isRefused (called c a) ≡ false
+    → FilterAfter (worldIn d a) c × (field (called c a .areas .kept) (setupAt + filterAt) filterSize ≡ ran c (worldIn d a) .outcome .device .filter)
+the-filter-after-a-call-on-bytes = filtered.filter-on-bytes
 
 -- "The fold is that of document 000, section 5.5": `hash`, which is that section's program; values of it, of short addresses too; 64 addresses that fall on
 -- all 64 bits; and that the form which the code has is the same

@@ -350,15 +350,21 @@ ownGroup =
           ++ (receiving ∷ came (1 ∷ 3 ∷ 0 ∷ 0 ∷ 0 ∷ 0 ∷ counting 1 54) good [] ∷ turned (0x60 is 0 ∷ []) ∷ came (1 ∷ 2 ∷ 0 ∷ 0 ∷ 0 ∷ 0 ∷ counting 1 54) good [] ∷ turned (0x60 is 0x4000 ∷ []) ∷ []);
     }
 
+-- an MC-Setup of one address, in three words, and a Configure with that byte 8; both are done
+abbrev listedAndSet : (first second third byte : ℕ) → List Word
+listedAndSet first second third byte =
+    0x42 is 0x0003 ∷ 0x44 is 0x80 ∷ 0x46 is 6 ∷ 0x48 is first ∷ 0x4A is second ∷ 0x4C is third
+    ∷ 0x82 is 0x8002 ∷ 0x86 is 0x0009 ∷ 0x88 is 0x0600 ∷ 0x8E is byte ∷ descriptors ++ board
+
+abbrev bothDone : List Step
+bothDone = initialised ∷ commanding ∷ turned [] ∷ turned (0x40 is 0xA000 ∷ []) ∷ turned [] ∷ settling (0x80 is 0xA000 ∷ []) ∷ []
+
 -- all FFh in the list does not help where broadcast is disabled; promiscuous does
 listedOnes : (byte descriptor : ℕ) → Case
 listedOnes byte descriptor =
     record {
-      given =
-          0x42 is 0x0003 ∷ 0x44 is 0x80 ∷ 0x46 is 6 ∷ 0x48 is 0xFFFF ∷ 0x4A is 0xFFFF ∷ 0x4C is 0xFFFF
-          ∷ 0x82 is 0x8002 ∷ 0x86 is 0x0009 ∷ 0x88 is 0x0600 ∷ 0x8E is byte ∷ descriptors ++ board;
-      steps =
-          initialised ∷ commanding ∷ turned [] ∷ turned (0x40 is 0xA000 ∷ []) ∷ turned [] ∷ settling (0x80 is 0xA000 ∷ []) ∷ receiving ∷ came (broadcast 46) good [] ∷ turned (0x60 is descriptor ∷ []) ∷ [];
+      given = listedAndSet 0xFFFF 0xFFFF 0xFFFF byte;
+      steps = bothDone ++ (receiving ∷ came (broadcast 46) good [] ∷ turned (0x60 is descriptor ∷ []) ∷ []);
     }
 
 -- all FFh passes by no bit, not even by its own, 59, which AB-00-00-02-00-00 shares: with broadcast disabled that group passes and all FFh does
@@ -366,22 +372,15 @@ listedOnes byte descriptor =
 bitOfOnes : (first second third : ℕ) → Case
 bitOfOnes first second third =
     record {
-      given =
-          0x42 is 0x0003 ∷ 0x44 is 0x80 ∷ 0x46 is 6 ∷ 0x48 is first ∷ 0x4A is second ∷ 0x4C is third
-          ∷ 0x82 is 0x8002 ∷ 0x86 is 0x0009 ∷ 0x88 is 0x0600 ∷ 0x8E is 2 ∷ descriptors ++ board;
+      given = listedAndSet first second third 2;
       steps =
-          initialised
-          ∷ commanding
-          ∷ turned []
-          ∷ turned (0x40 is 0xA000 ∷ [])
-          ∷ turned []
-          ∷ settling (0x80 is 0xA000 ∷ [])
-          ∷ receiving
+          bothDone
+          ++ (receiving
           ∷ came (broadcast 46) good []
           ∷ turned (0x60 is 0 ∷ [])
           ∷ came (0xAB ∷ 0 ∷ 0 ∷ 2 ∷ 0 ∷ 0 ∷ counting 1 54) good []
           ∷ turned (0x60 is 0x4000 ∷ [])
-          ∷ [];
+          ∷ []);
     }
 
 -- ---- Configure and MC-Setup

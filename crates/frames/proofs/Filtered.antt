@@ -3,7 +3,7 @@
 use mathlib.Core.Path.{_≡_, refl, sym, ap, _∙_}
 use mathlib.Core.Bool.{Bool, true, false, and-eq-true-iff}
 use mathlib.Core.List.{List, [], _∷_}
-use Prim.Native.Nat.{ℕ, _<_}
+use Prim.Native.Nat.{ℕ, _+_, _<_}
 use lib.Dec.{eqb}
 use lib.ListN.{take}
 use Rattle.memory.specs.Address.{place}
@@ -17,6 +17,7 @@ use Rattle.device.specs.declared.Action.the-variants as action
 use Rattle.device.specs.declared.Begun.{Begun}
 use Rattle.device.specs.declared.Cu.{Cu}
 use Rattle.device.specs.declared.Cu.the-variants as cu
+use Rattle.device.specs.declared.Device.{Device}
 use Rattle.filter.specs.Match.{allOnes, isOwn, isGroup, isFiltered}
 use Rattle.filter.proofs.Laws as match
 use Rattle.actions.specs.Actions.{countOf, act, done, sent}
@@ -33,11 +34,20 @@ use Rattle.attention.specs.Attention.{attendBy, attend, initialise, attention}
 use Rattle.chip.specs.Arrival.{arrivalOf}
 use Rattle.chip.specs.Attention.{attentionOf}
 use Rattle.chip.specs.Call as calls
-use Rattle.chip.specs.Call.{Call}
+use Rattle.chip.specs.Call.{Call, ran}
 use Rattle.chip.specs.Turn.{servedOf, concluded, commandTurn, receiveTurn, turnOf}
 use Rattle.chip.specs.World.{World, resetOf}
 use Rattle.chip.specs.declared.Served.{Served}
 use Rattle.chip.specs.declared.Served.the-variants as served
+use Rattle.numerals.specs.Places.{field}
+use Rattle.packed.specs.Record.{setupAt}
+use Rattle.packed.specs.SetUp.{filterSize, filterAt}
+use Rattle.image.specs.Image.{deviceFrom}
+use Rattle.image.proofs.Steps.{device-full}
+use Rattle.calls.specs.Calls.{Areas}
+use Rattle.traces.specs.Bytes.{called, isRefused}
+use Rattle.traces.specs.Areas.{FrameBytes, AreBytes, Holds, worldIn}
+use Rattle.closure.proofs.Carried.{holds-back, holds-length, carry}
 use Rattle.frames.specs.Arrival.{settingsOf, isOurs}
 use Rattle.frames.specs.Filtered.{EndsMcSetup, leftBy, FallsIn, SetUpBy, FilterAfter, kept, by-reset, by-resetting, by-mc-setup}
 use Rattle.frames.specs.Held.{commandOf}
@@ -144,3 +154,15 @@ filter-after calls.reset w = by-reset refl
 filter-after calls.attention w = attention-after w (w .device .units .initialised) (resets (commandOf w)) refl refl
 filter-after (calls.arrive f v) w = kept (calls.arrive f v) refl refl
 filter-after (calls.turn report) w = turn-after w report (servedOf (w .device .units)) refl
+
+-- ---- on bytes
+
+-- the filter of the state that a record holds stands in its last eight bytes
+pub filter-in-record : (r : List ℕ) (d : Device) → Holds r d → field r (setupAt + filterAt) filterSize ≡ d .filter
+unfolding deviceFrom
+filter-in-record r d h = ap (λ (x : Device). x .filter) (device-full r (d .units) (holds-length r d h) ∙ holds-back r d h)
+
+-- so the record that a call leaves has there what is said of the call
+pub filter-on-bytes : (c : Call) (a : Areas) (d : Device) → FrameBytes c → AreBytes a → Holds (a .kept) d → isRefused (called c a) ≡ false
+    → FilterAfter (worldIn d a) c × (field (called c a .areas .kept) (setupAt + filterAt) filterSize ≡ ran c (worldIn d a) .outcome .device .filter)
+filter-on-bytes c a d f b h r = (filter-after c (worldIn d a), filter-in-record _ _ (carry c a d f b h r .holds))
