@@ -12,18 +12,18 @@
 #include <stdlib.h>
 #include <string.h>
 
-/* ---- the board: all structures below 8,192 but a long list's, the SCB base 0 ---- */
+/* ---- the board: all structures below 8,192 but a long list's, the SCB base 0. The first 1,536 bytes are left to what passes the end ---- */
 
 enum {
-    ISCP_AT = 0x0100,
-    SCB_AT = 0x0110,
-    BLOCK_AT = 0x0200,       /* a block for a Transmit, or for an MC-Setup of 30 addresses */
-    TBD_AT = 0x0400,         /* transmit buffer descriptors, 8 bytes each */
-    SENT_AT = 0x0500,        /* what is sent */
-    FD_AT = 0x0B00,          /* two frame descriptors, 32 bytes from one to the next, linked to each other */
-    RBD_AT = 0x0C00,         /* receive buffer descriptors, 16 bytes from one to the next, in a ring */
-    RECEIVED_AT = 0x0E00,    /* what they point to */
-    LIST_AT = 0x1400,        /* NOPs, 6 bytes each */
+    ISCP_AT = 0x0600,
+    SCB_AT = 0x0610,
+    BLOCK_AT = 0x0640,       /* a block for a Transmit, or for an MC-Setup of 30 addresses */
+    TBD_AT = 0x0700,         /* transmit buffer descriptors, 8 bytes each */
+    FD_AT = 0x0800,          /* two frame descriptors, 32 bytes from one to the next, linked to each other */
+    RBD_AT = 0x0840,         /* receive buffer descriptors, 16 bytes from one to the next, in a ring */
+    SENT_AT = 0x1000,        /* what is sent */
+    RECEIVED_AT = 0x1600,    /* what the receive buffer descriptors point to */
+    LIST_AT = 0x1C00,        /* NOPs, 6 bytes each */
     MARK = 1
 };
 
@@ -44,6 +44,12 @@ static void put_word(uint32_t at, unsigned word)
 static unsigned get_word(uint32_t at)
 {
     return memory[at % size] + 256u * memory[(at + 1) % size];
+}
+
+static void put_address(uint32_t at, uint32_t address)
+{
+    put_word(at, address & 0xFFFF);
+    put_word(at + 2, address >> 16);
 }
 
 static void must(int so, const char *what)
@@ -143,17 +149,42 @@ static void nops(unsigned items)
     must(get_word(LIST_AT + 6 * (items - 1)) == (LQ_C | LQ_OK), "the last NOP is not done");
 }
 
-/* The same Transmit again and again: length bytes of data in so many buffers. */
-static void sends(unsigned items, unsigned length, unsigned buffers)
+/* Data of a frame: length bytes in so many buffers, side by side, the last so many of them behind the end of memory. */
+struct data {
+    unsigned length, buffers, behind;
+};
+
+static unsigned each_of(struct data data)
 {
-    unsigned each = (length + buffers - 1) / buffers;
-    for (unsigned i = 0; i < buffers; i++) {
+    return (data.length + data.buffers - 1) / data.buffers;
+}
+
+/* Where the data begin: at their usual place, or so that they pass the end. */
+static uint32_t begin_of(struct data data, uint32_t usual)
+{
+    return data.behind == 0 ? usual : (uint32_t)size - (data.length - data.behind);
+}
+
+static bool stands_at(uint32_t at, const uint8_t *bytes, unsigned length)
+{
+    for (unsigned i = 0; i < length; i++) {
+        if (memory[(at + i) % size] != bytes[i]) return false;
+    }
+    return true;
+}
+
+/* The same Transmit again and again. */
+static void sends(unsigned items, struct data data)
+{
+    unsigned each = each_of(data);
+    uint32_t begin = begin_of(data, SENT_AT);
+    for (unsigned i = 0; i < data.length; i++) memory[(begin + i) % size] = (uint8_t)(i * 7);
+    for (unsigned i = 0; i < data.buffers; i++) {
         uint32_t at = TBD_AT + 8 * i;
-        unsigned count = i + 1 == buffers ? length - each * i : each;
-        put_word(at + LQ_TBD_COUNT, count | (i + 1 == buffers ? LQ_EOF : 0));
+        unsigned count = i + 1 == data.buffers ? data.length - each * i : each;
+        put_word(at + LQ_TBD_COUNT, count | (i + 1 == data.buffers ? LQ_EOF : 0));
         put_word(at + LQ_TBD_NEXT, at + 8);
-        put_word(at + LQ_TBD_BUFFER, SENT_AT + each * i);
-        put_word(at + LQ_TBD_BUFFER + 2, 0);
+        put_address(at + LQ_TBD_BUFFER, begin + each * i);
     }
     put_word(BLOCK_AT + LQ_CB_COMMAND, LQ_CMD_TRANSMIT);
     put_word(BLOCK_AT + LQ_CB_LINK, BLOCK_AT);
@@ -161,21 +192,23 @@ static void sends(unsigned items, unsigned length, unsigned buffers)
     put_word(SCB_AT + LQ_SCB_CBL, BLOCK_AT);
     command(LQ_CUC(LQ_START));
     for (unsigned i = 0; i < items; i++) {
-        size_t sent = turns(2 + buffers);
-        must(sent == LQ_FRAME_HEADER + length, "a frame was not sent");
+        memset(outgoing, 0, sizeof outgoing);
+        size_t sent = turns(2 + data.buffers);
+        must(sent == LQ_FRAME_HEADER + data.length, "a frame was not sent");
+        must(stands_at(begin, outgoing + LQ_FRAME_HEADER, data.length), "other bytes were sent");
     }
 }
 
-/* Frames to everyone: length bytes of data into buffers of a size that takes so many of them. */
-static void receives(unsigned items, unsigned length, unsigned buffers)
+/* Frames to everyone, into buffers of a size that takes so many of them. */
+static void receives(unsigned items, struct data data)
 {
     static uint8_t frame[LQ_FRAME_MAX];
-    unsigned each = (length + buffers - 1) / buffers;
-    for (unsigned i = 0; i < buffers; i++) {
+    unsigned each = each_of(data);
+    uint32_t begin = begin_of(data, RECEIVED_AT);
+    for (unsigned i = 0; i < data.buffers; i++) {
         uint32_t at = RBD_AT + 16 * i;
-        put_word(at + LQ_RBD_NEXT, RBD_AT + 16 * ((i + 1) % buffers));
-        put_word(at + LQ_RBD_BUFFER, RECEIVED_AT + each * i);
-        put_word(at + LQ_RBD_BUFFER + 2, 0);
+        put_word(at + LQ_RBD_NEXT, RBD_AT + 16 * ((i + 1) % data.buffers));
+        put_address(at + LQ_RBD_BUFFER, begin + each * i);
         put_word(at + LQ_RBD_SIZE, each);
     }
     for (unsigned i = 0; i < 2; i++) {
@@ -185,11 +218,13 @@ static void receives(unsigned items, unsigned length, unsigned buffers)
     }
     put_word(SCB_AT + LQ_SCB_RFA, FD_AT);
     command(LQ_RUC(LQ_START));
-    fill_frame(frame, LQ_FRAME_HEADER + length, 0xFF);
+    fill_frame(frame, LQ_FRAME_HEADER + data.length, 0xFF);
     for (unsigned i = 0; i < items; i++) {
-        arrival(frame, LQ_FRAME_HEADER + length);
-        turns(2 + buffers);
+        frame[LQ_FRAME_HEADER] = (uint8_t)i;
+        arrival(frame, LQ_FRAME_HEADER + data.length);
+        turns(2 + data.buffers);
         must(get_word(FD_AT + 32 * (i % 2)) == (LQ_C | LQ_OK), "a frame was not stored");
+        must(stands_at(begin, frame + LQ_FRAME_HEADER, data.length), "other bytes were stored");
     }
 }
 
@@ -269,15 +304,16 @@ static const struct row {
     {"idle", idle_turns},
 };
 
-/* tx46, tx1500/6, rx46, rx46/3 ..: bytes of data, then buffers if more than one */
+/* tx46, tx1500/6, rx46, rx46/3, rx1500:750 ..: bytes of data; then buffers if more than one, or how many bytes lie behind the end of memory */
 static void framed(const char *row, unsigned items)
 {
     char *end;
-    unsigned length = (unsigned)strtoul(row + 2, &end, 10);
-    unsigned buffers = *end == '/' ? (unsigned)strtoul(end + 1, NULL, 10) : 1;
-    must(length > 0 && length <= 1500 && buffers > 0 && buffers <= 32, "there is no such row");
-    if (row[0] == 't') sends(items, length, buffers);
-    else receives(items, length, buffers);
+    struct data data = {.length = (unsigned)strtoul(row + 2, &end, 10), .buffers = 1};
+    if (*end == '/') data.buffers = (unsigned)strtoul(end + 1, NULL, 10);
+    if (*end == ':') data.behind = (unsigned)strtoul(end + 1, NULL, 10);
+    must(data.length > 0 && data.length <= 1500 && data.buffers > 0 && data.buffers <= 32 && data.behind <= data.length, "there is no such row");
+    if (row[0] == 't') sends(items, data);
+    else receives(items, data);
 }
 
 int main(int argc, char **argv)

@@ -170,6 +170,7 @@ void control(void);
 void commands(void);
 void hashes(uint64_t seed);
 void receiving(void);
+void copies(void);
 void shapes(void);
 void random_calls(unsigned long calls, uint64_t seed);
 

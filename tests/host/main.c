@@ -55,6 +55,7 @@ int main(int argc, char **argv)
     subject("commands", commands);
     subject("hash", hash_subject);
     subject("receiving", receiving);
+    subject("copies", copies);
     subject("shapes", shapes);
     subject("random", random_subject);
     printf("host tests: %lu cases, %lu calls, all passed\n", cases_run(), calls_made());

@@ -70,10 +70,11 @@ static uint32_t random_place(const struct board *board)
     return board->base + offset + below(24);
 }
 
-/* a buffer's real address: mostly away from the structures */
+/* a buffer's real address: mostly away from the structures, at times just before the end of memory */
 static uint32_t random_real(const struct board *board)
 {
     if (one_in(8)) return random_place(board);
+    if (one_in(8)) return (uint32_t)board->chip.lent.memory.length - 1 - below(48);
     if (one_in(10)) return below(0x1000000);
     return board->base + 0x1000 + below(0x400);
 }

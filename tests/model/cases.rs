@@ -25,6 +25,7 @@ const CASES: &[(&str, Case)] = cases! {
     sixty_four_descriptors data_2034_passes_2035_not
     refusals refusal_numbers sizes size_altered status_not_read_from_memory holding_only_by_held altered_holding altered_outgoing
     offset_beyond_65536 word_over_the_end real_addresses scp_place ffff_links
+    sent_at_the_end stored_at_the_end transmit_header_at_the_end frame_header_at_the_end ia_setup_at_the_end
     init_order init_obeys_nothing init_before init_again
     attention_cu_before_ru attention_ru_after_cu attention_ack_first attention_status_last attention_resets attention_reserved
     start_when_active resume_when_waiting suspend_cu suspend_ru waiting_forgotten aborts_off abort_kinds abort_ru resume_takes_old_link
@@ -481,6 +482,158 @@ fn ffff_links() -> Result<(), String> {
     rig.rest();
     same!(rig.word(0x0005), 0x0410);
     same!(rig.chip.device.ru, Ru::Ready { descriptor: 0xFFFF, suspend: false, held: None });
+    Ok(())
+}
+
+// ---- Copies at the end of memory ----
+
+/// Memory's size, and a place in it: the end of the smallest and of the largest, and one that ends nothing though 16 bits end there.
+const ENDS: [(usize, usize); 3] = [(8_192, 8_192), (1 << 24, 1 << 24), (1 << 24, 1 << 16)];
+
+/// A buffer's bytes before the end, and in all: it ends there, goes one byte over it, begins at the last byte, is that byte, has a good part
+/// behind it.
+const BUFFERS: [(usize, usize); 5] = [(5, 5), (5, 6), (1, 6), (1, 1), (16, 64)];
+
+/// Bytes before and behind an end, in one row; a byte that the chip has not written.
+const BEFORE: usize = 32;
+const ROW: usize = BEFORE + 80;
+const OLD: u8 = 0xEE;
+
+impl Rig {
+    /// Initialised, the SCB at 0100h, all acknowledged. The base is such that offsets reach what lies before this end.
+    fn reaching(n: usize, end: usize) -> Rig {
+        let base = if end == n { n - 0x100 } else { 0 };
+        let mut rig = Rig::at(n, base as u32, ((SCB + n - base) % n) as u16);
+        rig.chip.attention();
+        rig.command(0xF000);
+        rig
+    }
+
+    fn offset(&self, at: usize) -> u16 {
+        let base = self.chip.device.scb.map_or(0, |scb| scb.base) as usize;
+        ((at + self.chip.n - base) % self.chip.n) as u16
+    }
+
+    /// A descriptor's real address.
+    fn real(&mut self, descriptor: usize, address: usize) {
+        self.words(descriptor + 4, &[address as u16, (address >> 16) as u16]);
+    }
+
+    /// The host's bytes around an end.
+    fn lay(&mut self, end: usize, row: &[u8]) {
+        let behind = end % self.chip.n;
+        self.bytes(end - BEFORE, &row[..BEFORE]);
+        self.bytes(behind, &row[BEFORE..]);
+    }
+
+    fn row(&self, end: usize) -> Vec<u8> {
+        let behind = end % self.chip.n;
+        [&self.chip.memory[end - BEFORE..end], &self.chip.memory[behind..behind + ROW - BEFORE]].concat()
+    }
+}
+
+/// A row of bytes that all differ.
+fn counting() -> Vec<u8> {
+    (0x40..).take(ROW).collect()
+}
+
+/// A row of old bytes but for these, from so far before the end on.
+fn with(before: usize, bytes: &[u8]) -> Vec<u8> {
+    let mut row = vec![OLD; ROW];
+    row[BEFORE - before..BEFORE - before + bytes.len()].copy_from_slice(bytes);
+    row
+}
+
+fn sent_at_the_end() -> Result<(), String> {
+    for (n, end) in ENDS {
+        for (before, count) in BUFFERS {
+            let mut rig = Rig::reaching(n, end);
+            rig.lay(end, &counting());
+            rig.transmit(0x200, 0x8000, rig.offset(0x400));
+            rig.tbd(0x400, 0x8000 | count as u16, NONE, 0);
+            rig.real(0x400, end - before);
+            rig.chip.outgoing.fill(OLD);
+            rig.start(rig.offset(0x200));
+            same!(usize::from(rig.turns(3).length), 14 + count);
+            same!(rig.chip.outgoing[14..14 + count].to_vec(), counting()[BEFORE - before..BEFORE - before + count].to_vec());
+            same!(rig.chip.outgoing[14 + count..].iter().all(|byte| *byte == OLD), true);
+        }
+    }
+    Ok(())
+}
+
+/// The buffer's size is just what it gets, and it is the last or another one follows; or the size is larger and the data ends.
+fn stored_at_the_end() -> Result<(), String> {
+    for (n, end) in ENDS {
+        for (before, count) in BUFFERS {
+            for (room, more) in [(0, 0), (0, 3), (50, 0)] {
+                let mut rig = Rig::reaching(n, end);
+                rig.chip.device.minimum = 0;
+                rig.lay(end, &[OLD; ROW]);
+                rig.fd(0x300, 0x8000, 0, rig.offset(0x400));
+                rig.rbd(0x400, rig.offset(0x410), 0, (count + room) as u16);
+                rig.real(0x400, end - before);
+                rig.rbd(0x410, NONE, 0x800, 10);
+                rig.words(SCB + 6, &[rig.offset(0x300)]);
+                rig.command(0x0010);
+                let heard = frame(count + more);
+                let marks = if more == 0 { 0xC000 } else { 0x4000 };
+                rig.hear(&heard, 0);
+                rig.rest();
+                same!(rig.row(end), with(before, &heard[14..14 + count]));
+                same!(rig.word(0x400), marks | count as u16);
+                same!(rig.chip.memory[0x800..0x800 + more].to_vec(), heard[14 + count..].to_vec());
+                same!(rig.chip.memory[0x800 + more], 0);
+            }
+        }
+    }
+    Ok(())
+}
+
+fn transmit_header_at_the_end() -> Result<(), String> {
+    for (n, end) in ENDS {
+        for before in 0..=8 {
+            let mut rig = Rig::reaching(n, end);
+            let block = [0, 0, 4, 0x80, 0, 0, 0xFF, 0xFF, 1, 2, 3, 4, 5, 6, 7, 8];
+            rig.lay(end, &with(before + 8, &block));
+            rig.start(rig.offset(end - before - 8));
+            same!(rig.turns(2).length, 14);
+            same!(rig.chip.outgoing[..15].to_vec(), vec![1, 2, 3, 4, 5, 6, 0xFF, 0xFF, 0xFF, 0xFF, 0xFF, 0xFF, 7, 8, 0]);
+        }
+    }
+    Ok(())
+}
+
+fn frame_header_at_the_end() -> Result<(), String> {
+    for (n, end) in ENDS {
+        for before in 0..=14 {
+            let mut rig = Rig::reaching(n, end);
+            rig.chip.device.promiscuous = true;
+            let first = rig.offset(0x400).to_le_bytes();
+            rig.lay(end, &with(before + 8, &[0, 0, 0, 0x80, 0, 0, first[0], first[1]]));
+            rig.rbd(0x400, NONE, 0x800, 46);
+            rig.words(SCB + 6, &[rig.offset(end - before - 8)]);
+            rig.command(0x0010);
+            let heard: Vec<u8> = (1..=60).collect();
+            rig.hear(&heard, 0);
+            rig.rest();
+            let stored = [&[0x00, 0xA0, 0, 0x80, 0, 0, first[0], first[1]], &heard[..14]].concat();
+            same!(rig.row(end), with(before + 8, &stored));
+        }
+    }
+    Ok(())
+}
+
+fn ia_setup_at_the_end() -> Result<(), String> {
+    for (n, end) in ENDS {
+        for before in 0..=6 {
+            let mut rig = Rig::reaching(n, end);
+            rig.lay(end, &with(before + 6, &[0, 0, 1, 0x80, 0, 0, 2, 3, 4, 5, 6, 7]));
+            rig.start(rig.offset(end - before - 6));
+            rig.rest();
+            same!(rig.chip.device.own, [2, 3, 4, 5, 6, 7]);
+        }
+    }
     Ok(())
 }
 

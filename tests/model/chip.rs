@@ -630,6 +630,8 @@ impl Chip {
     /// data." "The header goes to the outgoing area at begin, data behind it."
     fn begin_transmit(&mut self, block: u16) -> Send {
         let descriptor = self.word(self.at(block, 6));
+        self.note_if(self.runs_over(self.at(block, 8), 8), "Transmit: a header over the end of memory");
+        self.note_if(self.runs_over(self.at(block, 14), 2), "Transmit: a type over the end of memory");
         for i in 0..6 {
             self.outgoing[i] = self.byte(self.at(block, 8 + i as u32));
             self.outgoing[6 + i] = self.device.own[i];
@@ -662,7 +664,7 @@ impl Chip {
         }
         self.note_if(count == 0, "Transmit: count 0");
         self.note_if(count == 0 && usize::from(length) == AREA, "Transmit: count 0 at 2,048");
-        self.note_if(self.runs_over(address, count), "Transmit: a buffer over the end of memory");
+        self.note_buffer("Transmit", address, count);
         for i in 0..count {
             self.outgoing[usize::from(length + i)] = self.byte(address + u32::from(i));
         }
@@ -686,6 +688,22 @@ impl Chip {
 
     fn runs_over(&self, address: u32, count: u16) -> bool {
         address as usize % self.n + usize::from(count) > self.n
+    }
+
+    /// How the bytes that a buffer gives or takes lie at the end of memory.
+    fn note_buffer(&self, whose: &str, address: u32, count: u16) {
+        let first = address as usize % self.n;
+        let behind = first + usize::from(count);
+        for (so, how) in [
+            (count > 0 && behind == self.n, "that ends at the end of memory"),
+            (behind > self.n, "over the end of memory"),
+            (behind == self.n + 1, "one byte over the end of memory"),
+            (behind > self.n && first == self.n - 1, "that begins at the last byte of memory"),
+        ] {
+            if so {
+                self.note(&format!("{whose}: a buffer {how}"));
+            }
+        }
     }
 
     /// "End: do the action, write status; I raises CX; EL makes CU Idle, else S or a waiting SUSPEND makes it Suspended; the link, read
@@ -733,6 +751,7 @@ impl Chip {
 
     /// "IA-Setup: six bytes at +6."
     fn ia_setup(&mut self, block: u16) -> u16 {
+        self.note_if(self.runs_over(self.at(block, 6), 6), "IA-Setup: an address over the end of memory");
         self.device.own = self.six(self.at(block, 6));
         0xA000
     }
@@ -1042,7 +1061,7 @@ impl Chip {
         let count = left.min(word & 0x3FFF);
         let used = used + 1;
         self.note_if(word & 0x3FFF == 0, "frame: a buffer of size 0");
-        self.note_if(self.runs_over(address, count), "frame: a buffer over the end of memory");
+        self.note_buffer("frame", address, count);
         self.note_if(count > 0 && self.over_scb(address, u32::from(count)), "frame: a buffer over the SCB");
         for i in 0..count {
             self.set_byte(address + u32::from(i), self.holding[usize::from(14 + stored + i)]);
@@ -1077,6 +1096,7 @@ impl Chip {
     fn end_frame(&mut self, descriptor: u16, suspend: bool, held: Held, storing: Storing, out: bool, free: u16, last_el: bool) {
         self.note_if(held.save_bad != self.device.save_bad, "frame ends under another save-bad than at arrival");
         if !out || held.save_bad {
+            self.note_if(self.runs_over(self.at(descriptor, 8), 14), "frame: a header over the end of memory");
             for i in 0..14 {
                 self.set_byte(self.at(descriptor, 8 + i as u32), self.holding[i]);
             }

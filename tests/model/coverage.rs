@@ -61,6 +61,13 @@ fn points() -> Vec<String> {
         add(format!("bit {bit} passes a group"));
         add(format!("bit {bit} drops a group"));
     }
+    for whose in ["Transmit", "frame"] {
+        add(format!("{whose}: a header over the end of memory"));
+        add(format!("{whose}: a buffer that ends at the end of memory"));
+        add(format!("{whose}: a buffer over the end of memory"));
+        add(format!("{whose}: a buffer one byte over the end of memory"));
+        add(format!("{whose}: a buffer that begins at the last byte of memory"));
+    }
     for event in ["CX", "FR", "CNA", "RNR"] {
         add(format!("{event} acknowledged"));
     }
@@ -152,6 +159,7 @@ const POINTS: &str = "
     end that raises nothing
     a command's link is FFFFh
     a command's link is its own block
+    IA-Setup: an address over the end of memory
     Configure fails: length
     Configure fails: location
     Configure fails: loopback, bit 6
@@ -178,7 +186,7 @@ const POINTS: &str = "
     Transmit: several descriptors
     Transmit: count 0
     Transmit: count 0 at 2,048
-    Transmit: a buffer over the end of memory
+    Transmit: a type over the end of memory
     Transmit: EOF in the 64th descriptor
     Transmit: EOF and next FFFFh
     Transmit fails: 2,048 passed
@@ -217,7 +225,6 @@ const POINTS: &str = "
     arrival of just the minimum
     frame: no data
     frame: a buffer of size 0
-    frame: a buffer over the end of memory
     frame: a buffer over the SCB
     frame: data ends in the EL buffer
     frame: data ends in the 64th buffer

@@ -423,11 +423,13 @@ impl Generator<'_> {
         match self.random.below(270) {
             0 => return self.long_send(),
             1 => return self.long_store(),
-            2..=7 => return self.small_store(),
-            8..=17 => return self.small_send(),
-            18..=20 => return self.over_scb(),
-            21..=25 => return self.crossing(),
-            26..=30 => return self.filtering(),
+            2..=8 => return self.small_store(),
+            9..=18 => return self.small_send(),
+            19..=21 => return self.over_scb(),
+            22..=26 => return self.crossing(),
+            27..=31 => return self.filtering(),
+            32..=34 => return self.end_send(),
+            35..=37 => return self.end_store(),
             _ => {}
         }
         let device = self.device();
@@ -439,13 +441,14 @@ impl Generator<'_> {
         let begun = device.begun().map_or(false, |begun| matches!(begun.step, Send::End { .. }));
         let failing = fails(device) || out(device);
         let fresh = device.ru_name() == "Ready, held";
+        let storing = device.ru_name() == "Ready, begun";
         let roll = self.random.below(100);
         let (arrivals, attentions) = match (works, ready) {
             (true, true) if !held => (32, 18),
             (true, _) if waiting => (5, 44),
             (true, _) if fresh => (6, 40),
             (true, _) if failing => (4, 45),
-            (true, _) if begun => (4, 32),
+            (true, _) if begun || storing => (4, 32),
             (true, _) => (if held { 7 } else if no_resources { 12 } else { 3 }, if self.scene.stale > 60 { 40 } else { 24 }),
             (false, true) => (72, 25),
             (false, false) => (if no_resources { 40 } else { 7 }, if no_resources { 57 } else { 90 }),
@@ -499,6 +502,7 @@ impl Generator<'_> {
                 0 | 1 => self.command(0x0030)?,
                 2 => self.attention()?,
                 3 | 4 if !self.device().cu_works() => self.start_configure(!save_bad, minimum)?,
+                5 if self.device().ru_name().contains("waits") => self.attention()?,
                 _ if self.device().ru_works() => self.turn()?,
                 _ => break,
             }
@@ -541,6 +545,144 @@ impl Generator<'_> {
         }
         self.show_scb()?;
         self.show(block, 16)
+    }
+
+    // ---- Copies at the end of memory, closely watched ----
+
+    /// A place for so many bytes, two at least, at the end of memory: they end there, go one byte over it, begin at its last byte, or are
+    /// cut anywhere.
+    fn end_place(&mut self, length: usize) -> usize {
+        let any = 1 + self.random.below(length);
+        self.n() - self.random.pick(&[length, length - 1, 1, any])
+    }
+
+    /// A buffer of so many bytes there. It and the bytes beside it have any values, so that one too many or too few shows.
+    fn end_buffer(&mut self, length: usize) -> io::Result<usize> {
+        let at = self.end_place(length);
+        let bytes = self.any_bytes(length + 4);
+        self.put(at - 2, &bytes)?;
+        Ok(at)
+    }
+
+    fn end_length(&mut self) -> usize {
+        let most = self.random.pick(&[6, 30, 30, 500]);
+        2 + self.random.below(most)
+    }
+
+    fn any_bytes(&mut self, count: usize) -> Vec<u8> {
+        (0..count).map(|_| self.random.byte()).collect()
+    }
+
+    /// The turns of a command or two, or of a frame: one by one, or in a run.
+    fn end_turns(&mut self) -> io::Result<()> {
+        if self.random.chance(60) {
+            let report = 1 << self.random.below(16);
+            return self.line(format!("run 9 {report}"));
+        }
+        for _ in 0..6 {
+            if self.device().cu_works() || self.device().ru_works() {
+                self.turn_line(1)?;
+            }
+        }
+        Ok(())
+    }
+
+    /// Out of memory: a Transmit's buffers, its header, or IA-Setup's address, which the Transmit behind it shows.
+    fn end_send(&mut self) -> io::Result<()> {
+        if self.device().cu_works() || self.device().ru_works() {
+            self.command(0xF440)?;
+        }
+        let (begins, length) = match self.random.below(8) {
+            0..=2 => {
+                let (first, length) = self.end_chain()?;
+                let block = self.piece(16);
+                (self.plain_transmit(block, first)?, length)
+            }
+            3..=5 => {
+                let block = if self.random.chance(50) { self.end_place(8) - 8 } else { self.end_place(2) - 14 };
+                (self.plain_transmit(block, NONE)?, 14)
+            }
+            _ => {
+                let (block, setup) = (self.piece(16), self.end_place(6) - 6);
+                let (link, own) = (self.plain_transmit(block, NONE)?, self.any_bytes(6));
+                self.put_words(setup, &[0, 1, link])?;
+                self.put(setup + 6, &own)?;
+                (self.offset(setup), 14)
+            }
+        };
+        self.put_words(self.scb(4), &[begins])?;
+        self.command(0x0100)?;
+        self.end_turns()?;
+        self.show_scb()?;
+        self.line(format!("show outgoing 0 {}", (length + 2).min(2048)))
+    }
+
+    /// Lays a Transmit with EL and any header; its offset comes back.
+    fn plain_transmit(&mut self, block: usize, first: u16) -> io::Result<u16> {
+        let (link, header) = (self.random.word(), self.any_bytes(8));
+        self.put_words(block, &[0, 0x8004, link, first])?;
+        self.put(block + 8, &header)?;
+        Ok(self.offset(block))
+    }
+
+    /// Lays one to four descriptors with buffers at the end of memory; the offset of the first and the frame's length come back.
+    fn end_chain(&mut self) -> io::Result<(u16, usize)> {
+        // From the last to the first: none behind 2,034 bytes or one too many, or a few.
+        let sizes: Vec<usize> = match self.random.below(6) {
+            0 => vec![0, 2034 + self.random.below(2)],
+            _ => (0..1 + self.random.below(4)).map(|_| self.end_length()).collect(),
+        };
+        let (mut next, mut eof, mut length) = (NONE, 0x8000, 14);
+        for size in sizes {
+            let data = self.end_buffer(size.max(2))?;
+            let (descriptor, real) = (self.piece(8), self.real_bytes(data));
+            self.put_words(descriptor, &[eof | size as u16, next])?;
+            self.put(descriptor + 4, &real)?;
+            (next, eof, length) = (self.offset(descriptor), 0, length + size);
+        }
+        Ok((next, length))
+    }
+
+    /// Into memory: the data or the header of a frame that is not short.
+    fn end_store(&mut self) -> io::Result<()> {
+        if self.device().cu_works() || matches!(self.device().ru, Ru::Ready { .. }) {
+            self.command(0xF440)?;
+        }
+        let size = self.end_length();
+        let rest = usize::from(self.device().minimum).saturating_sub(18 + size) + self.random.below(3);
+        let other = self.piece(rest);
+        let (descriptor, data) = if self.random.chance(70) {
+            (self.piece(22), self.end_buffer(size)?)
+        } else {
+            (self.end_place(14) - 8, self.piece(size))
+        };
+        let first = self.end_buffers((data, size), (other, rest))?;
+        let (offset, bits) = (self.offset(descriptor), self.random.pick(&[0, 0, 0x4000, 0x8000]));
+        self.put_words(descriptor, &[0, bits, offset, first])?;
+        self.put_words(self.scb(6), &[offset])?;
+        self.command(0x0010)?;
+        let (to, behind) = (self.sure(), self.any_bytes(8 + size + rest));
+        self.line(format!("arrival 0 {} {}", hex(&to), hex(&behind)))?;
+        self.end_turns()?;
+        self.show_scb()?;
+        self.show(data + self.n() - 2, size + 4)?;
+        self.show(descriptor, 24)
+    }
+
+    /// Lays the descriptors of two buffers, each a place and how many bytes it shall get. Of the first this is the size, of the second what is
+    /// left: it may have room for more. The offset of the first comes back.
+    fn end_buffers(&mut self, one: (usize, usize), other: (usize, usize)) -> io::Result<u16> {
+        let ((first, size), (second, left)) = if self.random.chance(50) { (one, other) } else { (other, one) };
+        let room = left + self.random.below(3);
+        let next = self.plain_buffer(second, room, NONE)?;
+        self.plain_buffer(first, size, next)
+    }
+
+    /// Lays a receive buffer descriptor; its offset comes back.
+    fn plain_buffer(&mut self, data: usize, size: usize, next: u16) -> io::Result<u16> {
+        let (descriptor, real) = (self.piece(10), self.real(data));
+        self.put_words(descriptor, &[0, next, real as u16, (real >> 16) as u16, size as u16])?;
+        Ok(self.offset(descriptor))
     }
 
     // ---- The address filter, closely watched ----
@@ -593,7 +735,7 @@ impl Generator<'_> {
         self.put_words(descriptor, &[0, 0, offsets[2], NONE])?;
         self.put_words(self.scb(6), &[offsets[2]])?;
         self.command(0x0010)?;
-        for _ in 0..if self.device().filter == 0 { 4 } else { 18 } {
+        for _ in 0..if self.device().filter == 0 { 4 } else { 20 } {
             let (to, length) = (self.candidate(), 14 + self.random.below(40));
             self.frame(to, length)?;
         }
@@ -605,11 +747,13 @@ impl Generator<'_> {
         let Device { filter, ref listed, .. } = *self.device();
         let (late, earlier, by_others) = (filter ^ listed.late, listed.before & !filter, filter & !listed.groups);
         match self.random.below(20) {
-            0..=9 => self.falling(filter, 1),
-            10..=12 => self.falling(!filter, 1),
+            0..=8 => self.falling(filter, 1),
+            9..=12 => self.falling(!filter, 1),
             13 | 14 => self.falling(late, 1),
             15 => self.falling(earlier, 1),
-            16 => self.falling(by_others, 1),
+            16 if self.random.chance(50) => self.falling(by_others, 1),
+            // The bit of all FFh, which few lists leave clear.
+            16 => self.falling(1 << hash([0xFF; 6]), 1),
             17 => self.falling(filter, 0),
             18 => [0xFF; 6],
             _ => self.address(),
@@ -861,7 +1005,7 @@ impl Generator<'_> {
         self.put_words(self.scb(2), &[0x0010])?;
         self.line("attention".into())?;
         self.observe()?;
-        let length = 14 + self.random.pick(&[63, 64, 64, 64, 65, 65, 65]);
+        let length = 14 + self.random.pick(&[63, 64, 64, 64, 64, 65, 65]);
         let to = self.sure();
         self.frame(to, length)?;
         self.bundles()?;
@@ -1003,7 +1147,7 @@ impl Generator<'_> {
                 Ru::Ready { .. } => self.random.pick(&[0, 0, 0, 0, 0, 0, 3, 4]),
             };
         }
-        if fails(self.device()) && self.random.chance(40) {
+        if fails(self.device()) && self.random.chance(50) {
             cuc = 4;
         }
         if out(self.device()) && self.random.chance(25) {
@@ -1117,7 +1261,7 @@ impl Generator<'_> {
         let count = if self.random.chance(15) { self.random.pick(&[11, 12, 10, 9, 8]) } else { count };
         let mut bytes: Vec<u8> = (0..14).map(|_| self.random.byte()).collect();
         bytes[0] = count;
-        bytes[3] = match self.random.below(20) {
+        bytes[3] = match self.random.below(18) {
             0 => self.random.byte(),
             1 | 2 => 0x26 ^ 1 << self.random.below(3),
             3 | 4 => 0x2E,
@@ -1386,7 +1530,7 @@ impl Generator<'_> {
         let out = 15 + room;
         let length = match self.random.below(24) {
             8..=16 if self.device().save_bad && out + 4 < minimum => out + self.random.below(minimum - 4 - out),
-            0 => self.random.pick(&[0, 1, 5, 6, 12, 13, 13, 13]),
+            0 => self.random.pick(&[0, 0, 1, 6, 12, 13, 13, 13]),
             1 => 14,
             2 => self.random.pick(&[13, 14, 15]),
             3 | 4 => (minimum.max(6) - 6 + self.random.below(4)).min(2048),

@@ -1,56 +1,19 @@
--- The turns of the loops that copy, and that bytes of memory which do not pass its end are a run of the list. The laws of runs have the index i
--- at which the bytes begin and the test by which the code chose its way. Assumes nothing.
+-- What the copies by stretches rest on: bytes up to the end of memory are a run of the list, and those behind it are read and put from 0 on.
+-- `bytes-stretch` and `put-stretch` say it; the rest is a turn of each loop, and what k bytes from index i on are of n from address a on.
+-- Assumes nothing.
 use mathlib.Core.Path.{_≡_, refl, sym, ap, _∙_}
-use mathlib.Core.List.{List, [], _∷_}
+use mathlib.Core.List.{List, [], _∷_, _++_}
 use mathlib.Core.Logic.{⊎-elim}
 use Prim.Native.Nat.{ℕ, zero, suc, _+_, _-_, _%_, _≤_, _<_, min}
-use native.Mathlib.Nat.{mod-eq-of-lt, mod-mod}
-use native.Mathlib.Numerals.{add-one}
+use native.Mathlib.Nat.{mod-eq-of-lt, mod-mod, mod-self, zero-mod, add-assoc, sub-zero, zero-sub, suc-sub-suc}
 use native.Mathlib.Omega.{arith}
-use lib.ListN.{length, getD, set, take, drop, length-set, length-drop, length-take}
-use lib.Seq.{drop-cons, getD-drop, length-take-le, take-suc, take-all, sets}
+use lib.ListN.{length, getD, set, take, drop, replicate, length-set, length-drop, length-take, take-append-drop}
+use lib.Seq.{drop-cons, drop-drop, take-take, take-all, take-nil, length-take-le, sets, length-sets}
 use Rattle.memory.specs.Memory.{byteAt, putByte, bytesAt, putBytes}
-use Rattle.memory.proofs.Laws.{length-bytesAt, below-or-not, within, put-append, bytes-append, sets-append, sets-past}
+use Rattle.memory.proofs.Laws.{length-bytesAt, length-putBytes, below-or-not, none-get, none-set, put-append, bytes-append, sets-append, sets-past}
 use Rattle.memory.proofs.Places.{bytes-place, put-place}
 
--- ---- a turn of each loop, and that what lies past the end does not matter
-
-pub put-step : (m : List ℕ) (a : ℕ) (src : List ℕ) (at i : ℕ) → at + i < length src
-    → putByte (putBytes m a (take i (drop at src))) (a + i) (getD src (at + i) 0) ≡ putBytes m a (take (i + 1) (drop at src))
-unfolding putBytes
-put-step m a src at i h =
-    let k : i < length (drop at src) = simp length-drop (omega arith) in
-    let e : length (take i (drop at src)) ≡ i = length-take-le i (drop at src) (omega arith) in
-    sym (rw (add-one, take-suc (drop at src) i 0 k, put-append, e, getD-drop))
-
-pub put-all : (src : List ℕ) (at n : ℕ) → take (min n (length src - at)) (drop at src) ≡ take n (drop at src)
-put-all src at n =
-    let e : length (drop at src) ≡ length src - at = length-drop at src in
-    ⊎-elim
-    (λ (h : n < length src - at). let k : min n (length src - at) ≡ n = omega arith in rw k)
-    (λ (h : length src - at ≤ n).
-    let k : min n (length src - at) ≡ length src - at = omega arith in
-    rw k (take-all (length src - at) (drop at src) (omega arith) ∙ sym (take-all n (drop at src) (omega arith))))
-    (below-or-not n (length src - at))
-
-pub out-step : (m d : List ℕ) (a at i : ℕ) → sets d at (bytesAt m a (i + 1)) ≡ set (sets d at (bytesAt m a i)) (at + i) (byteAt m (a + i))
-unfolding bytesAt
-out-step m d a at i = rw (bytes-append, sets-append, length-bytesAt)
-
-pub out-all : (m d : List ℕ) (a at n : ℕ) → sets d at (bytesAt m a (min n (length d - at))) ≡ sets d at (bytesAt m a n)
-unfolding bytesAt
-out-all m d a at zero = let k : min 0 (length d - at) ≡ 0 = omega arith in rw k
-out-all m d a at (suc n) =
-    ⊎-elim
-    (λ (h : at < length d).
-    let k : min (suc n) (length d - at) ≡ suc (min n (length d - suc at)) = omega arith in
-    let l : length (set d at (byteAt m a)) ≡ length d = length-set d at (byteAt m a) in
-    rw (k, ← l) (out-all m (set d at (byteAt m a)) (suc a) (suc at) n))
-    (λ (h : length d ≤ at).
-    sets-past d at (bytesAt m a (min (suc n) (length d - at))) h ∙ sym (sets-past d at (bytesAt m a (suc n)) h))
-    (below-or-not at (length d))
-
--- ---- stretches
+-- ---- what does not pass the end of memory is a run of the list; past its end memory begins again
 
 bytes-run : (m : List ℕ) (i k : ℕ) → i + k ≤ length m → take k (drop i m) ≡ bytesAt m i k
 unfolding bytesAt byteAt
@@ -66,17 +29,195 @@ put-run m i (b ∷ bs) h =
     let l : i < length m = omega arith in
     rw (mod-eq-of-lt l) (put-run (set m i b) (suc i) bs (rw length-set (omega arith)))
 
-pub out-run : (m d : List ℕ) (a i at n k : ℕ) → i ≡ a % length m → (length m ≡ 0 → ⊥) → k ≡ min n (length d - at) → k ≤ length m - i
-    → sets d at (take k (drop i m)) ≡ sets d at (bytesAt m a n)
-out-run m d a i at n k e p f h =
-    let r : i < length m = within a (length m) i e p in
-    let s : i % length m ≡ a % length m = rw e (mod-mod a (length m)) in
-    rw (bytes-run m i k (omega arith), bytes-place m i a k s, f) (out-all m d a at n)
+-- the place behind the last byte is the first
+start-again : (j n : ℕ) → j ≡ n → j % n ≡ 0 % n
+start-again j n e = rw e (mod-self n ∙ sym (zero-mod n))
 
-pub in-run : (m src : List ℕ) (a i at n k : ℕ) → i ≡ a % length m → (length m ≡ 0 → ⊥) → k ≡ min n (length src - at) → k ≤ length m - i
-    → sets m i (take k (drop at src)) ≡ putBytes m a (take n (drop at src))
-in-run m src a i at n k e p f h =
-    let r : i < length m = within a (length m) i e p in
+bytes-on : (m : List ℕ) (j n : ℕ) → (0 < n → j % length m ≡ 0 % length m) → bytesAt m j n ≡ bytesAt m 0 n
+unfolding bytesAt
+bytes-on m j zero h = refl
+bytes-on m j (suc n) h = bytes-place m j 0 (suc n) (h (omega arith))
+
+put-on : (m : List ℕ) (j : ℕ) (bs : List ℕ) → (0 < length bs → j % length m ≡ 0 % length m) → putBytes m j bs ≡ putBytes m 0 bs
+unfolding putBytes
+put-on m j [] h = refl
+put-on m j (b ∷ bs) h = put-place m j 0 (b ∷ bs) (h (omega arith))
+
+-- ---- the law of stretches
+
+-- the n bytes from index i on are the k up to the end of memory, and then those from 0 on
+pub bytes-stretch : (m : List ℕ) (i n k : ℕ) → i ≤ length m → k ≡ min n (length m - i)
+    → bytesAt m i n ≡ take k (drop i m) ++ bytesAt m 0 (n - k)
+bytes-stretch m i n k h e =
+    let s : n ≡ k + (n - k) = omega arith in
+    ap (bytesAt m i) s
+    ∙ bytes-append m i k (n - k)
+    ∙ rw (bytes-run m i k (omega arith), bytes-on m (i + k) (n - k) (λ (p : 0 < n - k). start-again (i + k) (length m) (omega arith)))
+
+-- its twin: of the bytes put from index i on the first k go up to the end of memory, and then the others from 0 on
+pub put-stretch : (m : List ℕ) (i : ℕ) (bs : List ℕ) (k : ℕ) → i ≤ length m → k ≡ min (length bs) (length m - i)
+    → putBytes m i bs ≡ putBytes (sets m i (take k bs)) 0 (drop k bs)
+put-stretch m i bs k h e =
+    let t : length (take k bs) ≡ k = length-take-le k bs (omega arith) in
+    let d : length (drop k bs) ≡ length bs - k = length-drop k bs in
+    let l : length (putBytes m i (take k bs)) ≡ length m = length-putBytes m i (take k bs) in
+    ap (putBytes m i) (sym (take-append-drop k bs))
+    ∙ put-append m i (take k bs) (drop k bs)
+    ∙ rw
+    (t, put-run m i (take k bs) (omega arith))
+    (put-on (putBytes m i (take k bs)) (i + k) (drop k bs)
+    (λ (p : 0 < length (drop k bs)). start-again (i + k) (length (putBytes m i (take k bs))) (omega arith)))
+
+-- ---- a stretch of both loops: it lies within both areas, and is not empty
+
+pub fits : (len at k done run most : ℕ) → k ≤ len - at → run ≡ min (k - done) most → run ≤ len - (at + done)
+fits len at k done run most h e = omega arith
+
+pub up-to-the-end : (i len left run : ℕ) → i < len → run ≡ min left (len - i) → i + run ≤ len
+up-to-the-end i len left run h e = omega arith
+
+reaches : (i len left run : ℕ) → i < len → run ≡ min left (len - i) → 0 < left - run → i + run ≡ len
+reaches i len left run h e q = omega arith
+
+some-left : (l n k : ℕ) → l ≡ min n k → 0 < l → 0 < n
+some-left l n k e h = omega arith
+
+pub in-left : (left most run : ℕ) → run ≡ min left most → run ≤ left
+in-left left most run e = omega arith
+
+pub in-reach : (left most run : ℕ) → run ≡ min left most → run ≤ most
+in-reach left most run e = omega arith
+
+pub gains : (k done i len run : ℕ) → done < k → i < len → run ≡ min (k - done) (len - i) → k - (done + run) < k - done
+gains k done i len run h p e = omega arith
+
+-- ---- out of memory: a turn of the loop; k bytes from index i on, for n from address a on; the empty memory
+
+pub out-turn : (m d : List ℕ) (at i k done run : ℕ) → i < length m → done ≤ k → run ≡ min (k - done) (length m - i)
+    → sets (sets d (at + done) (take run (drop i m))) (at + (done + run)) (bytesAt m ((i + run) % length m) (k - (done + run)))
+    ≡ sets d (at + done) (bytesAt m i (k - done))
+out-turn m d at i k done run h p e =
+    let t : length (take run (drop i m)) ≡ run = length-take-le run (drop i m) (rw length-drop (omega arith)) in
+    let r : k - (done + run) ≡ k - done - run = omega arith in
+    let o : bytesAt m ((i + run) % length m) (k - done - run) ≡ bytesAt m 0 (k - done - run) =
+    bytes-on m ((i + run) % length m) (k - done - run)
+    (λ (q : 0 < k - done - run). mod-mod (i + run) (length m) ∙ start-again (i + run) (length m) (reaches i (length m) (k - done) run h e q)) in
+    sym (rw (bytes-stretch m i (k - done) run (omega arith) e, sets-append, t, r, o, add-assoc))
+
+-- nothing is left
+pub out-end : (m d e : List ℕ) (to i k done : ℕ) → k ≤ done → sets d to (bytesAt m i (k - done)) ≡ e → d ≡ e
+unfolding bytesAt
+out-end m d e to i k done h inv =
+    let z : k - done ≡ 0 = omega arith in
+    let w : sets d to (bytesAt m i (k - done)) ≡ d = rw z in
+    sym w ∙ inv
+
+out-all : (m d : List ℕ) (a at n : ℕ) → sets d at (bytesAt m a (min n (length d - at))) ≡ sets d at (bytesAt m a n)
+unfolding bytesAt
+out-all m d a at zero = let k : min 0 (length d - at) ≡ 0 = omega arith in rw k
+out-all m d a at (suc n) =
+    ⊎-elim
+    (λ (h : at < length d).
+    let k : min (suc n) (length d - at) ≡ suc (min n (length d - suc at)) = omega arith in
+    let l : length (set d at (byteAt m a)) ≡ length d = length-set d at (byteAt m a) in
+    rw (k, ← l) (out-all m (set d at (byteAt m a)) (suc a) (suc at) n))
+    (λ (h : length d ≤ at).
+    sets-past d at (bytesAt m a (min (suc n) (length d - at))) h ∙ sym (sets-past d at (bytesAt m a (suc n)) h))
+    (below-or-not at (length d))
+
+pub out-whole : (m d : List ℕ) (a i at n k : ℕ) → i ≡ a % length m → k ≡ min n (length d - at)
+    → sets d at (bytesAt m i k) ≡ sets d at (bytesAt m a n)
+out-whole m d a i at n k e f =
     let s : i % length m ≡ a % length m = rw e (mod-mod a (length m)) in
+    rw (bytes-place m i a k s, f) (out-all m d a at n)
+
+pub out-run : (m d : List ℕ) (i at k : ℕ) → i < length m → k ≤ length m - i → sets d at (take k (drop i m)) ≡ sets d at (bytesAt m i k)
+out-run m d i at k h l = rw (bytes-run m i k (omega arith))
+
+bytes-none : (m : List ℕ) (a n : ℕ) → length m ≡ 0 → bytesAt m a n ≡ replicate n 0
+unfolding bytesAt
+bytes-none m a zero e = refl
+bytes-none m a (suc n) e = rw (none-get m a e) (ap (λ (r : List ℕ). 0 ∷ r) (bytes-none m (suc a) n e))
+
+pub out-none : (m d : List ℕ) (a at n k : ℕ) → length m ≡ 0 → k ≡ min n (length d - at)
+    → sets d at (replicate k 0) ≡ sets d at (bytesAt m a n)
+out-none m d a at n k e f = rw (← bytes-none m a k e, f) (out-all m d a at n)
+
+pub out-nowhere : (m d : List ℕ) (a at n k : ℕ) → k ≡ min n (length d - at) → k ≡ 0 → d ≡ sets d at (bytesAt m a n)
+unfolding bytesAt
+out-nowhere m d a at n k f z =
+    let e : min n (length d - at) ≡ 0 = omega arith in
+    let w : sets d at (bytesAt m a (min n (length d - at))) ≡ d = rw e in
+    sym w ∙ out-all m d a at n
+
+-- ---- into memory: the same
+
+drop-take : (r n : ℕ) (l : List ℕ) → drop r (take n l) ≡ take (n - r) (drop r l)
+drop-take zero n l = rw sub-zero
+drop-take (suc r) zero l = rw zero-sub
+drop-take (suc r) (suc n) [] = sym (take-nil (suc n - suc r))
+drop-take (suc r) (suc n) (x ∷ l) = rw suc-sub-suc (drop-take r n l)
+
+pub in-turn : (m src : List ℕ) (at i k done run : ℕ) → i < length m → k ≤ length src - at → done ≤ k → run ≡ min (k - done) (length m - i)
+    → putBytes (sets m i (take run (drop (at + done) src))) ((i + run) % length m) (take (k - (done + run)) (drop (at + (done + run)) src))
+    ≡ putBytes m i (take (k - done) (drop (at + done) src))
+in-turn m src at i k done run h q p e =
+    let t : length (take (k - done) (drop (at + done) src)) ≡ k - done =
+    length-take-le (k - done) (drop (at + done) src) (rw length-drop (omega arith)) in
+    let r : k - (done + run) ≡ k - done - run = omega arith in
+    let w : length (take (k - done - run) (drop (at + done + run) src)) ≡ min (k - done - run) (length (drop (at + done + run) src)) =
+    length-take (k - done - run) (drop (at + done + run) src) in
+    let l : length (sets m i (take run (drop (at + done) src))) ≡ length m = length-sets m i (take run (drop (at + done) src)) in
+    let o : putBytes (sets m i (take run (drop (at + done) src))) ((i + run) % length m) (take (k - done - run) (drop (at + done + run) src))
+    ≡ putBytes (sets m i (take run (drop (at + done) src))) 0 (take (k - done - run) (drop (at + done + run) src)) =
+    put-on
+    (sets m i (take run (drop (at + done) src)))
+    ((i + run) % length m)
+    (take (k - done - run) (drop (at + done + run) src))
+    (λ (z : 0 < length (take (k - done - run) (drop (at + done + run) src))).
+    rw l (mod-mod (i + run) (length m) ∙ start-again (i + run) (length m) (reaches i (length m) (k - done) run h e (some-left _ _ _ w z)))) in
+    sym
+    (rw (
+      put-stretch m i (take (k - done) (drop (at + done) src)) run (omega arith) (rw t e),
+      take-take run (k - done) (drop (at + done) src) (in-left (k - done) (length m - i) run e),
+      drop-take,
+      drop-drop,
+      r,
+      ← add-assoc,
+      o,
+    ))
+
+pub in-end : (m e src : List ℕ) (i k done : ℕ) → k ≤ done → putBytes m i (take (k - done) src) ≡ e → m ≡ e
+unfolding putBytes
+in-end m e src i k done h inv =
+    let z : k - done ≡ 0 = omega arith in
+    let w : putBytes m i (take (k - done) src) ≡ m = rw z in
+    sym w ∙ inv
+
+in-all : (src : List ℕ) (at n : ℕ) → take (min n (length src - at)) (drop at src) ≡ take n (drop at src)
+in-all src at n =
+    let e : length (drop at src) ≡ length src - at = length-drop at src in
+    ⊎-elim
+    (λ (h : n < length src - at). let k : min n (length src - at) ≡ n = omega arith in rw k)
+    (λ (h : length src - at ≤ n).
+    let k : min n (length src - at) ≡ length src - at = omega arith in
+    rw k (take-all (length src - at) (drop at src) (omega arith) ∙ sym (take-all n (drop at src) (omega arith))))
+    (below-or-not n (length src - at))
+
+pub in-whole : (m src : List ℕ) (a i at n k : ℕ) → i ≡ a % length m → k ≡ min n (length src - at)
+    → putBytes m i (take k (drop at src)) ≡ putBytes m a (take n (drop at src))
+in-whole m src a i at n k e f =
+    let s : i % length m ≡ a % length m = rw e (mod-mod a (length m)) in
+    let t : take k (drop at src) ≡ take n (drop at src) = rw f (in-all src at n) in
+    put-place m i a (take k (drop at src)) s ∙ ap (putBytes m a) t
+
+pub in-run : (m src : List ℕ) (i at k : ℕ) → i < length m → k ≤ length m - i
+    → sets m i (take k (drop at src)) ≡ putBytes m i (take k (drop at src))
+in-run m src i at k h l =
     let t : length (take k (drop at src)) ≡ min k (length (drop at src)) = length-take k (drop at src) in
-    put-run m i (take k (drop at src)) (omega arith) ∙ put-place m i a (take k (drop at src)) s ∙ ap (putBytes m a) (rw f (put-all src at n))
+    put-run m i (take k (drop at src)) (omega arith)
+
+pub in-none : (m : List ℕ) (a : ℕ) (bs : List ℕ) → length m ≡ 0 → m ≡ putBytes m a bs
+unfolding putBytes
+in-none m a [] e = refl
+in-none m a (b ∷ bs) e = rw (none-set m a b e) (in-none m (suc a) bs e)

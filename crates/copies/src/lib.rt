@@ -1,64 +1,74 @@
-// Copies between shared memory and other slices: runs of bytes whose addresses are taken modulo memory's length, byte by byte, as the room
-// memory takes each of them. They take every length and index.
+// Copies between shared memory and other slices, by stretches: bytes up to the end of memory are one run, and those behind it are a run from
+// its start. They take every length and index.
 use memory::RealAddress;
 ghost use mathlib.Core.Path.{_≡_};
-ghost use lib.ListN.{take, drop};
+ghost use Prim.Native.Nat.{_-_, _≤_, _<_};
+ghost use lib.ListN.{length, take, drop};
 ghost use lib.Seq.{sets};
 ghost use Rattle.memory.specs.Memory.{bytesAt, putBytes};
 
-// What `copy_out` does, byte by byte, as each address wraps by itself.
-fn copy_around(m: &[u8], a: RealAddress, n: usize, dst: &mut [u8], at: usize)
-    ensures { λ _. ⌜ now (dst .exit) ≡ sets (now (dst .entry)) at (bytesAt (now (m .entry)) (a .0) n) ⌝ }
+// What `copy_out` does where bytes pass the end of memory: up to the end, then on from the start, as often as it takes. A call of the chip takes
+// two stretches at most, since memory has more bytes than a frame.
+fn copy_stretches(m: &[u8], i: usize, k: usize, dst: &mut [u8], at: usize)
+    requires { ⌜ (i < length (now m)) × (k ≤ length (now dst) - at) ⌝ }
+    ensures { λ _. ⌜ now (dst .exit) ≡ sets (now (dst .entry)) at (bytesAt (now (m .entry)) i k) ⌝ }
 {
-    let p = a.0 as usize;
-    let k = memory::room(dst.len(), at, n);
-    let mut i = 0;
-    while i < k {
-        dst[at + i] = memory::read(m, p + i);
-        i += 1;
+    let mut from = i;
+    let mut done = 0;
+    while done < k {
+        let run = memory::room(m.len(), from, k - done);
+        memory::copy_run(dst, at + done, m, from, run);
+        done += run;
+        from = memory::slot(from + run, m.len());
     }
 }
 
-// The n bytes of memory from a on go to dst from index at on; what would pass the end of dst goes nowhere. Bytes that do not pass the end of
-// memory are one run.
+// The n bytes of memory from a on go to dst from index at on; what would pass the end of dst goes nowhere. An empty memory reads 0.
 pub fn copy_out(m: &[u8], a: RealAddress, n: usize, dst: &mut [u8], at: usize)
     ensures { λ _. ⌜ now (dst .exit) ≡ sets (now (dst .entry)) at (bytesAt (now (m .entry)) (a .0) n) ⌝ }
 {
-    if m.len() != 0 {
-        let i = memory::slot(a.0 as usize, m.len());
-        let k = memory::room(dst.len(), at, n);
-        if k <= m.len() - i {
-            memory::copy_run(dst, at, m, i, k);
-            return;
+    let k = memory::room(dst.len(), at, n);
+    if m.len() == 0 {
+        if k != 0 {
+            numerals::clear(dst, at, k);
         }
+        return;
     }
-    copy_around(m, a, n, dst, at);
+    let i = memory::slot(a.0 as usize, m.len());
+    if k <= m.len() - i {
+        memory::copy_run(dst, at, m, i, k);
+        return;
+    }
+    copy_stretches(m, i, k, dst, at);
 }
 
-// What `copy_in` does, byte by byte, as each address wraps by itself.
-fn put_around(m: &mut [u8], a: RealAddress, src: &[u8], at: usize, n: usize)
-    ensures { λ _. ⌜ now (m .exit) ≡ putBytes (now (m .entry)) (a .0) (take n (drop at (now (src .entry)))) ⌝ }
+// What `copy_in` does where bytes pass the end of memory.
+fn put_stretches(m: &mut [u8], i: usize, src: &[u8], at: usize, k: usize)
+    requires { ⌜ (i < length (now m)) × (k ≤ length (now src) - at) ⌝ }
+    ensures { λ _. ⌜ now (m .exit) ≡ putBytes (now (m .entry)) i (take k (drop at (now (src .entry)))) ⌝ }
 {
-    let p = a.0 as usize;
-    let k = memory::room(src.len(), at, n);
-    let mut i = 0;
-    while i < k {
-        memory::write(m, p + i, src[at + i]);
-        i += 1;
+    let mut to = i;
+    let mut done = 0;
+    while done < k {
+        let run = memory::room(m.len(), to, k - done);
+        memory::copy_run(m, to, src, at + done, run);
+        done += run;
+        to = memory::slot(to + run, m.len());
     }
 }
 
-// The n bytes of src from index at on, or as many as there are, go to memory from a on; they are one run where they do not pass its end.
+// The n bytes of src from index at on, or as many as there are, go to memory from a on; an empty memory takes none.
 pub fn copy_in(m: &mut [u8], a: RealAddress, src: &[u8], at: usize, n: usize)
     ensures { λ _. ⌜ now (m .exit) ≡ putBytes (now (m .entry)) (a .0) (take n (drop at (now (src .entry)))) ⌝ }
 {
-    if m.len() != 0 {
-        let i = memory::slot(a.0 as usize, m.len());
-        let k = memory::room(src.len(), at, n);
-        if k <= m.len() - i {
-            memory::copy_run(m, i, src, at, k);
-            return;
-        }
+    if m.len() == 0 {
+        return;
     }
-    put_around(m, a, src, at, n);
+    let k = memory::room(src.len(), at, n);
+    let i = memory::slot(a.0 as usize, m.len());
+    if k <= m.len() - i {
+        memory::copy_run(m, i, src, at, k);
+        return;
+    }
+    put_stretches(m, i, src, at, k);
 }

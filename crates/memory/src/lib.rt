@@ -1,6 +1,6 @@
 // Shared memory: bytes, words and real addresses in a slice of any length, each address taken modulo that length, byte by byte.
 // The only room that makes a real address. All that the chip reads and writes in shared memory goes through here or through copies, which
-// stands on slot, read, write and copy_run; the replay program's host goes by an index, with put_run in scene, and with its own reads in texts.
+// stands on slot and copy_run; the replay program's host goes by an index, with put_run in scene, and with its own reads in texts.
 ghost use mathlib.Core.Path.{_≡_};
 ghost use mathlib.Core.List.{[], _∷_};
 ghost use Prim.Native.Nat.{_+_, _-_, _*_, _%_, _≤_, _<_, min};
@@ -72,7 +72,7 @@ pub fn slot(a: usize, n: usize) -> usize
 }
 
 // The byte at index a, modulo the length; 0 where memory is empty.
-pub fn read(m: &[u8], a: usize) -> u8
+fn read(m: &[u8], a: usize) -> u8
     ensures { λ r. ⌜ r ≡ byteAt (now (m .entry)) a ⌝ }
 {
     if m.len() == 0 {
@@ -82,7 +82,7 @@ pub fn read(m: &[u8], a: usize) -> u8
 }
 
 // The byte v goes to index a, modulo the length; nowhere where memory is empty.
-pub fn write(m: &mut [u8], a: usize, v: u8)
+fn write(m: &mut [u8], a: usize, v: u8)
     ensures { λ _. ⌜ now (m .exit) ≡ putByte (now (m .entry)) a v ⌝ }
 {
     if m.len() == 0 {
