@@ -149,7 +149,7 @@ static void nops(unsigned items)
     must(get_word(LIST_AT + 6 * (items - 1)) == (LQ_C | LQ_OK), "the last NOP is not done");
 }
 
-/* Data of a frame: length bytes in so many buffers, side by side, the last so many of them behind the end of memory. */
+/* Data of a frame: length bytes in so many buffers, side by side, the last so many of the bytes behind the end of memory. */
 struct data {
     unsigned length, buffers, behind;
 };

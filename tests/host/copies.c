@@ -1,7 +1,7 @@
 /*
  * Copies between memory and the other areas that come to the end of memory: buffers that end there, pass it, or begin at
  * its last byte, both ways, in the smallest memory and in the largest; headers and an own address at every cut. Each case
- * says its bytes itself, and those beside them, which stay.
+ * says its bytes itself; of buffers and headers those beside them too, which stay.
  */
 #include "setup.h"
 
@@ -9,7 +9,8 @@ enum { BLOCK = 0x1000, TBD = 0x1080, FD = 0x1100, RBD = 0x1180, NEXT_RBD = 0x119
 
 /* ---- buffers ---- */
 
-/* So many bytes, of which the last so many lie behind the end of memory: at most 256, where the SCB begins. */
+/* So many bytes, of which the last so many lie behind the end of memory: at most 255, since the SCB begins at 256
+   and the byte behind them is marked. */
 struct stretch {
     unsigned length, behind;
 };
@@ -111,6 +112,7 @@ static void header_sent(uint32_t place)
     const uint8_t *header = chip.lent.outgoing.bytes;
     CHECK(memcmp(header, DESTINATION, 6) == 0, "another destination was sent");
     CHECK(header[12] == 0x12 && header[13] == 0x34, "another type was sent");
+    CHECK(header[LQ_FRAME_HEADER] == 0, "a byte behind the header was written");
     chip_free(&chip);
 }
 

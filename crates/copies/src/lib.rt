@@ -7,8 +7,8 @@ ghost use lib.ListN.{length, take, drop};
 ghost use lib.Seq.{sets};
 ghost use Rattle.memory.specs.Memory.{bytesAt, putBytes};
 
-// What `copy_out` does where bytes pass the end of memory: up to the end, then on from the start, as often as it takes. A call of the chip takes
-// two stretches at most, since memory has more bytes than a frame.
+// What `copy_out` does where bytes pass the end of memory: up to the end, then on from the start, as often as it takes. No copy of the chip takes
+// more than two stretches, since memory has more bytes than a frame.
 fn copy_stretches(m: &[u8], i: usize, k: usize, dst: &mut [u8], at: usize)
     requires { ⌜ (i < length (now m)) × (k ≤ length (now dst) - at) ⌝ }
     ensures { λ _. ⌜ now (dst .exit) ≡ sets (now (dst .entry)) at (bytesAt (now (m .entry)) i k) ⌝ }
@@ -19,6 +19,7 @@ fn copy_stretches(m: &[u8], i: usize, k: usize, dst: &mut [u8], at: usize)
         let run = memory::room(m.len(), from, k - done);
         memory::copy_run(dst, at + done, m, from, run);
         done += run;
+        // 0, wherever there is more to copy.
         from = memory::slot(from + run, m.len());
     }
 }
@@ -29,6 +30,7 @@ pub fn copy_out(m: &[u8], a: RealAddress, n: usize, dst: &mut [u8], at: usize)
 {
     let k = memory::room(dst.len(), at, n);
     if m.len() == 0 {
+        // Where there is nothing to clear, at may lie past the end of dst.
         if k != 0 {
             numerals::clear(dst, at, k);
         }

@@ -1,6 +1,6 @@
 // Shared memory: bytes, words and real addresses in a slice of any length, each address taken modulo that length, byte by byte.
 // The only room that makes a real address. All that the chip reads and writes in shared memory goes through here or through copies, which
-// stands on slot and copy_run; the replay program's host goes by an index, with put_run in scene, and with its own reads in texts.
+// stands on slot, room and copy_run; the replay program's host goes by an index, with put_run in scene, and with its own reads in texts.
 ghost use mathlib.Core.Path.{_≡_};
 ghost use mathlib.Core.List.{[], _∷_};
 ghost use Prim.Native.Nat.{_+_, _-_, _*_, _%_, _≤_, _<_, min};

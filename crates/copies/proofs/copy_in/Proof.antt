@@ -1,17 +1,18 @@
--- `copies::copy_in` meets its contract: bytes that do not pass the end of memory are one run. Assumes nothing.
+-- `copies::copy_in` meets its contract: bytes that do not pass the end of memory are one run, others go by stretches, and an empty memory
+-- takes none. Assumes nothing.
 use native.Mathlib.Nat.{le-of-lt}
 use native.Mathlib.Omega.{arith}
 use borrow.Author.Needs.{needs}
 use lib.ListN.{take, drop}
 use Rattle.memory.proofs.Laws.{memory, within}
-use Rattle.copies.proofs.Laws.{in-whole, in-run, in-none}
+use Rattle.copies.proofs.Laws.{in-whole, in-run, none-puts}
 use Rattle.copies.proofs.copy_in.Statement.{statement}
 use Rattle.copies.proofs.copy_in.Tie as tie
 
 none : tie.Need-returns
 none c =
     let s : tie.Start = search needs in
-    in-none (s .args .m .now) (s .args .a .0) (take (s .args .n) (drop (s .args .at) (s .args .src .now))) (c .if1 .taken)
+    none-puts (s .args .m .now) (s .args .a .0) (take (s .args .n) (drop (s .args .at) (s .args .src .now))) (c .if1 .taken)
 
 one-run : tie.Need-returns-2
 one-run c =

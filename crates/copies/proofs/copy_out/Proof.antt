@@ -1,4 +1,5 @@
--- `copies::copy_out` meets its contract: bytes that do not pass the end of memory are one run. Assumes nothing.
+-- `copies::copy_out` meets its contract: bytes that do not pass the end of memory are one run, others go by stretches, and an empty memory
+-- reads 0. Assumes nothing.
 use native.Mathlib.Nat.{le-of-lt}
 use native.Mathlib.Omega.{arith}
 use borrow.Author.Needs.{needs}
