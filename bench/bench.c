@@ -101,12 +101,14 @@ static size_t turns(unsigned count)
     return sent;
 }
 
-static void arrival(const uint8_t *frame, size_t length)
+/* Answers why the frame was dropped. */
+static unsigned arrival(const uint8_t *frame, size_t length)
 {
     MARK_BEGIN(MARK);
     uint64_t answer = lq_arrival(AREAS, frame, length, LQ_VERDICT_GOOD);
     MARK_END(MARK);
     must(lq_number(answer) == LQ_ACCEPTED, "an arrival was refused");
+    return lq_reason(answer);
 }
 
 /* ---- what comes before a row, uncounted ---- */
@@ -221,7 +223,7 @@ static void receives(unsigned items, struct data data)
     fill_frame(frame, LQ_FRAME_HEADER + data.length, 0xFF);
     for (unsigned i = 0; i < items; i++) {
         frame[LQ_FRAME_HEADER] = (uint8_t)i;
-        arrival(frame, LQ_FRAME_HEADER + data.length);
+        must(arrival(frame, LQ_FRAME_HEADER + data.length) == LQ_NOT_DROPPED, "a frame was dropped");
         turns(2 + data.buffers);
         must(get_word(FD_AT + 32 * (i % 2)) == (LQ_C | LQ_OK), "a frame was not stored");
         must(stands_at(begin, frame + LQ_FRAME_HEADER, data.length), "other bytes were stored");
@@ -261,7 +263,8 @@ static void dropped(unsigned items, uint8_t to)
     put_word(SCB_AT + LQ_SCB_RFA, FD_AT);
     command(LQ_RUC(LQ_START));
     fill_frame(frame, 60, to);
-    for (unsigned i = 0; i < items; i++) arrival(frame, 60);
+    for (unsigned i = 0; i < items; i++)
+        must(arrival(frame, 60) == LQ_DROPPED_NO_MATCH, "a frame that is not for us was not dropped for that");
     must(lq_number(lq_turn(AREAS, 0)) == LQ_ACCEPTED && get_word(FD_AT) == 0, "a frame that is not for us was held");
 }
 

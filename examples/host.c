@@ -1,7 +1,7 @@
 /*
  * An emulator's side of the chip, in small: the board that lends its areas, the line, and a driver as it would run on
  * the emulated processor. It initialises the chip, configures it, sets its address, sends two frames and receives
- * three. examples/host.expected is what it prints.
+ * three of five. examples/host.expected is what it prints.
  *
  *     cc -Iinclude examples/host.c target/staticlib/liblentoquist.a -o host && ./host
  */
@@ -61,14 +61,41 @@ static void print_frame(const uint8_t *frame, size_t length)
 
 /* ---- the emulator: calls, and what it does with their answers ---- */
 
-/* A refusal is a mistake of the emulator. The length says that a frame was sent: it is taken from the outgoing area
-   at once. The edge is what an edge-triggered interrupt controller wants; the level is in the record. */
+static const char *why_refused(unsigned number)
+{
+    switch (number) {
+    case LQ_REFUSED_MEMORY: return "memory has a wrong length";
+    case LQ_REFUSED_RECORD: return "the record has a wrong length";
+    case LQ_REFUSED_HOLDING: return "the holding area has a wrong length";
+    case LQ_REFUSED_OUTGOING: return "the outgoing area has a wrong length";
+    case LQ_REFUSED_OVERLONG: return "the frame is too long";
+    case LQ_REFUSED_FOREIGN: return "the record is not a chip's";
+    default: return "there is no such refusal";
+    }
+}
+
+static const char *why_dropped(unsigned reason)
+{
+    switch (reason) {
+    case LQ_DROPPED_TOO_FEW: return "it has no whole header";
+    case LQ_DROPPED_NO_MATCH: return "it is not for this station";
+    case LQ_DROPPED_IDLE: return "the receive unit is Idle";
+    case LQ_DROPPED_SUSPENDED: return "the receive unit is Suspended";
+    case LQ_DROPPED_BAD: return "it is bad and such frames are not saved";
+    default: return "there is no such reason";
+    }
+}
+
+/* A refusal is a mistake of the emulator; a dropped frame is none, but worth a line to whoever writes the driver. The
+   length says that a frame was sent: it is taken from the outgoing area at once. The edge is what an edge-triggered
+   interrupt controller wants; the level is in the record. */
 static void take(const char *call, uint64_t answer)
 {
     if (lq_number(answer) != LQ_ACCEPTED) {
-        printf("%s was refused by %u\n", call, lq_number(answer));
+        printf("%s was refused by %u: %s\n", call, lq_number(answer), why_refused(lq_number(answer)));
         exit(1);
     }
+    if (lq_reason(answer) != LQ_NOT_DROPPED) printf("chip:   drops it: %s\n", why_dropped(lq_reason(answer)));
     if (lq_length(answer) > 0) {
         printf("line:   sent, ");
         print_frame(outgoing, lq_length(answer));
@@ -126,6 +153,7 @@ enum {
 
 static const uint8_t OWN[6] = {0x02, 0x07, 0x01, 0x00, 0x00, 0x2A};
 static const uint8_t PEER[6] = {0x02, 0x07, 0x01, 0x00, 0x00, 0x2B};
+static const uint8_t THIRD[6] = {0x02, 0x07, 0x01, 0x00, 0x00, 0x2C};
 static const uint8_t EVERYONE[6] = {0xFF, 0xFF, 0xFF, 0xFF, 0xFF, 0xFF};
 
 /* The command word, then channel attention. The chip clears the word when it has obeyed it. */
@@ -270,13 +298,18 @@ static void print_received(uint32_t descriptor)
     printf(", in %u buffer%s\n", used, used == 1 ? "" : "s");
 }
 
-static void receive(uint32_t descriptor, const uint8_t *destination, size_t length)
+static void come(const uint8_t *destination, size_t length)
 {
     uint8_t frame[LQ_FRAME_MAX];
     memcpy(frame, destination, 6);
     memcpy(frame + 6, PEER, 6);
     for (size_t i = 12; i < length; i++) frame[i] = (uint8_t)i;
     arrival(frame, length);
+}
+
+static void receive(uint32_t descriptor, const uint8_t *destination, size_t length)
+{
+    come(destination, length);
     slice(8);
     print_received(descriptor);
     handle_interrupt();
@@ -289,8 +322,10 @@ int main(void)
     initialise();
     configure();
     send_two();
+    come(OWN, 60); /* too early */
     start_receiving();
     receive(FRAMES, OWN, 60);
+    come(THIRD, 60); /* passes by */
     receive(FRAMES + 32, OWN, 14 + 150); /* three buffers of 64 */
     receive(FRAMES + 64, EVERYONE, 64);
     printf("driver: status %04Xh, lost for want of resources %u\n", get_word(SCB + LQ_SCB_STATUS),

@@ -43,7 +43,7 @@ extern "C" {
 #endif
 
 /* The version of this interface and of the archive: pkg-config's too, which has it from here. The record's is below. */
-#define LQ_VERSION "0.1.0"
+#define LQ_VERSION "0.2.0"
 
 /* ---- Sizes. Use these constants and no numbers: the holding area will grow. ---- */
 
@@ -85,16 +85,19 @@ uint64_t lq_run(uint8_t *memory, size_t memory_len, uint8_t *holding, size_t hol
                 uint8_t *outgoing, size_t outgoing_len, uint8_t *record, size_t record_len,
                 uint16_t report, uint16_t budget);
 
-/* ---- Answers: number in bits 0-15, length in bits 16-31, edge in bit 32, of a run the turns in bits 48-63. The other
-   bits are 0 and reserved. ---- */
+/* ---- Answers: number in bits 0-15, length in bits 16-31, edge in bit 32, of an arrival the reason in bits 40-47, of a
+   run the turns in bits 48-63. The other bits are 0 and reserved. ---- */
 
-/* The number: LQ_ACCEPTED, or why the call was refused. The lowest one that applies is given. A refused call has
-   changed nothing, and its length and edge are 0. Compare with these constants only: number 2 will become 21 to 23. */
+/* The number: LQ_ACCEPTED, or why the call was refused: the first of these, in this order, that applies. A refused call
+   has changed nothing, and the rest of its answer is 0. Every call but lq_reset tests all of them, used or not; lq_reset
+   gives LQ_REFUSED_RECORD and no other. */
 #define LQ_ACCEPTED         0
-#define LQ_REFUSED_MEMORY   1 /* memory_len is not a power of two, or out of bounds */
-#define LQ_REFUSED_AREA     2 /* holding, outgoing or record has the wrong length; all are tested at every call */
-#define LQ_REFUSED_OVERLONG 3 /* the frame has more than LQ_FRAME_MAX bytes */
-#define LQ_REFUSED_FOREIGN  4 /* the record is no image of a state: never reset, edited, or of another version */
+#define LQ_REFUSED_MEMORY   1  /* memory_len is not a power of two, or out of bounds */
+#define LQ_REFUSED_RECORD   21 /* record_len is not LQ_RECORD_SIZE */
+#define LQ_REFUSED_HOLDING  22 /* holding_len is not LQ_HOLDING_SIZE */
+#define LQ_REFUSED_OUTGOING 23 /* outgoing_len is not LQ_OUTGOING_SIZE */
+#define LQ_REFUSED_OVERLONG 3  /* the frame has more than LQ_FRAME_MAX bytes */
+#define LQ_REFUSED_FOREIGN  4  /* the record is no image of a state: never reset, edited, or of another version */
 
 static inline unsigned lq_number(uint64_t answer)
 {
@@ -111,6 +114,21 @@ static inline size_t lq_length(uint64_t answer)
 static inline bool lq_edge(uint64_t answer)
 {
     return (answer >> 32 & 1) != 0;
+}
+
+/* Why an arriving frame was dropped. The chip asks in this order, and the first that applies is the reason.
+   LQ_NOT_DROPPED: it is held; or it was lost and counted, by OVRNERRS since a frame was held, by RSCERRS since there were
+   no resources; or the call was refused. The answers of all other calls have it too. */
+#define LQ_NOT_DROPPED       0
+#define LQ_DROPPED_TOO_FEW   1 /* it has fewer than LQ_FRAME_HEADER bytes */
+#define LQ_DROPPED_NO_MATCH  2 /* it is not addressed to this chip */
+#define LQ_DROPPED_IDLE      3 /* the receive unit is Idle: not started, or the chip is not initialised yet */
+#define LQ_DROPPED_SUSPENDED 4 /* the receive unit is Suspended */
+#define LQ_DROPPED_BAD       5 /* short, or the verdict is bad, and it is not saved; CRCERRS or ALNERRS may have grown */
+
+static inline unsigned lq_reason(uint64_t answer)
+{
+    return (unsigned)(answer >> 40 & 0xFF);
 }
 
 /* How many turns a run has taken, the last one included; 0 if it was refused, and in the answers of all other calls.

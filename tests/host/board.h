@@ -31,7 +31,8 @@
 /* 60 bytes to an address */
 #define TO(a, b, c, d, e, f) (&(const struct frame_form){6, {a, b, c, d, e, f}, 1, 1, 54})
 
-/* n bytes FFh, also behind a first byte */
+/* n bytes 02h; n bytes FFh, also behind a first byte */
+#define TWOS(n_) (&(const struct frame_form){0, {0}, 2, 0, n_})
 #define ONES(n_) (&(const struct frame_form){0, {0}, 255, 0, n_})
 #define ONES_AFTER(first, n_) (&(const struct frame_form){1, {first}, 255, 0, n_})
 
@@ -59,8 +60,9 @@
 #define TURNED(words_) STEP(NOTHING, TURN(0), QUIET, words_, UNSAID)
 #define TURNED_TIMES(times_, words_) {TURN(0), QUIET, .words = words_, .times = times_}
 
-/* a frame that comes */
-#define CAME(form, v, words_) STEP(NOTHING, ARRIVE(form, v), QUIET, words_, UNSAID)
+/* a frame that comes and is dropped for a reason; one that comes and is held, or lost and counted */
+#define DROPPED(reason_, form, v, words_) {ARRIVE(form, v), QUIET, .reason = reason_, .words = words_}
+#define CAME(form, v, words_) DROPPED(LQ_NOT_DROPPED, form, v, words_)
 
 /* the first attention */
 #define INITIALISED STEP(NOTHING, ATTENTION, EDGE, WORDS({0x30, 0xA000}), HIGH)

@@ -253,7 +253,7 @@ static void put_chain(struct chip *chip, unsigned n, unsigned bytes)
 /* Sends the chain at TBD; answers its status and the length, and checks the number of turns. */
 static unsigned sends(struct chip *chip, unsigned expected_turns, uint16_t report, unsigned *length)
 {
-    struct answer answer = {0, 0, false, 0};
+    struct answer answer = {.length = 0};
     put_transmit(chip, BLOCK, LQ_EL, 0, TBD);
     start_cu(chip, BLOCK);
     for (unsigned i = 0; i < expected_turns; i++) {

@@ -49,12 +49,12 @@
     SETTLING(WORDS({0x80, 0xA000}))
 
 /* all FFh in the list does not help where broadcast is disabled; promiscuous does */
-#define LISTED_ONES(byte, descriptor) \
+#define LISTED_ONES(byte, descriptor, why) \
     CASE("listed ones", \
          LISTED_AND_SET(0xFFFF, 0xFFFF, 0xFFFF, byte), \
          BOTH_DONE, \
          RECEIVING, \
-         CAME(BROADCAST(46), GOOD, NOTHING), \
+         DROPPED(why, BROADCAST(46), GOOD, NOTHING), \
          TURNED(WORDS({0x60, descriptor})))
 
 /* all FFh passes by no bit, not even by its own, 59, which AB-00-00-02-00-00 shares: with broadcast disabled that group
@@ -64,7 +64,7 @@
          LISTED_AND_SET(first, second, third, 2), \
          BOTH_DONE, \
          RECEIVING, \
-         CAME(BROADCAST(46), GOOD, NOTHING), \
+         DROPPED(LQ_DROPPED_NO_MATCH, BROADCAST(46), GOOD, NOTHING), \
          TURNED(WORDS({0x60, 0})), \
          CAME(TO(0xAB, 0, 0, 2, 0, 0), GOOD, NOTHING), \
          TURNED(WORDS({0x60, 0x4000})))
@@ -79,19 +79,19 @@
 
 /* which bytes a count takes: with byte 10, 0, taken 59 bytes are held; with byte 8, 1, taken another's
    frame is */
-#define TAKES_MINIMUM(count, descriptor) \
+#define TAKES_MINIMUM(count, descriptor, why) \
     CASE("takes minimum", WORDS({0x42, 0x8002}, {0x46, count}, {0x48, 0x0600}, DESCRIPTORS, BOARD), \
          CONFIGURED, \
          RECEIVING, \
-         CAME(BROADCAST(45), GOOD, NOTHING), \
+         DROPPED(why, BROADCAST(45), GOOD, NOTHING), \
          TURNED(WORDS({0x60, descriptor})))
 
-#define TAKES_PROMISCUOUS(count, descriptor) \
+#define TAKES_PROMISCUOUS(count, descriptor, why) \
     CASE("takes promiscuous", \
          WORDS({0x42, 0x8002}, {0x46, count}, {0x48, 0x0600}, {0x4E, 1}, {0x50, 0x40}, DESCRIPTORS, BOARD), \
          CONFIGURED, \
          RECEIVING, \
-         CAME(COUNTING_AFTER(2, 2, 59), GOOD, NOTHING), \
+         DROPPED(why, COUNTING_AFTER(2, 2, 59), GOOD, NOTHING), \
          TURNED(WORDS({0x60, descriptor})))
 
 /* a group is listed; a second MC-Setup, with any count, is done and leaves nothing of that filter. In its list stand
@@ -107,8 +107,26 @@
          TURNED(NOTHING), \
          SETTLING(WORDS({0x80, 0xA000}, {0x30, 0x2000})), \
          RECEIVING, \
-         CAME(TO(3, 2, 0, 0, 0, 0), GOOD, NOTHING), \
+         DROPPED(LQ_DROPPED_NO_MATCH, TO(3, 2, 0, 0, 0, 0), GOOD, NOTHING), \
          TURNED(WORDS({0x60, 0})))
+
+/* a frame is stored in the last frame descriptor */
+#define STORED_LAST \
+    INITIALISED, \
+    RECEIVING, \
+    CAME(BROADCAST(46), GOOD, NOTHING), \
+    TURNED(NOTHING), \
+    TURNED(NOTHING), \
+    SETTLING(WORDS({0x30, 0x5020}))
+
+/* an attention that leaves a single event set reports an edge, whichever it is */
+#define ONE_LEFT(acknowledged, left) \
+    CASE("one left", WORDS(BOARD), INITIALISED, RAISING(acknowledged, WORDS({0x30, left})))
+
+#define ONE_LEFT_STORED(acknowledged, left) \
+    CASE("one left stored", WORDS({0x62, 0x8000}, DESCRIPTORS, BUFFER_AT(0xA0, 0xAA, 0xC0, 46), BOARD), \
+         STORED_LAST, \
+         RAISING(acknowledged, WORDS({0x30, left})))
 
 #define SENDING \
     {0x42, 0x8004}, {0x46, 0xA0}, {0x48, 0x0201}, {0x4E, 0x0900}, {0xA0, 0x4002}, {0xA2, 0xB0}, {0xA4, 0xC0}, \
@@ -147,7 +165,7 @@ static const struct worked_case cases[] = {
          STEP(WORDS({0x32, 0x0080}), ATTENTION, QUIET, WORDS({0x30, 0x2000}), LOW),
          INITIALISED,
          RECEIVING,
-         CAME(BROADCAST(45), GOOD, NOTHING),
+         DROPPED(LQ_DROPPED_BAD, BROADCAST(45), GOOD, NOTHING),
          TURNED(WORDS({0x60, 0}))),
 
     /* and the order of service: the receive unit was served last, and is served first after it */
@@ -296,8 +314,8 @@ static const struct worked_case cases[] = {
          INITIALISED,
          RECEIVING,
          CAME(BROADCAST(46), GOOD, WORDS(COUNTERS(0, 0, 0, 0))),
-         CAME(ONES(13), GOOD, WORDS(COUNTERS(0, 0, 0, 0))),
-         CAME(ONES_AFTER(2, 59), CRC, WORDS(COUNTERS(0, 0, 0, 0))),
+         DROPPED(LQ_DROPPED_TOO_FEW, ONES(13), GOOD, WORDS(COUNTERS(0, 0, 0, 0))),
+         DROPPED(LQ_DROPPED_NO_MATCH, ONES_AFTER(2, 59), CRC, WORDS(COUNTERS(0, 0, 0, 0))),
          CAME(ONES(60), CRC, WORDS(COUNTERS(0, 0, 0, 1))),
          CAME(ONES(59), MISALIGNED, WORDS(COUNTERS(0, 0, 0, 2))),
          CAME(ONES(100), GOOD, WORDS(COUNTERS(0, 0, 0, 3))),
@@ -314,10 +332,10 @@ static const struct worked_case cases[] = {
          TURNED(NOTHING),
          TURNED(NOTHING),
          SETTLING(WORDS({0x30, 0x5020})),
-         CAME(BROADCAST(46), CRC, WORDS(COUNTERS(1, 0, 0, 0))),
-         CAME(BROADCAST(46), MISALIGNED, WORDS(COUNTERS(1, 1, 0, 0))),
-         CAME(BROADCAST(45), GOOD, WORDS(COUNTERS(1, 1, 0, 0))),
-         CAME(BROADCAST(45), CRC, WORDS(COUNTERS(1, 1, 0, 0))),
+         DROPPED(LQ_DROPPED_BAD, BROADCAST(46), CRC, WORDS(COUNTERS(1, 0, 0, 0))),
+         DROPPED(LQ_DROPPED_BAD, BROADCAST(46), MISALIGNED, WORDS(COUNTERS(1, 1, 0, 0))),
+         DROPPED(LQ_DROPPED_BAD, BROADCAST(45), GOOD, WORDS(COUNTERS(1, 1, 0, 0))),
+         DROPPED(LQ_DROPPED_BAD, BROADCAST(45), CRC, WORDS(COUNTERS(1, 1, 0, 0))),
          CAME(BROADCAST(46), GOOD, WORDS(COUNTERS(1, 1, 1, 0))),
          TURNED(WORDS({0x60, 0xA000}, {0x80, 0}, {0x30, 0x5020}))),
 
@@ -325,32 +343,50 @@ static const struct worked_case cases[] = {
     CASE("other verdicts", WORDS(BOARD),
          INITIALISED,
          RECEIVING,
-         CAME(BROADCAST(46), 3, WORDS(COUNTERS(0, 1, 0, 0))),
-         CAME(BROADCAST(46), 256, WORDS(COUNTERS(0, 2, 0, 0))),
-         CAME(BROADCAST(46), 257, WORDS(COUNTERS(0, 3, 0, 0)))),
+         DROPPED(LQ_DROPPED_BAD, BROADCAST(46), 3, WORDS(COUNTERS(0, 1, 0, 0))),
+         DROPPED(LQ_DROPPED_BAD, BROADCAST(46), 256, WORDS(COUNTERS(0, 2, 0, 0))),
+         DROPPED(LQ_DROPPED_BAD, BROADCAST(46), 257, WORDS(COUNTERS(0, 3, 0, 0)))),
 
-    /* in Suspended nothing is counted */
+    /* in Suspended nothing is counted; length and match are asked before */
     CASE("suspended counts nothing", WORDS(BOARD),
          INITIALISED,
          RECEIVING,
          RAISING(0x0030, WORDS({0x30, 0x1010})),
-         CAME(BROADCAST(46), GOOD, WORDS(COUNTERS(0, 0, 0, 0))),
-         CAME(BROADCAST(46), CRC, WORDS(COUNTERS(0, 0, 0, 0))),
-         CAME(BROADCAST(46), MISALIGNED, WORDS(COUNTERS(0, 0, 0, 0))),
+         DROPPED(LQ_DROPPED_TOO_FEW, TWOS(13), CRC, WORDS(COUNTERS(0, 0, 0, 0))),
+         DROPPED(LQ_DROPPED_NO_MATCH, ONES_AFTER(2, 59), CRC, WORDS(COUNTERS(0, 0, 0, 0))),
+         DROPPED(LQ_DROPPED_SUSPENDED, BROADCAST(46), GOOD, WORDS(COUNTERS(0, 0, 0, 0))),
+         DROPPED(LQ_DROPPED_SUSPENDED, BROADCAST(46), CRC, WORDS(COUNTERS(0, 0, 0, 0))),
+         DROPPED(LQ_DROPPED_SUSPENDED, BROADCAST(46), MISALIGNED, WORDS(COUNTERS(0, 0, 0, 0))),
          TURNED(WORDS({0x60, 0}))),
     SETTINGS_AT_ARRIVAL(0x0680, 0x0600, 0x8200, 0x7020),
     SETTINGS_AT_ARRIVAL(0x0600, 0x0680, 0x0000, 0x3020),
+
+    /* RESUME does nothing to a unit that is Idle, nor to a receive unit without resources */
+    CASE("resume idle", WORDS(DESCRIPTORS, BOARD),
+         INITIALISED,
+         STEP(WORDS({0x32, 0xF220}, {0x34, 0x40}, {0x36, 0x60}), ATTENTION, QUIET, WORDS({0x30, 0}, {0x32, 0}), LOW),
+         DROPPED(LQ_DROPPED_IDLE, BROADCAST(46), GOOD, WORDS(COUNTERS(0, 0, 0, 0))),
+         TURNED(WORDS({0x40, 0}, {0x60, 0}, {0x30, 0}))),
+
+    CASE("resume no resources", WORDS({0x62, 0x8000}, DESCRIPTORS, BUFFER_AT(0xA0, 0xAA, 0xC0, 46), BOARD),
+         STORED_LAST,
+         ATTENDED(0xF020, WORDS({0x30, 0x0020})),
+         CAME(BROADCAST(46), GOOD, WORDS({0x30, 0x0020}, COUNTERS(0, 0, 1, 0)))),
+    ONE_LEFT(0x2000, 0x8000),
+    ONE_LEFT(0x8000, 0x2000),
+    ONE_LEFT_STORED(0x1000, 0x4020),
+    ONE_LEFT_STORED(0x4000, 0x1020),
 
     /* an own address with the low bit set matches, though it is not listed */
     CASE("own group", WORDS({0x42, 0x8001}, {0x46, 0x0201}, DESCRIPTORS, BOARD),
          CONFIGURED,
          RECEIVING,
-         CAME(TO(1, 3, 0, 0, 0, 0), GOOD, NOTHING),
+         DROPPED(LQ_DROPPED_NO_MATCH, TO(1, 3, 0, 0, 0, 0), GOOD, NOTHING),
          TURNED(WORDS({0x60, 0})),
          CAME(TO(1, 2, 0, 0, 0, 0), GOOD, NOTHING),
          TURNED(WORDS({0x60, 0x4000}))),
-    LISTED_ONES(2, 0),
-    LISTED_ONES(3, 0x4000),
+    LISTED_ONES(2, 0, LQ_DROPPED_NO_MATCH),
+    LISTED_ONES(3, 0x4000, LQ_NOT_DROPPED),
     BIT_OF_ONES(0xFFFF, 0xFFFF, 0xFFFF),
     BIT_OF_ONES(0x00AB, 0x0200, 0x0000),
     THIRD_BYTE(0x36, 0xA000),
@@ -360,12 +396,12 @@ static const struct worked_case cases[] = {
     THIRD_BYTE(0x0E, 0x8000),
     THIRD_BYTE(0x46, 0x8000),
     THIRD_BYTE(0x86, 0x8000),
-    TAKES_MINIMUM(0x0A, 0),
-    TAKES_MINIMUM(0x0B, 0x4000),
-    TAKES_MINIMUM(0xFF, 0x4000),
-    TAKES_PROMISCUOUS(0xF8, 0),
-    TAKES_PROMISCUOUS(0x09, 0x4000),
-    TAKES_PROMISCUOUS(0x00, 0),
+    TAKES_MINIMUM(0x0A, 0, LQ_DROPPED_BAD),
+    TAKES_MINIMUM(0x0B, 0x4000, LQ_NOT_DROPPED),
+    TAKES_MINIMUM(0xFF, 0x4000, LQ_NOT_DROPPED),
+    TAKES_PROMISCUOUS(0xF8, 0, LQ_DROPPED_NO_MATCH),
+    TAKES_PROMISCUOUS(0x09, 0x4000, LQ_NOT_DROPPED),
+    TAKES_PROMISCUOUS(0x00, 0, LQ_DROPPED_NO_MATCH),
 
     /* a Configure that is rejected changes nothing: save-bad, which it would clear, and the minimum, which it
        would make 0, stay */
@@ -393,7 +429,7 @@ static const struct worked_case cases[] = {
     CASE("thirtieth", WORDS({0x42, 0x8003}, {0x46, 180}, {0xF6, 0x0203}, BOARD),
          CONFIGURED,
          RECEIVING,
-         CAME(TO(3, 3, 0, 0, 0, 0), GOOD, NOTHING),
+         DROPPED(LQ_DROPPED_NO_MATCH, TO(3, 3, 0, 0, 0, 0), GOOD, NOTHING),
          TURNED(WORDS({0x60, 0})),
          CAME(TO(3, 2, 0, 0, 0, 0), GOOD, NOTHING),
          TURNED(WORDS({0x60, 0x4000}))),

@@ -106,6 +106,16 @@ static uint64_t dispatch(const struct areas *a, struct call c)
     }
 }
 
+/* what every answer keeps to, whatever the areas are */
+static void check_form(uint64_t answer, enum call_kind kind)
+{
+    CHECK((answer >> 33 & 0x7F) == 0, "reserved bits of the answer are set");
+    CHECK(lq_reason(answer) <= LQ_DROPPED_BAD, "there is no reason %u", lq_reason(answer));
+    CHECK(kind == CALL_ARRIVAL || lq_reason(answer) == LQ_NOT_DROPPED, "a call that is no arrival says a reason");
+    CHECK(kind == CALL_RUN || lq_turns(answer) == 0, "a call that is no run says turns");
+    CHECK(lq_number(answer) == LQ_ACCEPTED || answer == lq_number(answer), "a refusal says more than its number");
+}
+
 uint64_t call_archive(const struct areas *areas, struct call c)
 {
     step_number++;
@@ -115,8 +125,7 @@ uint64_t call_archive(const struct areas *areas, struct call c)
     check_guards(&areas->holding);
     check_guards(&areas->outgoing);
     check_guards(&areas->record);
-    CHECK((answer >> 33 & 0x7FFF) == 0, "reserved bits of the answer are set");
-    CHECK(c.kind == CALL_RUN || lq_turns(answer) == 0, "a call that is no run says turns");
+    check_form(answer, c.kind);
     return answer;
 }
 
@@ -173,6 +182,11 @@ void check_answer(struct answer found, unsigned number, unsigned length, bool ed
     CHECK(found.edge == edge, "%s, expected %s", found.edge ? "an edge" : "no edge", edge ? "one" : "none");
 }
 
+void check_reason(struct answer found, unsigned reason)
+{
+    CHECK(found.reason == reason, "the reason is %u, expected %u", found.reason, reason);
+}
+
 /* the bytes of the record that are the same in every layout */
 static void check_record(const struct chip *chip)
 {
@@ -188,7 +202,13 @@ static void check_record(const struct chip *chip)
 
 static struct answer taken_apart(uint64_t answer)
 {
-    return (struct answer){lq_number(answer), (unsigned)lq_length(answer), lq_edge(answer), lq_turns(answer)};
+    return (struct answer){
+        .number = lq_number(answer),
+        .length = (unsigned)lq_length(answer),
+        .edge = lq_edge(answer),
+        .reason = lq_reason(answer),
+        .turns = lq_turns(answer),
+    };
 }
 
 struct answer call(struct chip *chip, struct call c)
@@ -196,6 +216,7 @@ struct answer call(struct chip *chip, struct call c)
     struct answer found = taken_apart(call_archive(&chip->lent, c));
     struct answer expected = call_model(chip, c);
     check_answer(found, expected.number, expected.length, expected.edge);
+    check_reason(found, expected.reason);
     CHECK(found.turns == expected.turns, "the turns are %u, expected %u", found.turns, expected.turns);
     check_bytes("memory", chip->lent.memory.bytes, chip->modelled.memory.bytes, chip->lent.memory.length);
     check_bytes("the holding area", chip->lent.holding.bytes, chip->modelled.holding.bytes, LQ_HOLDING_SIZE);
@@ -299,7 +320,9 @@ static void run_step(struct chip *chip, const struct step *step)
         made.frame = bytes;
     }
     host_writes(chip, step);
-    check_answer(call(chip, made), LQ_ACCEPTED, step->length, step->edge);
+    struct answer found = call(chip, made);
+    check_answer(found, LQ_ACCEPTED, step->length, step->edge);
+    check_reason(found, step->reason);
     check_words(chip, step);
     check_level(chip, step->level);
 }

@@ -72,7 +72,8 @@ struct areas {
     struct area memory, holding, outgoing, record;
 };
 
-/* The call on the archive alone, with the areas as they are. Tests the answer's reserved bits and the guard bytes. */
+/* The call on the archive alone, with the areas as they are. Tests the guard bytes, and what every answer must keep to:
+   reserved bits are 0, a reason is an arrival's alone, turns are a run's alone, a refusal is its number alone. */
 uint64_t call_archive(const struct areas *areas, struct call call);
 
 /* ---- a chip under test, and the model beside it ---- */
@@ -103,6 +104,7 @@ unsigned word_of(const struct chip *chip, uint32_t place);
 /* Fails unless the word stands there. */
 void check_word(const struct chip *chip, uint32_t place, unsigned word);
 void check_answer(struct answer found, unsigned number, unsigned length, bool edge);
+void check_reason(struct answer found, unsigned reason);
 
 /* ---- worked cases, as tables ---- */
 
@@ -136,8 +138,9 @@ struct step {
     const struct frame_form *frame;
     uint32_t verdict;
     uint16_t report;
-    unsigned length; /* the answer: number 0, this length, this edge */
+    unsigned length; /* the answer: number 0, this length, this edge, this reason */
     bool edge;
+    unsigned reason;
     const struct word *words; /* words that stand in memory, and in the outgoing area, after it */
     const struct word *outgoing;
     enum level level;
@@ -170,6 +173,7 @@ void control(void);
 void commands(void);
 void hashes(uint64_t seed);
 void receiving(void);
+void reasons(void);
 void copies(void);
 void shapes(void);
 void random_calls(unsigned long calls, uint64_t seed);

@@ -55,6 +55,7 @@ int main(int argc, char **argv)
     subject("commands", commands);
     subject("hash", hash_subject);
     subject("receiving", receiving);
+    subject("reasons", reasons);
     subject("copies", copies);
     subject("shapes", shapes);
     subject("random", random_subject);

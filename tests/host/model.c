@@ -1,4 +1,4 @@
-/* See model.h. In the order of document 01; a comment names its sentence. */
+/* See model.h. In the order of document 01; a comment quotes its sentence, or that of document 02. */
 #include "model.h"
 #include "paper_hash.h"
 
@@ -27,19 +27,27 @@ unsigned model_refusal(size_t memory_len, size_t holding_len, size_t outgoing_le
                        size_t frame_len)
 {
     if (!allowed(memory_len)) return 1;
-    if (holding_len != 2048 || outgoing_len != 2048 || record_len != 256) return 2;
+    if (record_len != 256) return 21;
+    if (holding_len != 2048) return 22;
+    if (outgoing_len != 2048) return 23;
     if (frame_len > LONGEST) return 3;
     return 0;
 }
 
 static struct answer nothing(void)
 {
-    return (struct answer){0, 0, false, 0};
+    return (struct answer){.number = 0};
 }
 
 static struct answer edge_if(bool edge)
 {
-    return (struct answer){0, 0, edge, 0};
+    return (struct answer){.edge = edge};
+}
+
+/* "An arrival that is dropped also says why" */
+static struct answer dropped(enum reason reason)
+{
+    return (struct answer){.reason = reason};
 }
 
 /* ---- "Two kinds of number in one column" ---- */
@@ -379,7 +387,7 @@ static struct answer end_command(struct model *chip, struct lent l, uint16_t rep
     else cu_goes(chip, CU_ACTIVE, link);
     bool raised = ended.i || ended.el || ended.s || ended.waiting;
     if (raised) write_status(chip, l);
-    return (struct answer){0, sent, raised, 0};
+    return (struct answer){.length = sent, .edge = raised};
 }
 
 static struct answer serve_cu(struct model *chip, struct lent l, uint16_t report)
@@ -424,11 +432,13 @@ static void hold(struct model *chip, struct lent l, const uint8_t *frame, size_t
     chip->ru.save_bad = chip->settings.save_bad;
 }
 
+/* "In order": the first sentence that applies is the frame's fate, and the reason if that is to be dropped */
 struct answer model_arrival(struct model *chip, struct lent l, const uint8_t *frame, size_t length, uint32_t number)
 {
-    if (length < HEADER) return nothing();
-    if (!match(chip, frame)) return nothing();
-    if (chip->ru.state == RU_IDLE || chip->ru.state == RU_SUSPENDED) return nothing();
+    if (length < HEADER) return dropped(TOO_FEW_BYTES);
+    if (!match(chip, frame)) return dropped(NO_MATCH);
+    if (chip->ru.state == RU_IDLE) return dropped(UNIT_IDLE);
+    if (chip->ru.state == RU_SUSPENDED) return dropped(UNIT_SUSPENDED);
     if (chip->ru.phase != FRAME_NONE) {
         count(chip, l, OVRNERRS);
         return nothing();
@@ -436,13 +446,12 @@ struct answer model_arrival(struct model *chip, struct lent l, const uint8_t *fr
     enum verdict verdict = verdict_of(number);
     bool is_short = length + 4 < chip->settings.minimum;
     bool bad = is_short || verdict != VERDICT_GOOD;
+    bool ready = chip->ru.state == RU_READY;
     if (!is_short && verdict == VERDICT_MISALIGNED) count(chip, l, ALNERRS);
     if (!is_short && verdict == VERDICT_CRC) count(chip, l, CRCERRS);
-    if (chip->ru.state != RU_READY) {
-        if (!bad) count(chip, l, RSCERRS);
-        return nothing();
-    }
-    if (!bad || chip->settings.save_bad) hold(chip, l, frame, length, verdict, is_short);
+    if (bad && !(ready && chip->settings.save_bad)) return dropped(BAD_NOT_SAVED);
+    if (ready) hold(chip, l, frame, length, verdict, is_short);
+    else count(chip, l, RSCERRS);
     return nothing();
 }
 

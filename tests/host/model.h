@@ -1,7 +1,7 @@
 /*
  * Document 01 once more, in plain C: the chip with its state in a struct. The tests run it beside the archive and
- * compare every byte. It was written from document 01, and paper_hash.c from document 000, and shares no code with the
- * chip.
+ * compare every byte. It was written from document 01 and what document 02 changes of it, and paper_hash.c from
+ * document 000, and shares no code with the chip.
  */
 #ifndef MODEL_H
 #define MODEL_H
@@ -77,11 +77,15 @@ struct lent {
     uint8_t *outgoing;
 };
 
+/* why an arriving frame is dropped, in the order in which it is asked */
+enum reason { NOT_DROPPED, TOO_FEW_BYTES, NO_MATCH, UNIT_IDLE, UNIT_SUSPENDED, BAD_NOT_SAVED };
+
 struct answer {
     unsigned number;
     unsigned length;
     bool edge;
-    unsigned turns; /* of a run: how many it took */
+    unsigned reason; /* of an arrival: an enum reason */
+    unsigned turns;  /* of a run: how many it took */
 };
 
 struct answer model_reset(struct model *chip);
@@ -93,8 +97,8 @@ struct answer model_turn(struct model *chip, struct lent lent, uint16_t report);
 /* Turns in a row: until budget are taken, or one has sent a frame, reported an edge or found no work. */
 struct answer model_run(struct model *chip, struct lent lent, uint16_t report, uint16_t budget);
 
-/* The refusal that the lengths give, 0 if none: the lowest number that applies. frame_len is 0 for a call without a
-   frame. Number 4 is not the model's: it has no record. */
+/* The refusal that the lengths give, 0 if none: the first that applies of 1, 21, 22, 23, 3. frame_len is 0 for a call
+   without a frame. Number 4 is not the model's: it has no record. */
 unsigned model_refusal(size_t memory_len, size_t holding_len, size_t outgoing_len, size_t record_len,
                        size_t frame_len);
 

@@ -3,7 +3,7 @@
  * that the units get somewhere: structures of each kind stand at a few spots, which may lie over each other, and point
  * to each other.
  * From the same seed come the same calls, with every compiler: no expression draws two numbers whose order is open. At
- * the end every kind of turn must have happened often enough.
+ * the end every kind of turn, and every reason, must have happened often enough.
  */
 #include "setup.h"
 
@@ -343,7 +343,8 @@ static void check_encoding(const struct chip *chip)
 enum event {
     CU_BEGIN, CU_BUFFER, CU_END, CU_END_FAILED, CU_WAITING, RU_BEGIN, RU_BUFFER, RU_END, RU_END_OUT, RU_WAITING,
     BOTH_WORK, NO_WORK, SENT, HELD_BAD, ABORTED_COMMAND, ABORTED_FRAME, RESETTING, OVERRUN, LIST_OVER_BLOCK,
-    GROUP_PASSES, GROUP_DROPPED, EVENT_KINDS
+    GROUP_PASSES, GROUP_DROPPED, FOR_TOO_FEW, FOR_NO_MATCH, FOR_IDLE, FOR_SUSPENDED, FOR_BAD, NOT_INITIALISED, LOST,
+    SAVING_LOST, EVENT_KINDS
 };
 
 static const char *const EVENT_NAMES[EVENT_KINDS] = {
@@ -351,7 +352,10 @@ static const char *const EVENT_NAMES[EVENT_KINDS] = {
     "frames begun", "receive buffers", "frames ended", "frames out of buffers", "frames with a waiting SUSPEND",
     "turns with both units at work", "turns with no work", "frames sent", "bad frames held", "commands aborted",
     "frames aborted", "resetting attentions", "frames while one is held", "lists around memory and over their block",
-    "groups held by their bit", "groups dropped by a clear bit, others set"};
+    "groups held by their bit", "groups dropped by a clear bit, others set", "frames dropped for too few bytes",
+    "frames dropped for no match", "frames dropped in Idle", "frames dropped in Suspended", "bad frames dropped",
+    "frames for a chip that is not initialised", "good frames in No Resources",
+    "bad frames in No Resources with save-bad set"};
 
 static unsigned long happened[EVENT_KINDS];
 
@@ -388,11 +392,20 @@ static void note_attention(const struct model *before, const struct model *after
     happened[ABORTED_FRAME] += before->ru.phase > FRAME_HELD && after->ru.state == RU_IDLE;
 }
 
+static void note_reason(const struct model *before, unsigned reason)
+{
+    bool lacks = before->ru.state == RU_NO_RESOURCES;
+    if (reason != LQ_NOT_DROPPED) happened[FOR_TOO_FEW + reason - LQ_DROPPED_TOO_FEW]++;
+    happened[NOT_INITIALISED] += !before->initialised && reason == LQ_DROPPED_IDLE;
+    happened[OVERRUN] += before->ru.phase != FRAME_NONE && reason == LQ_NOT_DROPPED;
+    happened[LOST] += lacks && reason == LQ_NOT_DROPPED;
+    happened[SAVING_LOST] += lacks && before->settings.save_bad && reason == LQ_DROPPED_BAD;
+}
+
 static void note_arrival(const struct model *before, const struct model *after)
 {
     bool held = before->ru.phase == FRAME_NONE && after->ru.phase == FRAME_HELD;
     happened[HELD_BAD] += held && (after->ru.is_short || after->ru.verdict != VERDICT_GOOD);
-    happened[OVERRUN] += before->ru.phase != FRAME_NONE;
     bool group = frame_length >= LQ_FRAME_HEADER && (frame[0] & 1) && memcmp(frame, EVERYONE, 6) != 0;
     if (!group || before->settings.promiscuous || memcmp(frame, before->own, 6) == 0) return;
     bool set = (before->filter & bit_of(frame)) != 0;
@@ -424,7 +437,7 @@ static void random_call(struct board *board)
         random_attention(board);
         note_attention(&before, &board->chip.model);
     } else if (kind == CALL_ARRIVAL) {
-        random_arrival(board);
+        note_reason(&before, random_arrival(board).reason);
         note_arrival(&before, &board->chip.model);
     } else if (kind == CALL_RUN) {
         random_run(board);

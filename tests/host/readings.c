@@ -33,11 +33,11 @@
          SETTLING(WORDS({0x60, 0xA000}, {0x30, 0x4040}, __VA_ARGS__)))
 
 /* a remainder is no address: of the second address, 03-02-00-00-00-00, the last byte is counted or not */
-#define REMAINDER(count, descriptor) \
+#define REMAINDER(count, descriptor, why) \
     CASE("remainder", WORDS({0x42, 0x8003}, {0x46, count}, {0x4E, 0x0203}, DESCRIPTORS, BOARD), \
          CONFIGURED, \
          RECEIVING, \
-         CAME(TO(3, 2, 0, 0, 0, 0), GOOD, NOTHING), \
+         DROPPED(why, TO(3, 2, 0, 0, 0, 0), GOOD, NOTHING), \
          TURNED(WORDS({0x60, descriptor})))
 
 static const struct worked_case cases[] = {
@@ -50,9 +50,12 @@ static const struct worked_case cases[] = {
          STEP(NOTHING, ATTENTION, EDGE, WORDS({0x30, 0xA000}, {0x32, 0}, {0x20, 0xAB00}), HIGH),
          TURNED(WORDS({0x30, 0xA000}))),
 
-    /* before it a frame is dropped, no counter moves, and a turn finds no work */
+    /* before it a frame is dropped, no counter moves, and a turn finds no work. The unit is Idle, which is told after
+       length and match */
     CASE("nothing before", WORDS(BOARD),
-         CAME(BROADCAST(46), GOOD, WORDS({0x0C, 0}, {0x3C, 0})),
+         DROPPED(LQ_DROPPED_TOO_FEW, TWOS(13), GOOD, NOTHING),
+         DROPPED(LQ_DROPPED_NO_MATCH, ONES_AFTER(2, 59), GOOD, NOTHING),
+         DROPPED(LQ_DROPPED_IDLE, BROADCAST(46), GOOD, WORDS({0x0C, 0}, {0x3C, 0})),
          TURNED(WORDS({0x30, 0})),
          INITIALISED),
 
@@ -146,7 +149,7 @@ static const struct worked_case cases[] = {
          TURNED(NOTHING),
          TURNED(NOTHING),
          SETTLING(WORDS({0x60, 0xA000}, {0x86, 0xAA}, {0x30, 0x5010})),
-         CAME(BROADCAST(46), GOOD, WORDS({0x38, 0}, {0x3A, 0}, {0x3C, 0}, {0x3E, 0})),
+         DROPPED(LQ_DROPPED_SUSPENDED, BROADCAST(46), GOOD, WORDS({0x38, 0}, {0x3A, 0}, {0x3C, 0}, {0x3E, 0})),
          TURNED(WORDS({0x80, 0}))),
 
     /* RU abort: a begun frame's descriptor gets 0000h, no counter moves; a frame that is only held leaves no
@@ -209,7 +212,7 @@ static const struct worked_case cases[] = {
          TURNED(NOTHING),
          SETTLING(WORDS({0x80, 0x8000}, {0x30, 0x2000})),
          RECEIVING,
-         CAME(BROADCAST(46), GOOD, NOTHING),
+         DROPPED(LQ_DROPPED_NO_MATCH, BROADCAST(46), GOOD, NOTHING),
          TURNED(WORDS({0x60, 0}))),
 
     /* an own address of all FFh does not help where broadcast is disabled */
@@ -217,7 +220,7 @@ static const struct worked_case cases[] = {
          WORDS({0x42, 0x8002}, {0x46, 0x000C}, {0x48, 0x0600}, {0x4E, 0x0002}, {0x50, 0x0040}, BOARD),
          CONFIGURED,
          RECEIVING,
-         CAME(BROADCAST(46), GOOD, NOTHING),
+         DROPPED(LQ_DROPPED_NO_MATCH, BROADCAST(46), GOOD, NOTHING),
          TURNED(WORDS({0x60, 0}))),
 
     /* MC-Setup: a listed group is received; one whose bit is clear is not, nor an address with the low bit clear,
@@ -225,8 +228,8 @@ static const struct worked_case cases[] = {
     CASE("listed", WORDS({0x42, 0x8003}, {0x46, 17}, {0x48, 0x0203}, {0x4E, 0x0204}, DESCRIPTORS, BOARD),
          CONFIGURED,
          RECEIVING,
-         CAME(TO(4, 2, 0, 0, 0, 0), GOOD, NOTHING),
-         CAME(TO(3, 3, 0, 0, 0, 0), GOOD, NOTHING),
+         DROPPED(LQ_DROPPED_NO_MATCH, TO(4, 2, 0, 0, 0, 0), GOOD, NOTHING),
+         DROPPED(LQ_DROPPED_NO_MATCH, TO(3, 3, 0, 0, 0, 0), GOOD, NOTHING),
          TURNED(WORDS({0x60, 0})),
          CAME(TO(3, 2, 0, 0, 0, 0), GOOD, NOTHING),
          TURNED(WORDS({0x60, 0x4000}))),
@@ -235,7 +238,7 @@ static const struct worked_case cases[] = {
     CASE("shared bit", WORDS({0x42, 0x8003}, {0x46, 6}, {0x48, 0x0203}, DESCRIPTORS, BOARD),
          CONFIGURED,
          RECEIVING,
-         CAME(TO(3, 3, 0, 0, 0, 0), GOOD, NOTHING),
+         DROPPED(LQ_DROPPED_NO_MATCH, TO(3, 3, 0, 0, 0, 0), GOOD, NOTHING),
          TURNED(WORDS({0x60, 0})),
          CAME(TO(1, 0x0B, 0, 0, 0, 0), GOOD, NOTHING),
          TURNED(WORDS({0x60, 0x4000}))),
@@ -245,13 +248,13 @@ static const struct worked_case cases[] = {
     CASE("no group listed", WORDS({0x42, 0x8003}, {0x46, 6}, {0x48, 0x0204}, DESCRIPTORS, BOARD),
          CONFIGURED,
          RECEIVING,
-         CAME(TO(4, 2, 0, 0, 0, 0), GOOD, NOTHING),
-         CAME(TO(3, 2, 0, 0, 0, 0), GOOD, NOTHING),
+         DROPPED(LQ_DROPPED_NO_MATCH, TO(4, 2, 0, 0, 0, 0), GOOD, NOTHING),
+         DROPPED(LQ_DROPPED_NO_MATCH, TO(3, 2, 0, 0, 0, 0), GOOD, NOTHING),
          TURNED(WORDS({0x60, 0})),
          CAME(TO(1, 0x1A, 0, 0, 0, 0), GOOD, NOTHING),
          TURNED(WORDS({0x60, 0x4000}))),
-    REMAINDER(11, 0),
-    REMAINDER(12, 0x4000),
+    REMAINDER(11, 0, LQ_DROPPED_NO_MATCH),
+    REMAINDER(12, 0x4000, LQ_NOT_DROPPED),
 
     /* the count and the addresses are read at the end turn */
     CASE("listed at end", WORDS({0x42, 0x8003}, {0x46, 6}, {0x48, 0x0303}, DESCRIPTORS, BOARD),
@@ -260,7 +263,7 @@ static const struct worked_case cases[] = {
          TURNED(NOTHING),
          STEP(WORDS({0x46, 12}, {0x48, 0}, {0x4E, 0x0203}), TURN(0), EDGE, WORDS({0x40, 0xA000}, {0x30, 0x2000}), HIGH),
          RECEIVING,
-         CAME(TO(3, 3, 0, 0, 0, 0), GOOD, NOTHING),
+         DROPPED(LQ_DROPPED_NO_MATCH, TO(3, 3, 0, 0, 0, 0), GOOD, NOTHING),
          TURNED(WORDS({0x60, 0})),
          CAME(TO(3, 2, 0, 0, 0, 0), GOOD, NOTHING),
          TURNED(WORDS({0x60, 0x4000}))),

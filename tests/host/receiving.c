@@ -61,20 +61,25 @@ static bool matches(const struct line *line)
 struct fate {
     unsigned crc, aln, rsc, ovrn;
     bool held;
+    unsigned reason;
 };
 
 static struct fate fate_of(const struct line *line)
 {
     bool is_short = line->length < 60;
     bool bad = is_short || line->verdict != 0;
-    if (line->length < 14 || !matches(line)) return (struct fate){0};
-    if (line->situation == IN_IDLE || line->situation == IN_SUSPENDED) return (struct fate){0};
+    bool held = line->situation == IN_READY && (!bad || line->save_bad);
+    if (line->length < 14) return (struct fate){.reason = LQ_DROPPED_TOO_FEW};
+    if (!matches(line)) return (struct fate){.reason = LQ_DROPPED_NO_MATCH};
+    if (line->situation == IN_IDLE) return (struct fate){.reason = LQ_DROPPED_IDLE};
+    if (line->situation == IN_SUSPENDED) return (struct fate){.reason = LQ_DROPPED_SUSPENDED};
     if (line->situation == WHILE_HELD) return (struct fate){.ovrn = 1};
     return (struct fate){
         .crc = !is_short && line->verdict == 1,
         .aln = !is_short && line->verdict > 1,
         .rsc = !bad && line->situation == IN_NO_RESOURCES,
-        .held = line->situation == IN_READY && (!bad || line->save_bad),
+        .held = held,
+        .reason = bad && !held ? LQ_DROPPED_BAD : LQ_NOT_DROPPED,
     };
 }
 
@@ -86,7 +91,9 @@ static void check_fate(const struct line *line)
     put_settings(&chip, line);
     bring_to(&chip, line->situation);
     for (uint32_t i = 0; i < 8; i += 2) put_word(&chip, SCB + LQ_SCB_CRCERRS + i, 0xFFFF);
-    check_answer(arrive(&chip, DESTINATIONS[line->destination], line->length, line->verdict), LQ_ACCEPTED, 0, false);
+    struct answer found = arrive(&chip, DESTINATIONS[line->destination], line->length, line->verdict);
+    check_answer(found, LQ_ACCEPTED, 0, false);
+    check_reason(found, fate.reason);
     check_word(&chip, SCB + LQ_SCB_CRCERRS, (0xFFFF + fate.crc) & 0xFFFF);
     check_word(&chip, SCB + LQ_SCB_ALNERRS, (0xFFFF + fate.aln) & 0xFFFF);
     check_word(&chip, SCB + LQ_SCB_RSCERRS, (0xFFFF + fate.rsc) & 0xFFFF);
@@ -110,7 +117,7 @@ static void fates_by_settings(struct line line)
 static void fates(void)
 {
     static const size_t lengths[] = {0, 13, 14, 59, 60, LQ_FRAME_MAX};
-    static const uint32_t verdicts[] = {0, 1, 2, 0xFFFFFFFF};
+    static const uint32_t verdicts[] = {0, 1, 2, 7, 0xFFFFFFFF};
     for (unsigned s = IN_IDLE; s <= WHILE_HELD; s++)
         for (size_t l = 0; l < COUNT_OF(lengths); l++)
             for (size_t v = 0; v < COUNT_OF(verdicts); v++)

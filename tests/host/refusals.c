@@ -1,6 +1,9 @@
 /* Refusals: each number, on every call, from every wrong length; which one is given; that nothing changed. */
 #include "setup.h"
 
+_Static_assert(LQ_REFUSED_MEMORY == 1 && LQ_REFUSED_OVERLONG == 3 && LQ_REFUSED_FOREIGN == 4, "document 01's");
+_Static_assert(LQ_REFUSED_RECORD == 21 && LQ_REFUSED_HOLDING == 22 && LQ_REFUSED_OUTGOING == 23, "document 02's");
+
 /* docs/record.md: bytes that are zero in every record, from the first to the last */
 static const size_t SPARE[][2] = {{13, 15}, {40, 239}};
 
@@ -46,13 +49,24 @@ static void free_areas(struct areas *areas)
     area_free(&areas->record);
 }
 
-/* The call is refused by a number, or accepted if that is LQ_ACCEPTED; after a refusal every byte is as before. */
+/* The model, which has no record, gives the same number by the lengths. */
+static void check_modelled(const struct areas *a, struct call made, unsigned number)
+{
+    if (made.kind == CALL_RESET) return;
+    unsigned modelled = model_refusal(a->memory.length, a->holding.length, a->outgoing.length, a->record.length,
+                                      made.kind == CALL_ARRIVAL ? made.frame_len : 0);
+    unsigned expected = number == LQ_REFUSED_FOREIGN ? LQ_ACCEPTED : number;
+    CHECK(modelled == expected, "by the lengths the model gives %u, expected %u", modelled, expected);
+}
+
+/* The call is refused by a number, or accepted if that is LQ_ACCEPTED; after a refusal every byte is as before. That it
+   says nothing else is tested at every call. */
 static void check_refusal(const struct areas *areas, struct call made, unsigned number)
 {
     struct areas before = copies_of(areas);
-    uint64_t answer = call_archive(areas, made);
-    CHECK(lq_number(answer) == number, "the number is %u, expected %u", lq_number(answer), number);
-    CHECK(number == LQ_ACCEPTED || answer == number, "a refusal has a length or an edge");
+    check_modelled(areas, made, number);
+    unsigned found = lq_number(call_archive(areas, made));
+    CHECK(found == number, "the number is %u, expected %u", found, number);
     if (number != LQ_ACCEPTED) check_all_same(areas, &before);
     free_areas(&before);
 }
@@ -103,18 +117,22 @@ static void memory_sizes(void)
     }
 }
 
+/* an area with a wrong length: its number, on every call */
 static void other_areas(void)
 {
-    static const size_t right[3] = {LQ_HOLDING_SIZE, LQ_OUTGOING_SIZE, LQ_RECORD_SIZE};
-    for (size_t which = 0; which < 3; which++) {
-        size_t wrong[] = {0, 1, right[which] - 1, right[which] + 1, right[which] * 2};
+    enum { RECORD, HOLDING, OUTGOING, AREAS };
+    static const size_t right[AREAS] = {LQ_RECORD_SIZE, LQ_HOLDING_SIZE, LQ_OUTGOING_SIZE};
+    static const unsigned numbers[AREAS] = {LQ_REFUSED_RECORD, LQ_REFUSED_HOLDING, LQ_REFUSED_OUTGOING};
+    for (unsigned which = 0; which < AREAS; which++) {
+        size_t another = right[which == RECORD ? HOLDING : RECORD];
+        size_t wrong[] = {0, 1, right[which] - 1, right[which] + 1, right[which] * 2, another, LQ_MEMORY_MIN};
         for (size_t i = 0; i < COUNT_OF(wrong); i++) {
-            size_t length[3] = {right[0], right[1], right[2]};
+            size_t length[AREAS] = {right[RECORD], right[HOLDING], right[OUTGOING]};
             length[which] = wrong[i];
-            struct areas areas = areas_with(LQ_MEMORY_MIN, length[0], length[1], length[2]);
-            if (which != 2) lq_reset(areas.record.bytes, LQ_RECORD_SIZE);
+            struct areas areas = areas_with(LQ_MEMORY_MIN, length[HOLDING], length[OUTGOING], length[RECORD]);
+            if (which != RECORD) lq_reset(areas.record.bytes, LQ_RECORD_SIZE);
             begin_case("an area of a wrong length");
-            for (size_t k = 0; k < COUNT_OF(KINDS); k++) check_refusal(&areas, call_with(KINDS[k], 0), LQ_REFUSED_AREA);
+            for (size_t k = 0; k < COUNT_OF(KINDS); k++) check_refusal(&areas, call_with(KINDS[k], 0), numbers[which]);
             free_areas(&areas);
         }
     }
@@ -132,38 +150,28 @@ static void frames(void)
     free_areas(&areas);
 }
 
-/* every combination of what can be wrong: the lowest number that applies */
-static void precedence(void)
-{
-    for (unsigned wrong = 0; wrong < 16; wrong++) {
-        size_t outgoing = wrong & 2 ? LQ_OUTGOING_SIZE - 1 : LQ_OUTGOING_SIZE;
-        struct areas areas = areas_with(wrong & 1 ? 8193 : 8192, LQ_HOLDING_SIZE, outgoing, LQ_RECORD_SIZE);
-        if (!(wrong & 8)) lq_reset(areas.record.bytes, LQ_RECORD_SIZE);
-        for (size_t k = 0; k < COUNT_OF(KINDS); k++) {
-            bool overlong = (wrong & 4) && KINDS[k] == CALL_ARRIVAL;
-            unsigned number = wrong & 1  ? LQ_REFUSED_MEMORY
-                            : wrong & 2  ? LQ_REFUSED_AREA
-                            : overlong   ? LQ_REFUSED_OVERLONG
-                            : wrong & 8  ? LQ_REFUSED_FOREIGN
-                                         : LQ_ACCEPTED;
-            begin_case("which refusal is given");
-            check_refusal(&areas, call_with(KINDS[k], overlong ? LQ_FRAME_MAX + 1 : 60), number);
-        }
-        free_areas(&areas);
-    }
-}
-
 /* ---- reset ---- */
 
-static void resets(void)
+/* Whatever the record holds, its length alone is asked: a pattern, zeros, the bytes of a fresh one. */
+static void wrong_resets(void)
 {
-    static const size_t wrong[] = {0, 1, 255, 257, 512};
+    static const size_t wrong[] = {0, 1, LQ_RECORD_SIZE - 1, LQ_RECORD_SIZE + 1, 2 * LQ_RECORD_SIZE, LQ_HOLDING_SIZE};
+    struct chip fresh = chip_of(LQ_MEMORY_MIN);
     for (size_t i = 0; i < COUNT_OF(wrong); i++) {
         struct areas areas = areas_with(0, 0, 0, wrong[i]);
         begin_case("reset of a wrong length");
-        check_refusal(&areas, RESET_CALL, LQ_REFUSED_AREA);
+        check_refusal(&areas, RESET_CALL, LQ_REFUSED_RECORD);
+        memset(areas.record.bytes, 0, wrong[i]);
+        check_refusal(&areas, RESET_CALL, LQ_REFUSED_RECORD);
+        memcpy(areas.record.bytes, fresh.lent.record.bytes, wrong[i] < LQ_RECORD_SIZE ? wrong[i] : LQ_RECORD_SIZE);
+        check_refusal(&areas, RESET_CALL, LQ_REFUSED_RECORD);
         free_areas(&areas);
     }
+    chip_free(&fresh);
+}
+
+static void resets(void)
+{
     struct areas a = areas_with(0, 0, 0, LQ_RECORD_SIZE), b = areas_with(0, 0, 0, LQ_RECORD_SIZE);
     begin_case("reset ignores the record's content");
     memset(a.record.bytes, 0xAA, LQ_RECORD_SIZE);
@@ -293,6 +301,90 @@ static void foreign(void)
     free_areas(&areas);
 }
 
+/* ---- several wrong at once: the first in this order is given ---- */
+
+enum {
+    WRONG_MEMORY = 1, WRONG_RECORD = 2, WRONG_HOLDING = 4, WRONG_OUTGOING = 8, WRONG_FRAME = 16, WRONG_CONTENT = 32,
+    COMBINATIONS = 64
+};
+
+/* only an arrival has a frame */
+static unsigned number_of(unsigned wrong, enum call_kind kind)
+{
+    if (wrong & WRONG_MEMORY) return LQ_REFUSED_MEMORY;
+    if (wrong & WRONG_RECORD) return LQ_REFUSED_RECORD;
+    if (wrong & WRONG_HOLDING) return LQ_REFUSED_HOLDING;
+    if (wrong & WRONG_OUTGOING) return LQ_REFUSED_OUTGOING;
+    if ((wrong & WRONG_FRAME) && kind == CALL_ARRIVAL) return LQ_REFUSED_OVERLONG;
+    return wrong & WRONG_CONTENT ? LQ_REFUSED_FOREIGN : LQ_ACCEPTED;
+}
+
+/* how lengths are wrong: no bytes, one less, one more, that of another area */
+enum { EMPTY, ONE_LESS, ONE_MORE, ANOTHERS, WAYS };
+
+static size_t wrong_length(size_t right, unsigned way)
+{
+    switch (way) {
+    case EMPTY: return 0;
+    case ONE_LESS: return right - 1;
+    case ONE_MORE: return right + 1;
+    default: return right == LQ_RECORD_SIZE ? LQ_HOLDING_SIZE : LQ_RECORD_SIZE;
+    }
+}
+
+/* A copy of an area, of its length or a wrong one: its bytes as far as there is room, then a pattern. */
+static struct area lent_of(const struct area *area, bool wrong, unsigned way)
+{
+    size_t length = wrong ? wrong_length(area->length, way) : area->length;
+    struct area lent = area_of(area->name, length);
+    fill(&lent);
+    memcpy(lent.bytes, area->bytes, length < area->length ? length : area->length);
+    return lent;
+}
+
+static struct areas spoilt(const struct areas *right, unsigned wrong, unsigned way)
+{
+    struct areas areas = {
+        .memory = lent_of(&right->memory, wrong & WRONG_MEMORY, way),
+        .holding = lent_of(&right->holding, wrong & WRONG_HOLDING, way),
+        .outgoing = lent_of(&right->outgoing, wrong & WRONG_OUTGOING, way),
+        .record = lent_of(&right->record, wrong & WRONG_RECORD, way),
+    };
+    if ((wrong & WRONG_CONTENT) && areas.record.length > 0) areas.record.bytes[0] ^= 0x20;
+    return areas;
+}
+
+static void check_order(const struct areas *right, unsigned wrong, unsigned way, struct call made)
+{
+    struct areas areas = spoilt(right, wrong, way);
+    begin_case("which refusal is given");
+    check_refusal(&areas, made, number_of(wrong, made.kind));
+    free_areas(&areas);
+}
+
+/* every combination, on every call; frames that were dropped if they came through, too */
+static void order_of(const struct areas *right)
+{
+    for (unsigned wrong = 0; wrong < COMBINATIONS; wrong++)
+        for (unsigned way = 0; way < WAYS; way++) {
+            size_t length = wrong & WRONG_FRAME ? LQ_FRAME_MAX + 1 : 60;
+            for (size_t k = 0; k < COUNT_OF(KINDS); k++) check_order(right, wrong, way, call_with(KINDS[k], length));
+            if (wrong & WRONG_FRAME) continue;
+            check_order(right, wrong, way, call_with(CALL_ARRIVAL, LQ_FRAME_HEADER - 1));
+            check_order(right, wrong, way, ARRIVAL_CALL(NULL, 0, LQ_VERDICT_CRC));
+        }
+}
+
+static void order(void)
+{
+    struct chip fresh = chip_of(LQ_MEMORY_MIN), busy = busy_chip();
+    order_of(&fresh.lent);
+    order_of(&busy.lent);
+    turns(&busy, 3);
+    chip_free(&fresh);
+    chip_free(&busy);
+}
+
 /* ---- single bits, whatever the layout: a changed record is refused and nothing happens, or it is taken, and then what
    the call leaves is taken too ---- */
 
@@ -343,9 +435,10 @@ void refusals(void)
     memory_sizes();
     other_areas();
     frames();
-    precedence();
+    wrong_resets();
     resets();
     one_encoding();
     foreign();
+    order();
     single_bits();
 }

@@ -309,7 +309,9 @@ static void empty_frame(void)
     struct chip chip = ready_chip(LQ_MEMORY_MIN);
     begin_case("an empty frame at a null pointer");
     start_ru(&chip, FD);
-    check_answer(call(&chip, ARRIVAL_CALL(NULL, 0, 0)), LQ_ACCEPTED, 0, false);
+    struct answer found = call(&chip, ARRIVAL_CALL(NULL, 0, 0));
+    check_answer(found, LQ_ACCEPTED, 0, false);
+    check_reason(found, LQ_DROPPED_TOO_FEW);
     check_answer(turn(&chip), LQ_ACCEPTED, 0, false);
     check_word(&chip, FD, 0);
     chip_free(&chip);

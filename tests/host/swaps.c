@@ -33,9 +33,9 @@ static const struct worked_case cases[] = {
 
     CASE("idle counts nothing", WORDS(FIVE, BOARD),
          INITIALISED,
-         CAME(BROADCAST(46), GOOD, WORDS(FIVE)),
-         CAME(BROADCAST(46), CRC, WORDS(FIVE)),
-         CAME(BROADCAST(46), MISALIGNED, WORDS(FIVE))),
+         DROPPED(LQ_DROPPED_IDLE, BROADCAST(46), GOOD, WORDS(FIVE)),
+         DROPPED(LQ_DROPPED_IDLE, BROADCAST(46), CRC, WORDS(FIVE)),
+         DROPPED(LQ_DROPPED_IDLE, BROADCAST(46), MISALIGNED, WORDS(FIVE))),
 
     /* ---- Taking a link at begin ---- */
 

@@ -1,7 +1,7 @@
 //! The model's own tests: document 01's cases at the edges, what its points come to in small cases, and the list's forms.
 //! Each case is a function that ends with the first thing that is not so.
 
-use crate::chip::{hash, Answer, Chip, Ru, NONE};
+use crate::chip::{hash, Answer, Chip, Reason, Ru, NONE};
 use crate::list;
 use std::io::{self, Write};
 
@@ -38,9 +38,10 @@ const CASES: &[(&str, Case)] = cases! {
     hash_values hash_shared mc_setup mc_setup_replaces mc_setup_at_the_end mc_setup_around
     transmit_tests transmit_next_kept reports tdr_dump_diagnose
     arrival_order arrival_minimum match_rules match_by_the_bit settings_at_arrival
+    reason_by_the_order reason_by_the_match reason_beside_a_counter reason_told_once
     storing_reads_whole storing_size_zero storing_exact_ends storing_no_data storing_status_bits storing_not_kept storing_rscerrs_follows
     storing_suspends storing_status_last storing_descriptor_kept
-    list_example list_forms list_bad_input
+    list_example list_forms list_reasons list_bad_input
 };
 
 pub fn run(out: &mut dyn Write) -> io::Result<bool> {
@@ -63,11 +64,15 @@ pub fn run(out: &mut dyn Write) -> io::Result<bool> {
 // ---- What the cases are made with ----
 
 const SCB: usize = 0x0100;
-const QUIET: Answer = Answer { number: 0, length: 0, edge: false };
-const EDGE: Answer = Answer { number: 0, length: 0, edge: true };
+const QUIET: Answer = Answer { number: 0, length: 0, edge: false, why: None };
+const EDGE: Answer = Answer { edge: true, ..QUIET };
 
 fn refusal(number: u8) -> Answer {
-    Answer { number, length: 0, edge: false }
+    Answer { number, ..QUIET }
+}
+
+fn dropped(why: Reason) -> Answer {
+    Answer { why: Some(why), ..QUIET }
 }
 
 struct Rig {
@@ -285,7 +290,7 @@ fn p7_reports() -> Result<(), String> {
         rig.transmit(0x200, 0x8000, NONE);
         rig.start(0x200);
         rig.turns(1);
-        same!(rig.chip.turn(report), Answer { number: 0, length, edge: true });
+        same!(rig.chip.turn(report), Answer { length, ..EDGE });
         same!(rig.word(0x200), status);
     }
     Ok(())
@@ -328,7 +333,7 @@ fn data_2034_passes_2035_not() -> Result<(), String> {
         rig.tbd(0x400, 0x8000 | count, NONE, 0x1000);
         rig.chip.memory[0x1000..0x1800].fill(0x77);
         rig.start(0x200);
-        same!(rig.turns(3), Answer { number: 0, length: answer, edge: true });
+        same!(rig.turns(3), Answer { length: answer, ..EDGE });
         same!(rig.word(0x200), status);
         same!(rig.chip.outgoing[14], if status == 0xA000 { 0x77 } else { 0 });
     }
@@ -345,8 +350,8 @@ fn refusals() -> Result<(), String> {
     same!(rig.hear(&[0; 2049], 0), refusal(3));
     same!(rig.chip.reset(), QUIET);
     same!(rig.hear(&[0; 2049], 0), refusal(3));
-    same!(rig.hear(&[0; 2048], 0), QUIET);
-    same!(rig.hear(&[], 0), QUIET);
+    same!(rig.hear(&[0; 2048], 0), dropped(Reason::NoMatch));
+    same!(rig.hear(&[], 0), dropped(Reason::TooFew));
     Ok(())
 }
 
@@ -658,8 +663,8 @@ fn init_before() -> Result<(), String> {
     let mut rig = Rig::at(8192, 0, SCB as u16);
     let before = rig.chip.memory.clone();
     same!(rig.turns(2), QUIET);
-    same!(rig.hear(&frame(46), 0), QUIET);
-    same!(rig.hear(&frame(46), 1), QUIET);
+    same!(rig.hear(&frame(46), 0), dropped(Reason::Idle));
+    same!(rig.hear(&frame(46), 1), dropped(Reason::Idle));
     same!(rig.chip.memory == before, true);
     Ok(())
 }
@@ -921,7 +926,7 @@ fn events_again() -> Result<(), String> {
     rig.start(0x200);
     same!(rig.turns(2), EDGE);
     same!(rig.turns(2), EDGE);
-    same!(rig.hear(&frame(46), 0), QUIET);
+    same!(rig.hear(&frame(46), 0), dropped(Reason::Idle));
     Ok(())
 }
 
@@ -1027,7 +1032,7 @@ fn report_only_at_transmit_end() -> Result<(), String> {
 
 // ---- Runs ----
 
-const SENT: Answer = Answer { number: 0, length: 14, edge: false };
+const SENT: Answer = Answer { length: 14, ..QUIET };
 
 fn run_refused() -> Result<(), String> {
     let mut rig = Rig { chip: Chip::new(8192) };
@@ -1337,7 +1342,7 @@ fn transmit_tests() -> Result<(), String> {
     rig.tbd(0x400, 2034, 0x408, 0x800);
     rig.tbd(0x408, 0x8000, NONE, 0x800);
     rig.start(0x200);
-    same!(rig.turns(4), Answer { number: 0, length: 2048, edge: true });
+    same!(rig.turns(4), Answer { length: 2048, ..EDGE });
     Ok(())
 }
 
@@ -1359,7 +1364,7 @@ fn reports() -> Result<(), String> {
         rig.transmit(0x200, 0x8000, NONE);
         rig.start(0x200);
         rig.turns(1);
-        same!(rig.chip.turn(report), Answer { number: 0, length: sent, edge: true });
+        same!(rig.chip.turn(report), Answer { length: sent, ..EDGE });
         same!(rig.word(0x200), status);
     }
     let mut rig = Rig::new();
@@ -1429,11 +1434,7 @@ fn arrival_minimum() -> Result<(), String> {
 }
 
 fn match_rules() -> Result<(), String> {
-    let to = |address: [u8; 6]| {
-        let mut frame = frame(46);
-        frame[..6].copy_from_slice(&address);
-        frame
-    };
+    let to = |address| to(address, 60);
     // The own address is six FFh after reset: broadcast disabled drops it, listed or not.
     let mut rig = Rig::ready();
     rig.configure(&[9, 0, 0, 6, 0, 0, 0, 0, 2]);
@@ -1502,6 +1503,174 @@ fn settings_at_arrival() -> Result<(), String> {
     rig.rest();
     same!((rig.word(0x300), counters(&rig)), (0x8200, [0, 0, 1, 0]));
     same!(rig.scb() & 0x4000, 0x4000);
+    Ok(())
+}
+
+// ---- Why a frame was dropped ----
+
+/// What the RU may be doing when a frame arrives.
+const STATES: [&str; 6] = ["before the first attention", "Idle", "Suspended", "No Resources", "Ready", "a frame held"];
+
+/// In this state, with Configure's bytes 2 and 8 (but before the first attention) and a minimum of 64.
+fn rig_in(state: &str, byte2: u8, byte8: u8) -> Rig {
+    if state == "before the first attention" {
+        return Rig::at(8192, 0, SCB as u16);
+    }
+    let mut rig = Rig::new();
+    rig.one(0x200, 1, &[2, 0, 0, 0, 0, 1]);
+    rig.configure(&[12, 0, byte2, 6, 0, 0, 0, 0, byte8, 0, 64]);
+    if state == "Idle" {
+        return rig;
+    }
+    rig.fd(0x300, 0x8000, 0x320, NONE);
+    rig.words(SCB + 6, &[0x0300]);
+    rig.command(0x0010);
+    match state {
+        "Suspended" => {
+            rig.command(0x0030);
+        }
+        "No Resources" => {
+            rig.hear(&to([2, 0, 0, 0, 0, 1], 60), 0);
+            rig.rest();
+            rig.words(SCB + 12, &[0]);
+        }
+        "a frame held" => {
+            rig.hear(&to([2, 0, 0, 0, 0, 1], 60), 0);
+        }
+        _ => {}
+    }
+    rig
+}
+
+/// A frame of so many bytes to this address.
+fn to(address: [u8; 6], length: usize) -> Vec<u8> {
+    let mut frame = frame(46);
+    frame[..6].copy_from_slice(&address);
+    frame.resize(length, 0x77);
+    frame
+}
+
+fn reason_by_the_order() -> Result<(), String> {
+    // Of each kind of frame its length, whether it is a broadcast or another's, its verdict, and what is said in each state with save-bad
+    // clear and with save-bad set: too (f)ew bytes, (n)o match, (I)dle, (S)uspended, (b)ad, or nothing.
+    for (length, ours, verdict, clear, set) in [
+        (0, true, 0, "ffffff", "ffffff"),
+        (0, true, 1, "ffffff", "ffffff"),
+        (5, false, 2, "ffffff", "ffffff"),
+        (13, true, 0, "ffffff", "ffffff"),
+        (13, true, 1, "ffffff", "ffffff"),
+        (13, false, 0, "ffffff", "ffffff"),
+        (13, false, 2, "ffffff", "ffffff"),
+        (14, false, 0, "nnnnnn", "nnnnnn"),
+        (14, false, 1, "nnnnnn", "nnnnnn"),
+        (60, false, 0, "nnnnnn", "nnnnnn"),
+        (60, false, 1, "nnnnnn", "nnnnnn"),
+        (60, false, 2, "nnnnnn", "nnnnnn"),
+        (14, true, 0, "IISbb.", "IISb.."),
+        (59, true, 0, "IISbb.", "IISb.."),
+        (59, true, 1, "IISbb.", "IISb.."),
+        (59, true, 2, "IISbb.", "IISb.."),
+        (60, true, 0, "IIS...", "IIS..."),
+        (60, true, 1, "IISbb.", "IISb.."),
+        (60, true, 2, "IISbb.", "IISb.."),
+        (2048, true, 0, "IIS...", "IIS..."),
+        (2048, true, u32::MAX, "IISbb.", "IISb.."),
+    ] {
+        for (byte2, said) in [(0, clear), (0x80, set)] {
+            for (state, letter) in STATES.into_iter().zip(said.chars()) {
+                let answer = match letter {
+                    'f' => dropped(Reason::TooFew),
+                    'n' => dropped(Reason::NoMatch),
+                    'I' => dropped(Reason::Idle),
+                    'S' => dropped(Reason::Suspended),
+                    'b' => dropped(Reason::Bad),
+                    _ => QUIET,
+                };
+                let address = if ours { [0xFF; 6] } else { [2, 0, 0, 0, 0, 2] };
+                let heard = rig_in(state, byte2, 0).hear(&to(address, length), verdict);
+                same!((length, ours, verdict, byte2, state, heard), (length, ours, verdict, byte2, state, answer));
+            }
+        }
+    }
+    Ok(())
+}
+
+fn reason_by_the_match() -> Result<(), String> {
+    // By byte 8 and the address: what a good frame is answered in Idle, Suspended and Ready. Promiscuous takes all, and still asks the unit.
+    let (none, all) = ([dropped(Reason::NoMatch); 3], [dropped(Reason::Idle), dropped(Reason::Suspended), QUIET]);
+    for (byte8, address, answers) in [
+        (0, [2, 0, 0, 0, 0, 1], all),
+        (0, [2, 0, 0, 0, 0, 3], none),
+        (0, [1, 0, 0, 0, 0, 1], none),
+        (0, [0xFF; 6], all),
+        (2, [0xFF; 6], none),
+        (2, [2, 0, 0, 0, 0, 1], all),
+        (1, [2, 0, 0, 0, 0, 3], all),
+        (1, [1, 0, 0, 0, 0, 1], all),
+        (3, [0xFF; 6], all),
+    ] {
+        for (state, answer) in ["Idle", "Suspended", "Ready"].into_iter().zip(answers) {
+            same!((byte8, address, rig_in(state, 0, byte8).hear(&to(address, 60), 0)), (byte8, address, answer));
+        }
+    }
+    // Promiscuous asks for fourteen bytes and judges as ever.
+    let mut rig = rig_in("Ready", 0, 1);
+    same!(rig.hear(&to([4; 6], 13), 0), dropped(Reason::TooFew));
+    same!((rig.hear(&to([4; 6], 59), 0), rig.hear(&to([4; 6], 60), 1)), (dropped(Reason::Bad), dropped(Reason::Bad)));
+    same!((rig.hear(&to([4; 6], 60), 0), rig.held()), (QUIET, true));
+    Ok(())
+}
+
+fn reason_beside_a_counter() -> Result<(), String> {
+    // A bad frame that is not held is bad and not saved, counted or not; a counted one that is held, and a lost one, has no reason.
+    let (bad, none) = (dropped(Reason::Bad), QUIET);
+    for (state, byte2, length, verdict, answer, counted) in [
+        ("Ready", 0, 60, 1, bad, [1, 0, 0, 0]),
+        ("Ready", 0, 60, 2, bad, [0, 1, 0, 0]),
+        ("Ready", 0, 59, 1, bad, [0; 4]),
+        ("Ready", 0x80, 60, 1, none, [1, 0, 0, 0]),
+        ("Ready", 0x80, 60, 2, none, [0, 1, 0, 0]),
+        ("Ready", 0x80, 59, 1, none, [0; 4]),
+        ("No Resources", 0, 60, 1, bad, [1, 0, 0, 0]),
+        ("No Resources", 0x80, 60, 1, bad, [1, 0, 0, 0]),
+        ("No Resources", 0, 60, 2, bad, [0, 1, 0, 0]),
+        ("No Resources", 0x80, 60, 2, bad, [0, 1, 0, 0]),
+        ("No Resources", 0, 59, 2, bad, [0; 4]),
+        ("No Resources", 0x80, 59, 2, bad, [0; 4]),
+        ("No Resources", 0, 60, 0, none, [0, 0, 1, 0]),
+        ("No Resources", 0x80, 60, 0, none, [0, 0, 1, 0]),
+        ("a frame held", 0, 60, 0, none, [0, 0, 0, 1]),
+        ("a frame held", 0, 60, 1, none, [0, 0, 0, 1]),
+        ("a frame held", 0x80, 59, 2, none, [0, 0, 0, 1]),
+    ] {
+        let mut rig = rig_in(state, byte2, 0);
+        same!((state, rig.hear(&to([0xFF; 6], length), verdict), counters(&rig)), (state, answer, counted));
+    }
+    Ok(())
+}
+
+fn reason_told_once() -> Result<(), String> {
+    // A reason is of its own call: what follows a dropped frame has none.
+    let mut rig = rig_in("Ready", 0x80, 0);
+    let few = dropped(Reason::TooFew);
+    let drop = |rig: &mut Rig| rig.hear(&to([0xFF; 6], 13), 0);
+    same!((drop(&mut rig), rig.chip.turn(0)), (few, QUIET));
+    same!((drop(&mut rig), rig.chip.run(3, 0)), (few, (QUIET, 1)));
+    same!((drop(&mut rig), rig.chip.run(0, 0)), (few, (QUIET, 0)));
+    same!((drop(&mut rig), rig.command(0xF000)), (few, QUIET));
+    same!((drop(&mut rig), rig.hear(&frame(45), 1)), (few, QUIET));
+    same!((drop(&mut rig), rig.hear(&frame(46), 0)), (few, QUIET));
+    same!((drop(&mut rig), rig.turns(1), rig.turns(1)), (few, QUIET, EDGE));
+    same!((drop(&mut rig), rig.hear(&frame(46), 0)), (few, QUIET));
+    same!((drop(&mut rig), rig.hear(&[0; 2049], 0)), (few, refusal(3)));
+    same!((drop(&mut rig), rig.command(0x0080)), (few, QUIET));
+    same!((drop(&mut rig), rig.chip.attention()), (few, EDGE));
+    same!((drop(&mut rig), rig.chip.reset()), (few, QUIET));
+    // A refused frame has none, whatever else is wrong with it.
+    rig.chip.n = 8193;
+    same!((drop(&mut rig), rig.hear(&to([4; 6], 60), 1), rig.hear(&frame(46), 0)), (refusal(1), refusal(1), refusal(1)));
+    let mut fresh = Rig { chip: Chip::new(8192) };
+    same!((drop(&mut fresh), fresh.hear(&to([4; 6], 60), 1), fresh.hear(&frame(46), 0)), (refusal(4), refusal(4), refusal(4)));
     Ok(())
 }
 
@@ -1698,6 +1867,18 @@ fn list_forms() -> Result<(), String> {
     same!(printed("run 0\nrun 9 FFFFh\nreset\nrun 0\nrun 65535\nrun 1 1\nsize 1\nrun 2"), "4 0 0\n4 0 0\n0 0 0\n0 0 0\n0 0 0 1\n0 0 0 1\n1 0 0\n");
     same!(printed("interrupt\nreset\nattention\ninterrupt"), "interrupt low\n0 0 0\n0 0 1\ninterrupt high\n");
     same!(printed("show memory 65535 1\nshow outgoing 2047 1\nwords memory 65534 65535\nlook memory FFFEh 1\nbytes memory 0\nturn 0"), "FFFF: 00\n07FF: 00\nFFFE: FFFF\n");
+    Ok(())
+}
+
+fn list_reasons() -> Result<(), String> {
+    let before = "size 8192\nwords memory 1FFCh 40h 0\nwords memory 40h 1 100h 0 0\nreset
+    arrival 1 13x00\narrival 0 14x00\narrival 1 14xFF\nattention\n";
+    same!(printed(before), "0 0 0\n0 0 0 too-few\n0 0 0 no-match\n0 0 0 idle\n0 0 1\n");
+    let ready = format!("{before}words memory 102h F010h\nattention\narrival 0 14xFF\narrival 2 60xFF\nlook memory 108h 4\nrun 9\n");
+    let said = "0 0 0\n0 0 0 bad\n0 0 0 bad\n0108: 0000 0001 0000 0000\n0 0 0 1\n";
+    same!(printed(&ready), printed(before) + said);
+    same!(printed(&format!("{ready}words memory 102h 30h\nattention\narrival 1 14xFF\n")), printed(&ready) + "0 0 1\n0 0 0 suspended\n");
+    same!(printed(&format!("{ready}arrival 0 60xFF\narrival 1 14xFF\narrival 0 2049xFF\n")), printed(&ready) + "0 0 0\n0 0 0\n3 0 0\n");
     Ok(())
 }
 

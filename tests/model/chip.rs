@@ -1,5 +1,5 @@
-//! The chip, as document 01 (`01-scope.md`, "the law") has it, mended by document 02's Wish 1: where both speak, 02 is followed. Names of
-//! sections and sentences in the comments are document 01's, unless 02 or the handbook, document 000, is named.
+//! The chip, as document 01 (`01-scope.md`, "the law") has it, mended by document 02's Wishes 1 and 3: where both speak, 02 is followed.
+//! Names of sections and sentences in the comments are document 01's, unless 02 or the handbook, document 000, is named.
 //! An offset is a `u16`, a real address a `u32`: the only way from the one to the other is `at`.
 
 use std::cell::RefCell;
@@ -14,28 +14,68 @@ pub const FR: u16 = 0x4000;
 pub const CNA: u16 = 0x2000;
 pub const RNR: u16 = 0x1000;
 
+// The SCB's counters, by their fields.
+const CRCERRS: u32 = 8;
+const ALNERRS: u32 = 10;
+const RSCERRS: u32 = 12;
+const OVRNERRS: u32 = 14;
+
 /// An offset that is none (only in pointers to buffer descriptors).
 pub const NONE: u16 = 0xFFFF;
 
 /// "Every command and every held frame takes a begin turn, at most 64 buffer turns and an end turn."
 const MOST: u8 = 64;
 
-/// "An answer is the number (0 if not refused), the length sent (0 if none) and the edge."
+/// "An answer is the number (0 if not refused), the length sent (0 if none) and the edge." 02: "An arrival that is dropped also says why"
 #[derive(Clone, Copy, PartialEq, Eq, Debug)]
 pub struct Answer {
     pub number: u8,
     pub length: u16,
     pub edge: bool,
+    pub why: Option<Reason>,
 }
 
 impl Answer {
     fn refusal(number: u8) -> Answer {
-        Answer { number, length: 0, edge: false }
+        Answer { number, length: 0, edge: false, why: None }
     }
 
     fn done(length: u16, edge: bool) -> Answer {
-        Answer { number: 0, length, edge }
+        Answer { number: 0, length, edge, why: None }
     }
+}
+
+/// 02: "too few bytes, no match, unit Idle, unit Suspended, or bad and not saved"
+#[derive(Clone, Copy, PartialEq, Eq, Debug)]
+pub enum Reason {
+    TooFew,
+    NoMatch,
+    Idle,
+    Suspended,
+    Bad,
+}
+
+impl Reason {
+    /// Its name in what is met.
+    fn name(self) -> &'static str {
+        match self {
+            Reason::TooFew => "too few bytes",
+            Reason::NoMatch => "no match",
+            Reason::Idle => "Idle",
+            Reason::Suspended => "Suspended",
+            Reason::Bad => "bad",
+        }
+    }
+}
+
+/// What becomes of a frame that arrives.
+#[derive(Clone, Copy, PartialEq, Eq, Debug)]
+enum Fate {
+    /// A bad one may be counted: it is dropped all the same.
+    Dropped { why: Reason, counter: Option<u32> },
+    /// Not dropped but lost: its counter says why.
+    Lost { counter: u32 },
+    Held { held: Held, counter: Option<u32> },
 }
 
 /// "0 good, 1 CRC, any other value misaligned"
@@ -44,6 +84,16 @@ pub enum Verdict {
     Good,
     Crc,
     Misaligned,
+}
+
+impl Verdict {
+    fn of(number: u32) -> Verdict {
+        match number {
+            0 => Verdict::Good,
+            1 => Verdict::Crc,
+            _ => Verdict::Misaligned,
+        }
+    }
 }
 
 /// What is kept of a command from its begin turn on.
@@ -353,8 +403,8 @@ impl Chip {
         self.n.count_ones() == 1 && (8_192..=16_777_216).contains(&self.n)
     }
 
-    /// "The lowest number that applies is given." Number 2 cannot be: the areas' lengths are right here. Number 4: the record is a
-    /// chip's from the first reset on, since the host does not alter it.
+    /// The first of the order 1, 21, 22, 23, 3, 4 that applies is given (02). Numbers 21 to 23 cannot be: the areas' lengths are right here.
+    /// Number 4: the record is a chip's from the first reset on, since the host does not alter it.
     fn refused(&self, call: &str, length: u64) -> Option<Answer> {
         let overlong = length > AREA as u64;
         let number = if !self.allowed() {
@@ -877,46 +927,112 @@ impl Chip {
 
     // ---- Arrival ----
 
-    /// "In order: under 14 bytes, dropped. No match, dropped. RU Idle or Suspended, dropped. A frame already held: OVRNERRS. Short ...:
-    /// bad, no counter whatever the verdict. Misaligned verdict: bad, ALNERRS. CRC verdict: bad, CRCERRS. Any other of 14 bytes or more
-    /// is good. A bad frame is held only in Ready with save-bad set; a good one is held in Ready, else RSCERRS."
-    /// `length` is the frame's; of a frame of more than 2,048 bytes the bytes need not be given.
+    /// `length` is the frame's; of one of more than 2,048 bytes the beginning will do.
     pub fn arrival(&mut self, frame: &[u8], length: u64, verdict: u32) -> Answer {
         self.wrote.clear();
         if let Some(answer) = self.refused("arrival", length) {
+            let dropped = matches!(self.fate(frame, verdict), Fate::Dropped { .. });
+            self.note_if(dropped, &format!("refusal {} of a frame that would be dropped", answer.number));
             return answer;
         }
         self.raised = 0;
-        self.note(&format!("arrival of verdict {}", verdict.min(3)));
-        for special in [0, 13, 14, 2048] {
-            self.note_if(length == special, &format!("arrival of {special} bytes"));
+        let fate = self.fate(frame, verdict);
+        self.note_arrival(frame, verdict, fate);
+        let (why, counter) = match fate {
+            Fate::Dropped { why, counter } => (Some(why), counter),
+            Fate::Lost { counter } => (None, Some(counter)),
+            Fate::Held { held, counter } => {
+                self.hold(frame, held);
+                (None, counter)
+            }
+        };
+        if let Some(field) = counter {
+            self.count(field);
         }
-        if length < 14 {
-            self.note("dropped: under 14 bytes");
-            return Answer::done(0, false);
+        Answer { why, ..Answer::done(0, false) }
+    }
+
+    /// "In order: under 14 bytes, dropped. No match, dropped. RU Idle or Suspended, dropped. A frame already held: OVRNERRS. Short (bytes
+    /// plus 4 below the minimum): bad, no counter whatever the verdict. Misaligned verdict: bad, ALNERRS. CRC verdict: bad, CRCERRS. Any
+    /// other of 14 bytes or more is good. A bad frame is held only in Ready with save-bad set; a good one is held in Ready, else RSCERRS."
+    /// 02: "Each reason is given exactly when document 01's order reaches it."
+    fn fate(&self, frame: &[u8], verdict: u32) -> Fate {
+        let dropped = |why| Fate::Dropped { why, counter: None };
+        if frame.len() < 14 {
+            return dropped(Reason::TooFew);
         }
-        if !self.matches(frame) {
-            return Answer::done(0, false);
+        if !self.matches(destination(frame)) {
+            return dropped(Reason::NoMatch);
         }
-        self.hear(frame, verdict);
-        Answer::done(0, false)
+        let ready = match self.device.ru {
+            Ru::Idle => return dropped(Reason::Idle),
+            Ru::Suspended { .. } => return dropped(Reason::Suspended),
+            Ru::Ready { held: Some(_), .. } => return Fate::Lost { counter: OVRNERRS },
+            Ru::Ready { held: None, .. } => true,
+            Ru::NoResources => false,
+        };
+        let (short, verdict, save_bad) = (self.short(frame), Verdict::of(verdict), self.device.save_bad);
+        let counter = match verdict {
+            _ if short => None,
+            Verdict::Good => None,
+            Verdict::Crc => Some(CRCERRS),
+            Verdict::Misaligned => Some(ALNERRS),
+        };
+        let good = !short && verdict == Verdict::Good;
+        if ready && (good || save_bad) {
+            Fate::Held { held: Held { length: frame.len() as u16, verdict, short, save_bad, begun: None }, counter }
+        } else if good {
+            Fate::Lost { counter: RSCERRS }
+        } else {
+            Fate::Dropped { why: Reason::Bad, counter }
+        }
+    }
+
+    fn short(&self, frame: &[u8]) -> bool {
+        frame.len() + 4 < usize::from(self.device.minimum)
+    }
+
+    fn hold(&mut self, frame: &[u8], held: Held) {
+        if let Ru::Ready { held: place, .. } = &mut self.device.ru {
+            *place = Some(held);
+        }
+        self.holding[..frame.len()].copy_from_slice(frame);
+        self.wrote.push(Wrote::Holding(0, frame.len()));
     }
 
     /// "Match: promiscuous; or all FFh with broadcast enabled; or not all FFh and either own address or, with the low bit of the first
-    /// byte set, a listed address." 02: "a multicast frame passes when its bit is set, listed or not"; "Broadcast, own address and
-    /// promiscuous mode keep their rules."
-    fn matches(&self, frame: &[u8]) -> bool {
-        let to: [u8; 6] = std::array::from_fn(|i| frame[i]);
-        let all = to == [0xFF; 6];
-        let own = to == self.device.own;
-        let bit = hash(to);
-        let set = self.device.filter >> bit & 1 != 0;
-        let group = to[0] & 1 != 0;
-        let otherwise = if all { !self.device.no_broadcast } else { own || group && set };
+    /// byte set, a listed address." 02: "Broadcast, own address and promiscuous mode keep their rules."
+    fn matches(&self, to: [u8; 6]) -> bool {
+        self.device.promiscuous || self.passes(to)
+    }
+
+    /// The match without promiscuous mode.
+    fn passes(&self, to: [u8; 6]) -> bool {
+        if to == [0xFF; 6] { !self.device.no_broadcast } else { to == self.device.own || to[0] & 1 != 0 && self.bit_set(to) }
+    }
+
+    /// 02: "a multicast frame passes when its bit is set, listed or not"
+    fn bit_set(&self, to: [u8; 6]) -> bool {
+        self.device.filter >> hash(to) & 1 != 0
+    }
+
+    fn note_arrival(&self, frame: &[u8], verdict: u32, fate: Fate) {
+        self.note(&format!("arrival of verdict {}", verdict.min(3)));
+        for special in [0, 13, 14, 2048] {
+            self.note_if(frame.len() == special, &format!("arrival of {special} bytes"));
+        }
+        if frame.len() >= 14 {
+            self.note_match(destination(frame));
+        }
+        self.note_fate(frame, Verdict::of(verdict), fate);
+    }
+
+    fn note_match(&self, to: [u8; 6]) {
+        let (all, own, group, set) = (to == [0xFF; 6], to == self.device.own, to[0] & 1 != 0, self.bit_set(to));
         let listed = self.device.listed.addresses.contains(&to);
         if self.device.promiscuous {
-            self.note_if(!otherwise, "match: promiscuous alone");
-        } else if otherwise {
+            self.note_if(!self.passes(to), "match: promiscuous alone");
+        } else if self.passes(to) {
             self.note(match (all, own) {
                 (true, _) => "match: broadcast",
                 (false, true) => if group { "match: own, a group's" } else { "match: own" },
@@ -937,9 +1053,8 @@ impl Chip {
             });
         }
         if group && !all && !own && !self.device.promiscuous {
-            self.note_group(bit, set);
+            self.note_group(hash(to), set);
         }
-        self.device.promiscuous || otherwise
     }
 
     /// A group that only its bit decides.
@@ -952,53 +1067,49 @@ impl Chip {
         self.note_if(by(late) != set, "order: a group by MC-Setup's own status in its list");
     }
 
-    fn hear(&mut self, frame: &[u8], verdict: u32) {
-        let length = frame.len() as u16;
-        let (descriptor, suspend) = match self.device.ru {
-            Ru::Idle | Ru::Suspended { .. } => {
-                let name = if self.device.scb.is_none() { "before the first attention" } else { self.device.ru_name() };
-                self.note(&format!("dropped: {name}"));
-                return;
-            }
-            Ru::Ready { held: Some(_), .. } => {
-                self.note(&format!("overrun, verdict {}", verdict.min(2)));
-                self.count(14);
-                return;
-            }
-            Ru::Ready { descriptor, suspend, held: None } => (Some(descriptor), suspend),
-            Ru::NoResources => (None, false),
-        };
-        let verdict = match verdict {
-            0 => Verdict::Good,
-            1 => Verdict::Crc,
-            _ => Verdict::Misaligned,
-        };
-        // "Short (bytes plus 4 below the minimum)"
-        let short = length + 4 < u16::from(self.device.minimum);
-        self.note_if(length + 5 == u16::from(self.device.minimum), "arrival one byte below the minimum");
-        self.note_if(length + 4 == u16::from(self.device.minimum), "arrival of just the minimum");
-        let good = !short && verdict == Verdict::Good;
+    fn note_fate(&self, frame: &[u8], verdict: Verdict, fate: Fate) {
+        let short = self.short(frame);
         let kind = format!("{}{verdict:?}", if short { "short " } else { "" });
-        if !short && verdict == Verdict::Misaligned {
-            self.count(10);
-        }
-        if !short && verdict == Verdict::Crc {
-            self.count(8);
-        }
-        match descriptor {
-            Some(descriptor) if good || self.device.save_bad => {
-                self.note(&format!("held: {kind}"));
-                let held = Held { length, verdict, short, save_bad: self.device.save_bad, begun: None };
-                self.device.ru = Ru::Ready { descriptor, suspend, held: Some(held) };
-                self.holding[..frame.len()].copy_from_slice(frame);
-                self.wrote.push(Wrote::Holding(0, frame.len()));
+        let bad = short || verdict != Verdict::Good;
+        let save_bad = if self.device.save_bad { "save-bad set" } else { "save-bad clear" };
+        match fate {
+            Fate::Held { .. } => self.note(&format!("held: {kind}")),
+            Fate::Lost { counter: OVRNERRS } => {
+                self.note(&format!("overrun: {kind}"));
+                self.note_if(bad, &format!("overrun: bad, {save_bad}"));
+                return;
             }
-            None if good => {
-                self.note("lost in No Resources: Good");
-                self.count(12);
+            Fate::Lost { .. } => self.note(&format!("lost in No Resources, {save_bad}")),
+            Fate::Dropped { why, .. } => {
+                self.note_reason(frame, why, bad);
+                match self.device.ru {
+                    _ if why != Reason::Bad => return,
+                    Ru::NoResources => self.note(&format!("dropped in No Resources, {save_bad}: {kind}")),
+                    _ => self.note(&format!("dropped in Ready: {kind}")),
+                }
             }
-            Some(_) => self.note(&format!("lost in Ready: {kind}")),
-            None => self.note(&format!("lost in No Resources: {kind}")),
+        }
+        let minimum = usize::from(self.device.minimum);
+        self.note_if(frame.len() + 5 == minimum, "arrival one byte below the minimum");
+        self.note_if(frame.len() + 4 == minimum, "arrival of just the minimum");
+    }
+
+    /// A reason, and what else was so that comes later in the order.
+    fn note_reason(&self, frame: &[u8], why: Reason, bad: bool) {
+        let name = why.name();
+        let state = match self.device.ru {
+            _ if self.device.scb.is_none() => "before the first attention",
+            Ru::Ready { held: Some(_), .. } => "over a held frame",
+            _ => self.device.ru_name(),
+        };
+        self.note(&format!("reason: {name}"));
+        self.note_if(state != name, &format!("reason: {name}, {state}"));
+        self.note_if(bad && why != Reason::Bad, &format!("reason: {name}, bad too"));
+        // Of six bytes or more a match could be asked.
+        if frame.len() >= 6 {
+            let to = destination(frame);
+            self.note_if(why == Reason::TooFew && !self.matches(to), "reason: too few bytes, no match too");
+            self.note_if(self.device.promiscuous && !self.passes(to), &format!("reason: {name}, promiscuous alone"));
         }
     }
 
@@ -1112,9 +1223,9 @@ impl Chip {
             self.set_field(self.at(descriptor, 0), 0x0000);
         }
         if out && !held.short && held.verdict == Verdict::Good {
-            let from = (self.scb(12) + (self.n as u32) - self.at(descriptor, 0) % self.n as u32) % self.n as u32;
+            let from = (self.scb(RSCERRS) + (self.n as u32) - self.at(descriptor, 0) % self.n as u32) % self.n as u32;
             self.note_if(from == 0 || held.save_bad && from < 22, "order: RSCERRS lies in the frame descriptor");
-            self.count(12);
+            self.count(RSCERRS);
         }
         self.device.ru = if out || storing.el || last_el {
             self.note(match (out, storing.el, last_el) {
@@ -1166,6 +1277,11 @@ impl Chip {
         }
         if errors == 0 { 0xA000 } else { 0x8000 | errors }
     }
+}
+
+/// A frame's first six bytes.
+fn destination(frame: &[u8]) -> [u8; 6] {
+    std::array::from_fn(|i| frame[i])
 }
 
 // ---- The fold ----

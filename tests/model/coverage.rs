@@ -75,6 +75,9 @@ fn points() -> Vec<String> {
         add(format!("refusal 1 of {call}"));
         add(format!("refusal 4 of {call}"));
     }
+    for number in [1, 3, 4] {
+        add(format!("refusal {number} of a frame that would be dropped"));
+    }
     for count in 0..16 {
         add(format!("Configure of count {count}"));
         add(format!("report with bit {count}"));
@@ -87,18 +90,29 @@ fn points() -> Vec<String> {
     for verdict in 0..4 {
         add(format!("arrival of verdict {verdict}"));
     }
-    for verdict in 0..3 {
-        add(format!("overrun, verdict {verdict}"));
-    }
     for length in [0, 13, 14, 2048] {
         add(format!("arrival of {length} bytes"));
     }
     for kind in ["Good", "Crc", "Misaligned", "short Good", "short Crc", "short Misaligned"] {
         add(format!("held: {kind}"));
-        add(format!("lost in No Resources: {kind}"));
+        add(format!("overrun: {kind}"));
         if kind != "Good" {
-            add(format!("lost in Ready: {kind}"));
+            add(format!("dropped in Ready: {kind}"));
+            add(format!("dropped in No Resources, save-bad set: {kind}"));
+            add(format!("dropped in No Resources, save-bad clear: {kind}"));
         }
+    }
+    for reason in ["too few bytes", "no match"] {
+        for state in ["before the first attention", "Idle", "Suspended", "No Resources", "Ready", "over a held frame"] {
+            add(format!("reason: {reason}, {state}"));
+        }
+    }
+    for reason in ["too few bytes", "no match", "Idle", "Suspended"] {
+        add(format!("reason: {reason}"));
+        add(format!("reason: {reason}, bad too"));
+    }
+    for reason in ["too few bytes", "Idle", "Suspended", "bad"] {
+        add(format!("reason: {reason}, promiscuous alone"));
     }
     for status in ["A000", "8080", "8800", "8880", "8400", "8480", "8200", "8280", "8A00", "8A80", "8600", "8680"] {
         add(format!("stored {status}"));
@@ -200,7 +214,15 @@ const POINTS: &str = "
     Transmit: sent, with a report
     Transmit: 14 bytes sent
     Transmit: 2,048 bytes sent
-    dropped: under 14 bytes
+    lost in No Resources, save-bad set
+    lost in No Resources, save-bad clear
+    overrun: bad, save-bad set
+    overrun: bad, save-bad clear
+    reason: too few bytes, no match too
+    reason: Idle, before the first attention
+    reason: bad
+    reason: bad, Ready
+    reason: bad, No Resources
     dropped: broadcast disabled
     dropped: broadcast disabled, own all FFh
     dropped: broadcast disabled, listed
@@ -211,9 +233,6 @@ const POINTS: &str = "
     dropped: listed without its low bit
     dropped: another's
     dropped: another's, its bit set
-    dropped: before the first attention
-    dropped: Idle
-    dropped: Suspended
     match: promiscuous alone
     match: broadcast
     match: own

@@ -430,6 +430,7 @@ impl Generator<'_> {
             27..=31 => return self.filtering(),
             32..=34 => return self.end_send(),
             35..=37 => return self.end_store(),
+            38 => return self.dropping(),
             _ => {}
         }
         let device = self.device();
@@ -464,11 +465,11 @@ impl Generator<'_> {
 
     // ---- One frame, closely watched ----
 
-    /// Starts a list of one Configure.
-    fn start_configure(&mut self, save_bad: bool, minimum: u8) -> io::Result<()> {
+    /// Starts a list of one Configure, with this byte 8.
+    fn start_configure(&mut self, save_bad: bool, byte8: u8, minimum: u8) -> io::Result<()> {
         let block = self.piece(24);
         let offset = self.offset(block);
-        self.put(block, &[0, 0, 2, 0x80, 0, 0, 12, 0, if save_bad { 0x80 } else { 0 }, 6, 0, 0, 0, 0, 0, 0, minimum, 0])?;
+        self.put(block, &[0, 0, 2, 0x80, 0, 0, 12, 0, if save_bad { 0x80 } else { 0 }, 6, 0, 0, 0, 0, byte8, 0, minimum, 0])?;
         self.put_words(self.scb(4), &[offset])?;
         self.command(0x0100)
     }
@@ -478,7 +479,7 @@ impl Generator<'_> {
         self.command(0xF440)?;
         let save_bad = self.random.chance(85);
         let minimum = self.random.pick(&[64, 64, 64, 40, 18]);
-        self.start_configure(save_bad, minimum)?;
+        self.start_configure(save_bad, 0, minimum)?;
         self.line("turn 2".into())?;
         let descriptors = [self.piece(22), self.piece(22), self.piece(10), self.piece(10)];
         let offsets = descriptors.map(|at| self.offset(at));
@@ -501,8 +502,8 @@ impl Generator<'_> {
             match self.random.below(14) {
                 0 | 1 => self.command(0x0030)?,
                 2 => self.attention()?,
-                3 | 4 if !self.device().cu_works() => self.start_configure(!save_bad, minimum)?,
-                5 if self.device().ru_name().contains("waits") => self.attention()?,
+                3 | 4 if !self.device().cu_works() => self.start_configure(!save_bad, 0, minimum)?,
+                5..=7 if self.device().ru_name().contains("waits") => self.attention()?,
                 _ if self.device().ru_works() => self.turn()?,
                 _ => break,
             }
@@ -771,6 +772,69 @@ impl Generator<'_> {
         }
     }
 
+    // ---- Why a frame is dropped, closely watched ----
+
+    /// Frames of all kinds in every state of the RU: of several reasons the first is told.
+    fn dropping(&mut self) -> io::Result<()> {
+        self.command(0xF440)?;
+        let (save_bad, byte8) = (self.random.chance(50), self.random.pick(&[0, 0, 0, 1, 1, 1, 2]));
+        let minimum = self.random.pick(&[64, 64, 64, 64, 30, 30, 18, 255]);
+        self.start_configure(save_bad, byte8, minimum)?;
+        self.line("turn 2".into())?;
+        // Idle
+        self.judged(4)?;
+        let descriptor = self.piece(22);
+        let offset = self.offset(descriptor);
+        self.put_words(descriptor, &[0, 0x8000, offset, NONE])?;
+        self.put_words(self.scb(6), &[offset])?;
+        self.command(0x0010)?;
+        // Suspended
+        self.command(0x0030)?;
+        self.judged(4)?;
+        // Ready, until one is held
+        self.command(0x0010)?;
+        self.judged(4)?;
+        // No Resources, by one that is held at the latest now
+        let to = self.sure();
+        self.line(format!("arrival 0 {} 255x00", hex(&to)))?;
+        self.line("turn 2".into())?;
+        self.judged(7)?;
+        // Before the first attention
+        if self.random.chance(50) {
+            self.command(0x0080)?;
+            self.judged(4)?;
+        }
+        Ok(())
+    }
+
+    /// So many frames, to the chip or to others, of lengths about fourteen and about the minimum.
+    fn judged(&mut self, count: usize) -> io::Result<()> {
+        for _ in 0..count {
+            let to = if self.random.chance(if self.device().promiscuous { 40 } else { 65 }) { self.sure() } else { self.stranger() };
+            let length = self.judged_length();
+            self.frame(to, length)?;
+        }
+        self.show_scb()
+    }
+
+    fn judged_length(&mut self) -> usize {
+        let minimum = usize::from(self.device().minimum).max(18);
+        match self.random.below(8) {
+            0 => self.random.below(14),
+            1 => self.random.pick(&[12, 13, 13, 14]),
+            2..=4 => 14 + self.random.below(minimum - 17),
+            5 => minimum - 4,
+            _ => minimum + self.random.below(40),
+        }
+    }
+
+    /// An address that the chip takes in promiscuous mode alone, or nearly always so: a group may fall on a bit that is set.
+    fn stranger(&mut self) -> [u8; 6] {
+        let clear = !self.device().filter;
+        let low = self.random.pick(&[0, 0, 1]);
+        self.falling(if low == 1 { clear } else { 0 }, low)
+    }
+
     // ---- Pieces over the SCB, where the order inside a call shows ----
 
     /// A place over the SCB, often that one.
@@ -940,7 +1004,7 @@ impl Generator<'_> {
     /// A Transmit of 63 to 66 descriptors, or of one that is its own next.
     fn long_send(&mut self) -> io::Result<()> {
         self.command(0xF400)?;
-        let count = self.random.pick(&[63, 64, 64, 64, 65, 65]);
+        let count = self.random.pick(&[63, 64, 64, 64, 64, 65, 65]);
         let width = self.random.pick(&[7, 8]);
         let size = self.random.below(32);
         let first = self.piece(count * width);

@@ -1,6 +1,6 @@
 //! The text form of a list of calls, as docs/replay.md has it: reads a line, does it, prints what it prints.
 
-use crate::chip::{Answer, Chip, AREA};
+use crate::chip::{Answer, Chip, Reason, AREA};
 use std::io::{self, Write};
 
 /// The replay program's memory.
@@ -277,26 +277,26 @@ impl Replay {
             Line::Size(n) => self.chip.n = n,
             Line::Reset => {
                 calls = 1;
-                answer(self.chip.reset(), out)?;
+                answer(self.chip.reset(), 0, out)?;
             }
             Line::Attention => {
                 calls = 1;
-                answer(self.chip.attention(), out)?;
+                answer(self.chip.attention(), 0, out)?;
             }
             Line::Arrival(verdict, frame) => {
                 calls = 1;
-                answer(self.chip.arrival(&frame.bytes, frame.length, verdict), out)?;
+                answer(self.chip.arrival(&frame.bytes, frame.length, verdict), 0, out)?;
             }
             Line::Turn(count, report) => {
                 calls = count;
                 for _ in 0..count {
-                    answer(self.chip.turn(report), out)?;
+                    answer(self.chip.turn(report), 0, out)?;
                 }
             }
             Line::Run(budget, report) => {
                 calls = 1;
                 let (last, taken) = self.chip.run(budget, report);
-                answer_of_run(last, taken, out)?;
+                answer(last, taken, out)?;
             }
             Line::Bytes(area, place, bytes) => {
                 self.area_mut(area)[place..place + bytes.bytes.len()].copy_from_slice(&bytes.bytes);
@@ -355,17 +355,27 @@ impl Replay {
     }
 }
 
-/// "An answer is a line of three numbers"
-fn answer(answer: Answer, out: &mut dyn Write) -> io::Result<()> {
-    writeln!(out, "{} {} {}", answer.number, answer.length, u8::from(answer.edge))
+/// "An answer is a line of three numbers"; behind them stands how many turns a run has taken, and behind these why a frame was dropped. What
+/// is not there is not told.
+fn answer(answer: Answer, taken: u16, out: &mut dyn Write) -> io::Result<()> {
+    write!(out, "{} {} {}", answer.number, answer.length, u8::from(answer.edge))?;
+    if taken != 0 {
+        write!(out, " {taken}")?;
+    }
+    if let Some(why) = answer.why {
+        write!(out, " {}", word(why))?;
+    }
+    writeln!(out)
 }
 
-/// "A run's are those of its last turn, and behind them stands how many turns it has taken"; none are not told.
-fn answer_of_run(last: Answer, taken: u16, out: &mut dyn Write) -> io::Result<()> {
-    if taken == 0 {
-        return answer(last, out);
+fn word(why: Reason) -> &'static str {
+    match why {
+        Reason::TooFew => "too-few",
+        Reason::NoMatch => "no-match",
+        Reason::Idle => "idle",
+        Reason::Suspended => "suspended",
+        Reason::Bad => "bad",
     }
-    writeln!(out, "{} {} {} {taken}", last.number, last.length, u8::from(last.edge))
 }
 
 /// A list's lines. A last line without a newline is a line; nothing behind the last newline is none.

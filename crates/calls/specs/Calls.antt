@@ -7,6 +7,7 @@ use lib.Dec.{eqb}
 use lib.ListN.{length}
 use Rattle.device.specs.Numbers.{refusalNumber}
 use Rattle.device.specs.declared.Answer.{Answer}
+use Rattle.device.specs.declared.Reason.the-variants as reason
 use Rattle.device.specs.declared.Refusal.{Refusal}
 use Rattle.device.specs.declared.Refusal.the-variants as refusal
 use Rattle.image.specs.Image.{imageOf, decodeOf, deviceAt}
@@ -69,9 +70,9 @@ lengthsOf a f =
 unfoldable pub refusalOf : Areas → List ℕ → Refusal
 refusalOf a f = firstWrong (isRight (lengthsOf a f) (isImage (decodeOf (a .kept)))) rows
 
--- length 0, no interrupt edge; a refusal changes nothing lent
+-- length 0, no interrupt edge, no reason; a refusal changes nothing lent
 abbrev pub refusedAnswer : Refusal → Answer
-refusedAnswer r = record { number = r; length = 0; edge = false }
+refusedAnswer r = record { number = r; length = 0; edge = false; reason = reason.NotDropped }
 
 abbrev pub refused : Refusal → Areas → Called
 refused r a = record { answer = answerNumber (refusedAnswer r); areas = a }

@@ -1,4 +1,5 @@
--- The table of refusals as rows: 01, "Calls, lent areas, refusals". A row is a case of `Refusal`, which has its number. Assumes nothing.
+-- The table of refusals as rows: 01, "Calls, lent areas, refusals", as 02, Wish 3, mends it. A row is a case of `Refusal`, which has its number.
+-- Assumes nothing.
 use mathlib.Core.Bool.{Bool, true, cond}
 use mathlib.Core.List.{List, [], _∷_}
 use Prim.Native.Nat.{ℕ}
@@ -28,7 +29,7 @@ isRight l image refusal.Foreign = image
 
 -- ---- the rows of each call, in the order in which they are given
 
--- "every other call takes all four"
+-- "every other call takes all four". 02, Wish 3: "21 device record, 22 holding area, 23 outgoing area, lowest first, between 1 and 3 in the order"
 abbrev pub rows : List Refusal
 rows = refusal.Memory ∷ refusal.Record ∷ refusal.Holding ∷ refusal.Outgoing ∷ refusal.Overlong ∷ refusal.Foreign ∷ []
 
@@ -36,7 +37,7 @@ rows = refusal.Memory ∷ refusal.Record ∷ refusal.Holding ∷ refusal.Outgoin
 abbrev pub resetRows : List Refusal
 resetRows = refusal.Record ∷ []
 
--- "The lowest number that applies is given": that of the first row that is not right
+-- "The lowest number that applies is given", as mended: that of the first row, in this order, that is not right
 abbrev pub firstWrong : (right : Refusal → Bool) → List Refusal → Refusal
 firstWrong right [] = refusal.Accepted
 firstWrong right (r ∷ rs) = cond (right r) (firstWrong right rs) r

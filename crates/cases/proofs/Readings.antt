@@ -7,7 +7,7 @@ use lib.ListN.{replicate}
 use Rattle.chip.specs.Cases.{Word, _is_, unsaid, high, low, Step, Case, passes, allPass}
 use Rattle.chip.specs.Call.{reset, attention, arrive, turn}
 use Rattle.cases.proofs.Prepared.{all-prepared}
-use Rattle.chip.proofs.Board.{board, descriptors, bufferAt, good, crc, misaligned, counting, broadcast, quiet, edge, step, ends, turned, came, initialised, receiving, commanding, attended, raising, settling, configured, saving, working, counters}
+use Rattle.chip.proofs.Board.{board, descriptors, bufferAt, good, crc, misaligned, counting, broadcast, quiet, edge, step, ends, turned, came, notDropped, tooFew, noMatch, unitIdle, unitSuspended, dropped, initialised, receiving, commanding, attended, raising, settling, configured, saving, working, counters}
 
 -- ---- the first attention
 
@@ -27,10 +27,19 @@ obeysNothing =
       steps = step [] attention edge (0x30 is 0xA000 ∷ 0x32 is 0 ∷ 0x20 is 0xAB00 ∷ []) high ∷ turned (0x30 is 0xA000 ∷ []) ∷ [];
     }
 
--- before it a frame is dropped, no counter moves, and a turn finds no work
+-- before it a frame is dropped, no counter moves, and a turn finds no work. The unit is Idle, which is told after length and match
 nothingBefore : Case
 nothingBefore =
-    record { given = board; steps = came (broadcast 46) good (0x0C is 0 ∷ 0x3C is 0 ∷ []) ∷ turned (0x30 is 0 ∷ []) ∷ initialised ∷ [] }
+    record {
+      given = board;
+      steps =
+          dropped tooFew (replicate 13 2) good []
+          ∷ dropped noMatch (2 ∷ replicate 59 255) good []
+          ∷ dropped unitIdle (broadcast 46) good (0x0C is 0 ∷ 0x3C is 0 ∷ [])
+          ∷ turned (0x30 is 0 ∷ [])
+          ∷ initialised
+          ∷ [];
+    }
 
 -- ---- attention
 
@@ -164,7 +173,7 @@ suspendHeld =
           ∷ turned []
           ∷ turned []
           ∷ settling (0x60 is 0xA000 ∷ 0x86 is 0xAA ∷ 0x30 is 0x5010 ∷ [])
-          ∷ came (broadcast 46) good (0x38 is 0 ∷ 0x3A is 0 ∷ 0x3C is 0 ∷ 0x3E is 0 ∷ [])
+          ∷ dropped unitSuspended (broadcast 46) good (0x38 is 0 ∷ 0x3A is 0 ∷ 0x3C is 0 ∷ 0x3E is 0 ∷ [])
           ∷ turned (0x80 is 0 ∷ [])
           ∷ [];
     }
@@ -239,7 +248,7 @@ configureKeeps =
           ∷ turned []
           ∷ settling (0x80 is 0x8000 ∷ 0x30 is 0x2000 ∷ [])
           ∷ receiving
-          ∷ came (broadcast 46) good []
+          ∷ dropped noMatch (broadcast 46) good []
           ∷ turned (0x60 is 0 ∷ [])
           ∷ [];
     }
@@ -249,7 +258,7 @@ ownOfOnes : Case
 ownOfOnes =
     record {
       given = 0x42 is 0x8002 ∷ 0x46 is 0x000C ∷ 0x48 is 0x0600 ∷ 0x4E is 0x0002 ∷ 0x50 is 0x0040 ∷ board;
-      steps = configured ++ (receiving ∷ came (broadcast 46) good [] ∷ turned (0x60 is 0 ∷ []) ∷ []);
+      steps = configured ++ (receiving ∷ dropped noMatch (broadcast 46) good [] ∷ turned (0x60 is 0 ∷ []) ∷ []);
     }
 
 -- MC-Setup: a listed group is received; one whose bit is clear is not, nor an address with the low bit clear, though it is listed
@@ -260,8 +269,8 @@ listed =
       steps =
           configured
           ++ (receiving
-          ∷ came (4 ∷ 2 ∷ 0 ∷ 0 ∷ 0 ∷ 0 ∷ counting 1 54) good []
-          ∷ came (3 ∷ 3 ∷ 0 ∷ 0 ∷ 0 ∷ 0 ∷ counting 1 54) good []
+          ∷ dropped noMatch (4 ∷ 2 ∷ 0 ∷ 0 ∷ 0 ∷ 0 ∷ counting 1 54) good []
+          ∷ dropped noMatch (3 ∷ 3 ∷ 0 ∷ 0 ∷ 0 ∷ 0 ∷ counting 1 54) good []
           ∷ turned (0x60 is 0 ∷ [])
           ∷ came (3 ∷ 2 ∷ 0 ∷ 0 ∷ 0 ∷ 0 ∷ counting 1 54) good []
           ∷ turned (0x60 is 0x4000 ∷ [])
@@ -276,7 +285,7 @@ sharedBit =
       steps =
           configured
           ++ (receiving
-          ∷ came (3 ∷ 3 ∷ 0 ∷ 0 ∷ 0 ∷ 0 ∷ counting 1 54) good []
+          ∷ dropped noMatch (3 ∷ 3 ∷ 0 ∷ 0 ∷ 0 ∷ 0 ∷ counting 1 54) good []
           ∷ turned (0x60 is 0 ∷ [])
           ∷ came (1 ∷ 0x0B ∷ 0 ∷ 0 ∷ 0 ∷ 0 ∷ counting 1 54) good []
           ∷ turned (0x60 is 0x4000 ∷ [])
@@ -291,8 +300,8 @@ noGroupListed =
       steps =
           configured
           ++ (receiving
-          ∷ came (4 ∷ 2 ∷ 0 ∷ 0 ∷ 0 ∷ 0 ∷ counting 1 54) good []
-          ∷ came (3 ∷ 2 ∷ 0 ∷ 0 ∷ 0 ∷ 0 ∷ counting 1 54) good []
+          ∷ dropped noMatch (4 ∷ 2 ∷ 0 ∷ 0 ∷ 0 ∷ 0 ∷ counting 1 54) good []
+          ∷ dropped noMatch (3 ∷ 2 ∷ 0 ∷ 0 ∷ 0 ∷ 0 ∷ counting 1 54) good []
           ∷ turned (0x60 is 0 ∷ [])
           ∷ came (1 ∷ 0x1A ∷ 0 ∷ 0 ∷ 0 ∷ 0 ∷ counting 1 54) good []
           ∷ turned (0x60 is 0x4000 ∷ [])
@@ -300,11 +309,11 @@ noGroupListed =
     }
 
 -- a second address counts only whole
-remainder : (count descriptor : ℕ) → Case
-remainder count descriptor =
+remainder : (count descriptor reason : ℕ) → Case
+remainder count descriptor reason =
     record {
       given = 0x42 is 0x8003 ∷ 0x46 is count ∷ 0x4E is 0x0203 ∷ descriptors ++ board;
-      steps = configured ++ (receiving ∷ came (3 ∷ 2 ∷ 0 ∷ 0 ∷ 0 ∷ 0 ∷ counting 1 54) good [] ∷ turned (0x60 is descriptor ∷ []) ∷ []);
+      steps = configured ++ (receiving ∷ dropped reason (3 ∷ 2 ∷ 0 ∷ 0 ∷ 0 ∷ 0 ∷ counting 1 54) good [] ∷ turned (0x60 is descriptor ∷ []) ∷ []);
     }
 
 -- the count and the addresses are read at the end turn
@@ -318,7 +327,7 @@ listedAtEnd =
           ∷ turned []
           ∷ step (0x46 is 12 ∷ 0x48 is 0 ∷ 0x4E is 0x0203 ∷ []) (turn 0) edge (0x40 is 0xA000 ∷ 0x30 is 0x2000 ∷ []) high
           ∷ receiving
-          ∷ came (3 ∷ 3 ∷ 0 ∷ 0 ∷ 0 ∷ 0 ∷ counting 1 54) good []
+          ∷ dropped noMatch (3 ∷ 3 ∷ 0 ∷ 0 ∷ 0 ∷ 0 ∷ counting 1 54) good []
           ∷ turned (0x60 is 0 ∷ [])
           ∷ came (3 ∷ 2 ∷ 0 ∷ 0 ∷ 0 ∷ 0 ∷ counting 1 54) good []
           ∷ turned (0x60 is 0x4000 ∷ [])
@@ -516,8 +525,8 @@ readings =
     ∷ listed
     ∷ sharedBit
     ∷ noGroupListed
-    ∷ remainder 11 0
-    ∷ remainder 12 0x4000
+    ∷ remainder 11 0 noMatch
+    ∷ remainder 12 0x4000 notDropped
     ∷ listedAtEnd
     ∷ threeMore
     ∷ bareTransmit 0xFFFF 0 0x86EF

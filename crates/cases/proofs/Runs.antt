@@ -99,7 +99,7 @@ cases =
     ∷ idle 0 0
     ∷ idle 1 1
     ∷ idle 65535 1
-    ∷ sending 0 3 (record { number = 0; length = 18; edge = false }) (0x40 is 0xA000 ∷ 0x50 is 0 ∷ 0x30 is 0x0200 ∷ [])
+    ∷ sending 0 3 (record { number = 0; length = 18; edge = false; reason = 0 }) (0x40 is 0xA000 ∷ 0x50 is 0 ∷ 0x30 is 0x0200 ∷ [])
     ∷ sending 0x0020 5 edge (0x40 is 0x8020 ∷ 0x50 is 0xA000 ∷ 0x30 is 0xA000 ∷ [])
     ∷ storing 4 4 quiet (0x60 is 0x4000 ∷ 0xB4 is 0xC006 ∷ 0x30 is 0x0040 ∷ [])
     ∷ storing 65535 5 edge (0x60 is 0xA000 ∷ 0x30 is 0x4040 ∷ [])

@@ -32,6 +32,25 @@ crc = 1
 abbrev pub misaligned : ℕ
 misaligned = 2
 
+-- why a frame is dropped, if it is
+abbrev pub notDropped : ℕ
+notDropped = 0
+
+abbrev pub tooFew : ℕ
+tooFew = 1
+
+abbrev pub noMatch : ℕ
+noMatch = 2
+
+abbrev pub unitIdle : ℕ
+unitIdle = 3
+
+abbrev pub unitSuspended : ℕ
+unitSuspended = 4
+
+abbrev pub bad : ℕ
+bad = 5
+
 -- ---- frames
 
 -- n bytes that count up from k
@@ -47,10 +66,10 @@ broadcast n = replicate 6 255 ++ (counting 2 6 ++ (8 ∷ 0 ∷ counting 1 n))
 
 -- what a call that sends nothing answers: no edge, an edge
 abbrev pub quiet : Said
-quiet = record { number = 0; length = 0; edge = false }
+quiet = record { number = 0; length = 0; edge = false; reason = notDropped }
 
 abbrev pub edge : Said
-edge = record { number = 0; length = 0; edge = true }
+edge = record { number = 0; length = 0; edge = true; reason = notDropped }
 
 -- the host writes words; a call answers; words stand in memory; the interrupt has a level
 abbrev pub step : List Word → Call → Said → List Word → Level → Step
@@ -65,7 +84,7 @@ ends report length words outgoing =
       held = [];
       sent = [];
       call = turn report;
-      answer = record { number = 0; length = length; edge = true };
+      answer = record { number = 0; length = length; edge = true; reason = notDropped };
       words = words;
       outgoing = outgoing;
       level = high;
@@ -75,9 +94,13 @@ ends report length words outgoing =
 abbrev pub turned : List Word → Step
 turned words = step [] (turn 0) quiet words unsaid
 
--- a frame that comes: words of memory afterwards
+-- a frame that comes and is dropped for a reason: words of memory afterwards
+abbrev pub dropped : (reason : ℕ) → List ℕ → ℕ → List Word → Step
+dropped reason f verdict words = step [] (arrive f verdict) (record { number = 0; length = 0; edge = false; reason = reason }) words unsaid
+
+-- one that comes and is held, or lost and counted
 abbrev pub came : List ℕ → ℕ → List Word → Step
-came f verdict words = step [] (arrive f verdict) quiet words unsaid
+came f verdict words = dropped notDropped f verdict words
 
 -- the first attention
 abbrev pub initialised : Step

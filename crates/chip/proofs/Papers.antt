@@ -5,7 +5,7 @@ use Prim.Native.Nat.{ℕ}
 use lib.Dec.{T}
 use Rattle.chip.specs.Cases.{Word, _is_, Level, unsaid, high, low, Said, Step, Case, passes, allPass}
 use Rattle.chip.specs.Call.{Call, attention, arrive, turn}
-use Rattle.chip.proofs.Board.{board, descriptors, bufferAt, good, crc, misaligned, broadcast, quiet, edge, step, ends, turned, came, initialised, receiving, commanding}
+use Rattle.chip.proofs.Board.{board, descriptors, bufferAt, good, crc, misaligned, broadcast, quiet, edge, step, ends, turned, came, bad, dropped, initialised, receiving, commanding}
 
 -- (P1) after initialisation A000h: BUSY is cleared, the command too
 p1 : Case
@@ -94,7 +94,7 @@ p5dropped =
       steps =
           initialised
           ∷ receiving
-          ∷ came (broadcast 45) good (0x60 is 0 ∷ 0x38 is 0 ∷ 0x3A is 0 ∷ 0x3C is 0 ∷ 0x3E is 0 ∷ [])
+          ∷ dropped bad (broadcast 45) good (0x60 is 0 ∷ 0x38 is 0 ∷ 0x3A is 0 ∷ 0x3C is 0 ∷ 0x3E is 0 ∷ [])
           ∷ turned (0x60 is 0 ∷ 0xA0 is 0 ∷ 0x30 is 0x0040 ∷ [])
           ∷ came (broadcast 46) good []
           ∷ turned (0x60 is 0x4000 ∷ [])
@@ -112,8 +112,8 @@ p6 =
       steps =
           initialised
           ∷ receiving
-          ∷ came (broadcast 46) crc (0x38 is 0 ∷ 0x3A is 0xFFFF ∷ 0x3C is 0xFFFF ∷ 0x3E is 0xFFFF ∷ [])
-          ∷ came (broadcast 46) misaligned (0x38 is 0 ∷ 0x3A is 0 ∷ 0x3C is 0xFFFF ∷ 0x3E is 0xFFFF ∷ [])
+          ∷ dropped bad (broadcast 46) crc (0x38 is 0 ∷ 0x3A is 0xFFFF ∷ 0x3C is 0xFFFF ∷ 0x3E is 0xFFFF ∷ [])
+          ∷ dropped bad (broadcast 46) misaligned (0x38 is 0 ∷ 0x3A is 0 ∷ 0x3C is 0xFFFF ∷ 0x3E is 0xFFFF ∷ [])
           ∷ came (broadcast 46) good (0x38 is 0 ∷ 0x3A is 0 ∷ 0x3C is 0xFFFF ∷ 0x3E is 0xFFFF ∷ [])
           ∷ came (broadcast 46) good (0x38 is 0 ∷ 0x3A is 0 ∷ 0x3C is 0xFFFF ∷ 0x3E is 0 ∷ [])
           ∷ turned []

@@ -5,7 +5,7 @@ use Prim.Native.Nat.{ℕ}
 use lib.Dec.{T}
 use Rattle.chip.specs.Cases.{Word, _is_, unsaid, high, low, Step, Case, passes, allPass}
 use Rattle.chip.specs.Call.{attention, arrive, turn}
-use Rattle.chip.proofs.Board.{boardAt, board, descriptors, bufferAt, good, crc, misaligned, broadcast, quiet, edge, step, ends, turned, came, initialised, receiving, commanding}
+use Rattle.chip.proofs.Board.{boardAt, board, descriptors, bufferAt, good, crc, misaligned, broadcast, quiet, edge, step, ends, turned, came, unitIdle, dropped, initialised, receiving, commanding}
 
 -- ---- Adding the base to a buffer's real address. With a base of 10h the SCB is at 40h, and offset 90h is address A0h; the buffer is at C0h
 
@@ -54,7 +54,7 @@ unfolding five
 idleCountsNothing =
     record {
       given = five ++ board;
-      steps = initialised ∷ came (broadcast 46) good five ∷ came (broadcast 46) crc five ∷ came (broadcast 46) misaligned five ∷ [];
+      steps = initialised ∷ dropped unitIdle (broadcast 46) good five ∷ dropped unitIdle (broadcast 46) crc five ∷ dropped unitIdle (broadcast 46) misaligned five ∷ [];
     }
 
 -- ---- Taking a link at begin

@@ -12,7 +12,7 @@ use Rattle.scb.specs.Words.{bitsAt, joined, acknowledged, anyOf, eventBits, sta
 use Rattle.hash.specs.Hash.{ones, shifted, step, bitsIn, register, selected, hash}
 use Rattle.device.specs.Answers.{counts}
 use Rattle.device.specs.Limits.{holdingSize, outgoingSize}
-use Rattle.device.specs.Numbers.{actionOf, verdictOf, refusalNumber}
+use Rattle.device.specs.Numbers.{actionOf, verdictOf, refusalNumber, reasonNumber}
 use Rattle.device.specs.State.{fresh}
 use Rattle.device.specs.declared.Answer.{Answer}
 use Rattle.filter.specs.Match.{agree, matches}
@@ -50,11 +50,12 @@ pub data Level : Type 0 where
   high : Level
   low : Level
 
--- an answer: number, length, edge
+-- an answer: number, length, edge, reason
 pub record Said : Type 0 where
   pub number : ℕ
   pub length : ℕ
   pub edge : Bool
+  pub reason : ℕ
 
 pub record Step : Type 0 where
   -- words that the host writes before the call
@@ -105,7 +106,11 @@ same true b = b
 same false b = not b
 
 abbrev pub answers : Answer → Said → Bool
-answers a s = eqb (refusalNumber (a .number)) (s .number) && eqb (a .length) (s .length) && same (a .edge) (s .edge)
+answers a s =
+    eqb (refusalNumber (a .number)) (s .number)
+    && eqb (a .length) (s .length)
+    && same (a .edge) (s .edge)
+    && eqb (reasonNumber (a .reason)) (s .reason)
 
 abbrev pub holds : List Word → List ℕ → Bool
 holds [] m = true

@@ -213,7 +213,7 @@ long-by false c a e f l =
 pub areas-as-long : (c : Call) (a : Areas) → FrameBytes c → AreBytes a → AsLong a (called c a .areas)
 areas-as-long c a f l = long-by (isRefused (called c a)) c a refl f l
 
--- ---- the answer of a call that is not refused, taken apart: number 0, the length and the edge of the call on the state
+-- ---- the answer of a call that is not refused, taken apart: number 0, the length, the edge and the reason of the call on the state
 
 pub answer-parts : (c : Call) (a : Areas) (d : Device) → AreBytes a → Holds (a .kept) d → isRefused (called c a) ≡ false
     → Parts (called c a .answer) (ran c (worldIn d a) .outcome .answer)
@@ -228,6 +228,7 @@ answer-parts c a d l h e =
       length = t .sent;
       most = omega (arith, t .sent, m);
       edge = t .edged;
+      reason = t .explained;
       whole = refl;
     })
 

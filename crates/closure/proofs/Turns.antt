@@ -376,7 +376,7 @@ run-again a report budget l e =
     let same = run-same a (x .image .0) report budget (x .image .1) x in
     (runOf budget w report .world .device, record { wide = g .wide; range = g .range; image = ap (λ (c : Called). c .areas .kept) same })
 
-turns-lent : (k : ℕ) (a : Areas) (report : ℕ) → AreBytes a → AreBytes (turnsOn k a report)
+pub turns-lent : (k : ℕ) (a : Areas) (report : ℕ) → AreBytes a → AreBytes (turnsOn k a report)
 turns-lent zero a report l = l
 turns-lent (suc k) a report l = turns-lent k (turnCall a report .areas) report (lent-kept (turn report) a bytes-nil l)
 

@@ -3,13 +3,14 @@ use mathlib.Core.Path.{_≡_}
 use Prim.Native.Nat.{ℕ, _≤_}
 use lib.ListN.{length}
 use Rattle.scb.specs.Words.{one}
+use Rattle.device.specs.Numbers.{reasonNumber}
 use Rattle.device.specs.declared.Answer.{Answer}
 use Rattle.device.specs.declared.Device.{Device}
 use Rattle.image.specs.Image.{decodeOf, deviceAt}
 use Rattle.image.specs.Found as is
 use Rattle.chip.specs.Call.{Call, ran}
 use Rattle.calls.specs.Calls.{Areas, answerNumber, onBytes}
-use Rattle.traces.specs.Bytes.{called, number, sentLength, edge}
+use Rattle.traces.specs.Bytes.{called, number, sentLength, edge, reason}
 use Rattle.traces.specs.Areas.{Holds, worldIn}
 use Rattle.closure.specs.Refusals.{TakesAll}
 
@@ -34,11 +35,13 @@ pub record Again (c : Call) (a : Areas) : Type 0 where
   pub held : TakesAll c (Holds (a .kept) device)
   pub carried : Carried c device a
 
--- the answer of a call that is not refused, taken apart: number 0, and the length, no more than 2,048, and the edge that the call on a state answers
+-- the answer of a call that is not refused, taken apart: number 0, and the length, no more than 2,048, the edge and the reason that the call on a state
+-- answers
 pub record Parts (answer : ℕ) (said : Answer) : Type 0 where
   pub number : number answer ≡ 0
   pub length : sentLength answer ≡ said .length
   pub most : sentLength answer ≤ 2048
   pub edge : edge answer ≡ one (said .edge)
+  pub reason : reason answer ≡ reasonNumber (said .reason)
   -- and nothing else
   pub whole : answer ≡ answerNumber said

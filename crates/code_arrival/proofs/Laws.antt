@@ -1,20 +1,24 @@
--- Good frames, and which counter an arrival adds to. No contract cites this file. Assumes nothing.
+-- Good frames, which counter an arrival adds to, and why a frame is dropped. No contract cites this file. Assumes nothing.
 use mathlib.Core.Path.{_≡_, _∙_, refl, sym, ap}
 use mathlib.Core.Bool.{Bool, true, false, not, cond, _&&_, _||_, false≢true}
 use mathlib.Core.List.{List, [], _∷_}
 use Prim.Native.Nat.{ℕ, _<_, _≤_}
 use native.Mathlib.Omega.{arith}
-use lib.Dec.{eqb}
+use lib.Dec.{eqb, ltb}
 use Rattle.memory.specs.Address.{place}
 use Rattle.memory.specs.Memory.{countTo}
 use Rattle.memory.specs.declared.Offset.{Offset}
 use Rattle.memory.specs.declared.RealAddress.{RealAddress}
-use Rattle.device.specs.Answers.{counterOf, counts, isHeld}
+use Rattle.device.specs.Answers.{counterOf, counts, isHeld, reasonOf}
 use Rattle.device.specs.Numbers.{counterPlace, verdictOf}
 use Rattle.device.specs.State.{goodBy, isGood}
 use Rattle.device.specs.declared.Counter.{Counter}
 use Rattle.device.specs.declared.Counter.the-variants as counter
+use Rattle.device.specs.declared.Fate.{Fate}
+use Rattle.device.specs.declared.Fate.the-variants as fate
 use Rattle.device.specs.declared.Frame.{Frame}
+use Rattle.device.specs.declared.Reason.{Reason}
+use Rattle.device.specs.declared.Reason.the-variants as reason
 use Rattle.device.specs.declared.Ru.{Ru}
 use Rattle.device.specs.declared.Ru.the-variants as ru
 use Rattle.device.specs.declared.Verdict.{Verdict}
@@ -129,6 +133,47 @@ held-is (ru.Held o h p) f = refl
 held-is (ru.Filling s w) f = refl
 held-is (ru.Closing s o full) f = refl
 held-is (ru.Lacking s) f = refl
+
+-- a held frame is not dropped
+pub held-none : (x : Fate) → isHeld x ≡ true → reason.NotDropped ≡ reasonOf x
+held-none fate.TooFew h = absurd (false≢true h)
+held-none fate.NoMatch h = absurd (false≢true h)
+held-none fate.UnitIdle h = absurd (false≢true h)
+held-none fate.UnitSuspended h = absurd (false≢true h)
+held-none fate.Overrun h = refl
+held-none (fate.Bad c) h = absurd (false≢true h)
+held-none (fate.Held c) h = refl
+held-none fate.NoResources h = refl
+held-none fate.Stored h = refl
+held-none fate.StoredCounted h = refl
+held-none fate.Counted h = refl
+held-none fate.Aborted h = refl
+held-none fate.Reset h = refl
+
+-- why a frame is dropped, by the unit's tag
+unready-why : (g : Bool) (c : Counter) → reasonOf (inNoResources g c) ≡ cond (g || isHeld (inNoResources g c)) reason.NotDropped reason.Bad
+unready-why true c = refl
+unready-why false c = refl
+
+ready-why : (g s : Bool) (c : Counter) → reasonOf (inReady g s c) ≡ cond (g || isHeld (inReady g s c)) reason.NotDropped reason.Bad
+ready-why true s c = refl
+ready-why false true c = refl
+ready-why false false c = refl
+
+-- no reason is given: a frame is held already, or this one is good, or it is held
+abbrev pub spared : Ru → Frame → Bool
+spared u f = ltb 3 (ruTag u) || isGood f || isHeld (fateIn u f)
+
+pub reason-is : (u : Ru) (f : Frame)
+    → reasonOf (fateIn u f) ≡ cond (eqb (ruTag u) 0) reason.UnitIdle (cond (eqb (ruTag u) 1) reason.UnitSuspended (cond (spared u f) reason.NotDropped reason.Bad))
+reason-is ru.Idle f = refl
+reason-is ru.NoResources f = unready-why (isGood f) (counterFor f)
+reason-is (ru.Suspended o) f = refl
+reason-is (ru.Ready o) f = ready-why (isGood f) (f .savebad) (counterFor f)
+reason-is (ru.Held o h p) f = refl
+reason-is (ru.Filling s w) f = refl
+reason-is (ru.Closing s o full) f = refl
+reason-is (ru.Lacking s) f = refl
 
 module _ (base : RealAddress) (scb : Offset) (m : List ℕ) where
   pub counts-none : (c : Counter) → 0 ≡ counterPlace c → counts c base scb m ≡ []

@@ -1,5 +1,6 @@
-// An arriving frame over numbers: how it is judged, whether the unit holds it, and which counter goes up. An arrival assumes a setup's bytes and
+// An arriving frame over numbers: how it is judged, whether the unit holds it, which counter goes up, and why it is dropped. An arrival assumes a setup's bytes and
 // a frame of at least 14 bytes that matched. receive's specs/ say what is done, and specs/Arrives.antt that the numbers afterwards are those.
+use device::Reason;
 use memory::Offset;
 use memory::RealAddress;
 use packed::Packed;
@@ -9,7 +10,7 @@ ghost use mathlib.Core.Path.{_≡_};
 ghost use Prim.Native.Nat.{_<_, _≤_, _^_};
 ghost use lib.ListN.{length};
 ghost use Rattle.memory.specs.Memory.{apply};
-ghost use Rattle.device.specs.Answers.{counterOf, counts, isHeld};
+ghost use Rattle.device.specs.Answers.{counterOf, counts, isHeld, reasonOf};
 ghost use Rattle.device.specs.Numbers.{counterPlace, verdictNumber, verdictOf};
 ghost use Rattle.device.specs.State.{isGood};
 ghost use Rattle.device.specs.declared.Counter.{Counter};
@@ -118,6 +119,23 @@ fn is_held(tag: u64, f: u64) -> bool
     (tag == ru::READY) & (is_good(f) | ru::save_bad(f))
 }
 
+// Idle and Suspended drop it, and a bad frame that is not held is dropped. A frame already held: it is lost and counted, as a good one in No
+// Resources is, and no reason is given.
+fn reason_for(tag: u64, f: u64) -> Reason
+    ensures { λ r. ⌜ ((u : Ru) → tag ≡ ruTag u → r ≡ reasonOf (arrivals.fateIn u (frameIn f))) ⌝ }
+{
+    if tag == ru::IDLE {
+        return Reason::UnitIdle;
+    }
+    if tag == ru::SUSPENDED {
+        return Reason::UnitSuspended;
+    }
+    if (ru::READY < tag) | is_good(f) | is_held(tag, f) {
+        return Reason::NotDropped;
+    }
+    Reason::Bad
+}
+
 // The counter is read from the SCB, increased modulo 65,536, written back. No counter: nothing is written.
 pub fn count(memory: &mut [u8], base: RealAddress, scb: Offset, counter: u16)
     ensures { λ _. ⌜ ((c : Counter) → counter ≡ counterPlace c → now (memory .exit) ≡ apply (counts c base scb (now (memory .entry))) (now (memory .entry))) ⌝ }
@@ -125,6 +143,12 @@ pub fn count(memory: &mut [u8], base: RealAddress, scb: Offset, counter: u16)
     if counter != UNCOUNTED {
         memory::count_up(memory, memory::place(base, scb, counter));
     }
+}
+
+// What an arrival comes to, besides the lent bytes: the numbers afterwards, and why the frame was dropped.
+pub struct Arrived {
+    pub packed: Packed,
+    pub reason: Reason,
 }
 
 // A frame that matched arrives. Only a held frame enters the holding area, and the unit holds it before the descriptor that was next.
@@ -135,7 +159,7 @@ pub fn arrive(
     k: Packed,
     frame: &[u8],
     verdict: u32,
-) -> Packed
+) -> Arrived
     requires { ⌜ (length (now setup) ≡ setupSize) × (14 ≤ length (now frame)) ⌝ }
     ensures { λ r. ⌜ ArrivesAt k (now (setup .entry)) (now (frame .entry)) verdict (now (memory .entry)) (now (holding .entry)) r (now (memory .exit)) (now (holding .exit)) ⌝ }
 {
@@ -144,7 +168,13 @@ pub fn arrive(
     count(memory, packed::base(k), packed::scb(k), counter_for(tag, f));
     if is_held(tag, f) {
         memory::put_run(holding, HELD_FROM, frame);
-        return packed::with_ru(k, ru::HELD, ru::held(f, k.ru), 0);
+        return Arrived {
+            packed: packed::with_ru(k, ru::HELD, ru::held(f, k.ru), 0),
+            reason: Reason::NotDropped,
+        };
     }
-    k
+    Arrived {
+        packed: k,
+        reason: reason_for(tag, f),
+    }
 }

@@ -6,7 +6,7 @@ use Prim.Native.Nat.{ℕ, zero, suc, _+_, _*_, _<_}
 use native.Mathlib.Omega.{arith}
 use lib.ListN.{length, take, drop, replicate, take-append-drop}
 use Rattle.memory.proofs.Bytes.{Bytes}
-use Rattle.device.specs.Numbers.{refusalNumber}
+use Rattle.device.specs.Numbers.{refusalNumber, reasonNumber}
 use Rattle.device.specs.declared.Answer.{Answer}
 use Rattle.device.specs.declared.Device.{Device}
 use Rattle.device.specs.declared.Refusal.{Refusal}
@@ -114,7 +114,10 @@ arrival-outgoing w f v = refl
 -- what the last turn told, with the turns above, is its answer
 told-packed : (a : Answer) → Plain a → toldOf a * 65536 ≡ answerNumber a
 unfolding answerNumber
-told-packed a p = let q = ap (λ (x : Answer). refusalNumber (x .number)) p in omega (arith, q)
+told-packed a p =
+    let q = ap (λ (x : Answer). refusalNumber (x .number)) p in
+    let y = ap (λ (x : Answer). reasonNumber (x .reason)) p in
+    omega (arith, q, y)
 
 pub run-answer : (n : ℕ) (w : World) (report unit : ℕ) (told taken : ℕ) → told ≡ toldOf (runOf n w report .answer) → taken ≡ runOf n w report .taken
     → told * 65536 + taken * unit ≡ keptTurns unit (runOf n w report) .answer

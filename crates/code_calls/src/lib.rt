@@ -1,6 +1,7 @@
 // The code of the calls, of which lentoquist offers C each by its name: refusals first, then the chip under the record's image. They take slices
 // of every length and every content. The room calls says what each answers and leaves in every lent byte.
 use device::Answer;
+use device::Reason;
 use device::Refusal;
 use image::Decoded;
 use packed::Packed;
@@ -9,8 +10,8 @@ ghost use mathlib.Core.Path.{_≡_};
 ghost use Prim.Native.Nat.{_+_, _*_, _^_, _<_, _≤_};
 ghost use lib.ListN.{length};
 ghost use Rattle.scb.specs.Words as words;
-ghost use Rattle.device.specs.Answers as answers;
 ghost use Rattle.device.specs.Limits.{recordSize};
+ghost use Rattle.device.specs.declared.Refusal.the-variants as refusals;
 ghost use Rattle.device.specs.declared.Units.{Units};
 ghost use Rattle.calls.specs.Calls as calls;
 ghost use Rattle.code_calls.specs.Inner as inner;
@@ -23,23 +24,29 @@ fn one(b: bool) -> u64
     if b { 1 } else { 0 }
 }
 
-// What the length and the edge count in an answer: bits 16 and 32.
+// What the length, the edge and the reason count in an answer: bits 16, 32 and 40.
 const LENGTH: u64 = 1 << 16;
 
 const EDGE: u64 = 1 << 32;
 
+const REASON: u64 = 1 << 40;
+
 // A report has 16 bits.
 const REPORTS: u32 = 1 << 16;
 
-// Number in bits 0 to 15, length in 16 to 31, edge in 32.
+// Number in bits 0 to 15, length in 16 to 31, edge in 32, reason in 40 to 47.
 fn answer_number(a: Answer) -> u64
     ensures { λ r. ⌜ r ≡ calls.answerNumber a ⌝ }
 {
     let number = a.number;
-    device::refusal_number(number) as u64 + a.length as u64 * LENGTH + one(a.edge) * EDGE
+    let reason = a.reason;
+    device::refusal_number(number) as u64
+        + a.length as u64 * LENGTH
+        + one(a.edge) * EDGE
+        + device::reason_number(reason) as u64 * REASON
 }
 
-// The answer of a refused call: its number, length 0, no edge.
+// The answer of a refused call: its number, length 0, no edge, no reason.
 fn refuse(r: Refusal) -> u64
     ensures { λ x. ⌜ x ≡ calls.answerNumber (calls.refusedAnswer r) ⌝ }
 {
@@ -47,6 +54,7 @@ fn refuse(r: Refusal) -> u64
         number: r,
         length: 0,
         edge: false,
+        reason: Reason::NotDropped,
     })
 }
 
@@ -79,14 +87,15 @@ fn refusal(memory: usize, holding: usize, outgoing: usize, kept: usize, frame: u
     Refusal::Accepted
 }
 
-// The answer of a call that is not refused and sends nothing.
-fn answer_of(edge: bool) -> u64
-    ensures { λ x. ⌜ x ≡ calls.answerNumber (answers.answered 0 edge) ⌝ }
+// The answer of a call that is not refused and sends nothing: an edge, or why a frame was dropped.
+fn answer_of(edge: bool, reason: Reason) -> u64
+    ensures { λ x. ⌜ x ≡ calls.answerNumber (record { number = refusals.Accepted; length = 0; edge = edge; reason = reason }) ⌝ }
 {
     answer_number(Answer {
         number: Refusal::Accepted,
         length: 0,
         edge: edge,
+        reason: reason,
     })
 }
 
@@ -100,7 +109,7 @@ fn attention_on(memory: &mut [u8], kept: &mut [u8], k: Packed) -> u64
     let a = code_attention::attend(memory, &mut kept[record::SETUP..record::SIZE], k);
     let after = a.packed;
     image::store(kept, after);
-    answer_of(a.edge)
+    answer_of(a.edge, Reason::NotDropped)
 }
 
 // A frame that arrives at the device of the numbers k.
@@ -117,7 +126,7 @@ fn arrival_on(
         (now (memory .entry)) (now (holding .entry)) (now (kept .entry)) (now (frame .entry)) verdict r
         (now (memory .exit)) (now (holding .exit)) (now (kept .exit))) ⌝ }
 {
-    let after = code_chip::arrival(
+    let a = code_chip::arrival(
         memory,
         holding,
         &kept[record::SETUP..record::SIZE],
@@ -125,8 +134,10 @@ fn arrival_on(
         frame,
         verdict,
     );
+    let after = a.packed;
+    let reason = a.reason;
     image::store(kept, after);
-    answer_of(false)
+    answer_of(false, reason)
 }
 
 // The answer of turns: what the last one told, its length and the edge above it; and as many units as turns.
@@ -175,7 +186,7 @@ pub fn reset(kept: &mut [u8]) -> u64
 {
     if kept.len() == record::SIZE {
         image::renew(kept);
-        return answer_of(false);
+        return answer_of(false, Reason::NotDropped);
     }
     refuse(Refusal::Record)
 }

@@ -14,12 +14,13 @@ use Rattle.memory.proofs.Laws.{apply-append}
 use Rattle.scb.specs.Words.{eventBits, anyOf}
 use Rattle.scb.specs.declared.Events.{Events}
 use Rattle.scb.proofs.Status.{any-bits}
-use Rattle.device.specs.Answers.{answered, counts}
+use Rattle.device.specs.Answers.{answered, arrived, counts}
 use Rattle.device.specs.Change.{withSettings}
 use Rattle.device.specs.State.{cuWorks, ruWorks}
 use Rattle.device.specs.declared.Cu.{Cu}
 use Rattle.device.specs.declared.Cu.the-variants as cu
 use Rattle.device.specs.declared.Device.{Device}
+use Rattle.device.specs.declared.Reason.the-variants as reason
 use Rattle.device.specs.declared.Ru.{Ru}
 use Rattle.device.specs.declared.Ru.the-variants as ru
 use Rattle.device.specs.declared.Settings.{Settings}
@@ -48,6 +49,7 @@ use Rattle.packed.specs.declared.Packed.{Packed}
 use Rattle.code_command.specs.Serves as command-serves
 use Rattle.code_command.specs.declared.Commanded.{Commanded}
 use Rattle.code_arrival.specs.Arrives as arrives
+use Rattle.code_arrival.specs.declared.Arrived.{Arrived}
 use Rattle.code_receive.specs.Receives as receives
 use Rattle.code_receive.specs.declared.Received.{Received}
 use Rattle.code_chip.specs.Does.{DeviceIs, toldBy, commands, Concludes, Does, Tells, Arrives}
@@ -263,7 +265,7 @@ module _ (u : Units) (k : Packed) (h : PackedIs u k) where
 
 -- ---- an arrival
 
-module _ (d : Device) (f : List ℕ) (v : ℕ) (m h out : List ℕ) (k : Packed) (set : List ℕ) where
+module _ (d : Device) (f : List ℕ) (v : ℕ) (m h out set : List ℕ) where
   abbrev world : World
   world = worldOf d m h out
 
@@ -271,20 +273,25 @@ module _ (d : Device) (f : List ℕ) (v : ℕ) (m h out : List ℕ) (k : Packed)
   matched = matches (d .units .settings) (d .own) (d .filter) f
 
   -- under 14 bytes, or no match: dropped
-  dropped : (few match : Bool) → (few || not match) ≡ true → ltb (length f) 14 ≡ few → matched ≡ match → DeviceIs d k set → Arrives (arrivalOf world f v) k set m h
+  pub arrives-few : (k : Packed) → ltb (length f) 14 ≡ true → DeviceIs d k set
+      → Arrives (arrivalOf world f v) (record { packed = k; reason = reason.TooFew }) set m h
   unfolding arrivalOf arrival receive-arrival.arrival receive-arrival.fateOf counts
-  dropped true match e a b x = rw a (record { device = x; memory = refl; holding = refl })
-  dropped false true e a b x = absurd (false≢true e)
-  dropped false false e a b x = rw (a, b) (record { device = x; memory = refl; holding = refl })
+  arrives-few k a x = rw a (record { device = x; answer = refl; memory = refl; holding = refl })
 
-  pub arrives-few : ltb (length f) 14 ≡ true → DeviceIs d k set → Arrives (arrivalOf world f v) k set m h
-  arrives-few a x = dropped true matched refl a refl x
-
-  pub arrives-unmatched : ltb (length f) 14 ≡ false → matched ≡ false → DeviceIs d k set → Arrives (arrivalOf world f v) k set m h
-  arrives-unmatched a b x = dropped false false refl a b x
+  pub arrives-unmatched : (k : Packed) → ltb (length f) 14 ≡ false → matched ≡ false → DeviceIs d k set
+      → Arrives (arrivalOf world f v) (record { packed = k; reason = reason.NoMatch }) set m h
+  unfolding arrivalOf arrival receive-arrival.arrival receive-arrival.fateOf counts
+  arrives-unmatched k a b x = rw (a, b) (record { device = x; answer = refl; memory = refl; holding = refl })
 
   -- for us
-  pub arrives-matched : (m1 h1 : List ℕ) → matched ≡ true → SetIs (setupOf d) set
-      → arrives.Arrives (receive-arrival.arrival (d .units) true f v m h) (d .units) m k m1 h1 → Arrives (arrivalOf world f v) k set m1 h1
+  pub arrives-matched : (r : Arrived) (m1 h1 : List ℕ) → matched ≡ true → SetIs (setupOf d) set
+      → arrives.Arrives (receive-arrival.arrival (d .units) true f v m h) (d .units) m r m1 h1 → Arrives (arrivalOf world f v) r set m1 h1
   unfolding arrivalOf arrival
-  arrives-matched m1 h1 b s a = rw b (record { device = record { units = a .units; setup = s }; memory = a .memory; holding = a .holding })
+  arrives-matched r m1 h1 b s a =
+      rw b
+      (record {
+        device = record { units = a .units; setup = s };
+        answer = ap arrived (sym (a .reason));
+        memory = a .memory;
+        holding = a .holding;
+      })

@@ -7,7 +7,7 @@ use Prim.Native.Nat.{ℕ, _+_, _*_}
 use Rattle.memory.specs.Memory.{apply}
 use Rattle.scb.specs.Words.{anyOf, one}
 use Rattle.scb.specs.declared.Events.{Events}
-use Rattle.device.specs.Answers.{answered}
+use Rattle.device.specs.Answers.{answered, arrived}
 use Rattle.device.specs.declared.Answer.{Answer}
 use Rattle.device.specs.declared.Units.{Units}
 use Rattle.actions.specs.Setup.{setupOf}
@@ -19,6 +19,7 @@ use Rattle.chip.specs.Run.{Run, tells, stopsAt, runOf}
 use Rattle.packed.specs.Packed.{PackedIs}
 use Rattle.packed.specs.SetUp.{SetIs}
 use Rattle.packed.specs.declared.Packed.{Packed}
+use Rattle.code_arrival.specs.declared.Arrived.{Arrived}
 use Rattle.code_chip.specs.declared.Turned.{Turned}
 use Rattle.code_chip.specs.declared.Turns.{Turns}
 
@@ -83,11 +84,12 @@ RunTakes k report budget m h out set r m1 out1 set1 =
     (d : Device) → DeviceIs d k set → Runs (runOf budget (worldOf d m h out) report) r m1 out1 set1
 
 -- an arrival
-pub record Arrives (said : Ran) (k : Packed) (set m h : List ℕ) : Type 0 where
-  pub device : DeviceIs (said .outcome .device) k set
+pub record Arrives (said : Ran) (r : Arrived) (set m h : List ℕ) : Type 0 where
+  pub device : DeviceIs (said .outcome .device) (r .packed) set
+  pub answer : said .outcome .answer ≡ arrived (r .reason)
   pub memory : m ≡ said .memory
   pub holding : h ≡ said .holding
 
-abbrev pub ArrivalTakes : Packed → (f : List ℕ) → (verdict : ℕ) → (m h set : List ℕ) → Packed → (m1 h1 : List ℕ) → Type 0
+abbrev pub ArrivalTakes : Packed → (f : List ℕ) → (verdict : ℕ) → (m h set : List ℕ) → Arrived → (m1 h1 : List ℕ) → Type 0
 ArrivalTakes k f verdict m h set r m1 h1 =
     (d : Device) (out : List ℕ) → DeviceIs d k set → Arrives (arrivalOf (worldOf d m h out) f verdict) r set m1 h1

@@ -1,5 +1,7 @@
 // The chip over numbers: a turn, turns in a row, and an arrival. The state goes in and comes out as four numbers, and what the commands set up
 // is lent beside it. The crate chip has the definitions that every promise here cites.
+use code_arrival::Arrived;
+use device::Reason;
 use packed::Packed;
 use packed::cu;
 use packed::ru;
@@ -185,16 +187,22 @@ pub fn arrival(
     k: Packed,
     frame: &[u8],
     verdict: u32,
-) -> Packed
+) -> Arrived
     requires { ⌜ length (now setup) ≡ setupSize ⌝ }
     ensures { λ r. ⌜ does.ArrivalTakes k (now (frame .entry)) verdict (now (memory .entry)) (now (holding .entry)) (now (setup .entry))
         r (now (memory .exit)) (now (holding .exit)) ⌝ }
 {
     if frame.len() < HEADER {
-        return k;
+        return Arrived {
+            packed: k,
+            reason: Reason::TooFew,
+        };
     }
     if code_filter::matches(setup, frame) {
         return code_arrival::arrive(memory, holding, setup, k, frame, verdict);
     }
-    k
+    Arrived {
+        packed: k,
+        reason: Reason::NoMatch,
+    }
 }

@@ -3,6 +3,7 @@
 use mathlib.Core.Path.{_≡_}
 use mathlib.Core.Bool.{Bool, true, false, not, _&&_, _||_}
 use mathlib.Core.List.{List, [], _∷_, _++_, map}
+use mathlib.Core.Logic.{_⊎_}
 use Prim.Native.Nat.{ℕ, _+_, _-_, _*_, _%_, _^_, _≤_, _<_}
 use lib.Dec.{T, eqb}
 use lib.ListN.{length, take, replicate}
@@ -19,18 +20,24 @@ use Rattle.hash.specs.Numbers.{fast}
 use Rattle.hash.specs.Values.{values, allAre, bitsOf}
 use Rattle.hash.proofs.Faster.{faster-is-hash}
 use Rattle.hash.proofs.Shown as folded
-use Rattle.device.specs.Limits.{addressLength}
+use Rattle.device.specs.Answers.{reasonOf}
+use Rattle.device.specs.Limits.{addressLength, recordSize}
+use Rattle.device.specs.Numbers.{refusalNumber, reasonNumber}
 use Rattle.device.specs.State.{ruState, isHolding, heldIn, isGood}
 use Rattle.device.specs.declared.Begun.{Begun}
 use Rattle.device.specs.declared.Counter.{Counter}
 use Rattle.device.specs.declared.Counter.the-variants as counter
 use Rattle.device.specs.declared.Device.{Device}
+use Rattle.device.specs.declared.Fate.{Fate}
 use Rattle.device.specs.declared.Fate.the-variants as fate
 use Rattle.device.specs.declared.Frame.{Frame}
+use Rattle.device.specs.declared.Reason.{Reason}
+use Rattle.device.specs.declared.Reason.the-variants as reason
 use Rattle.device.specs.declared.Refusal.{Refusal}
 use Rattle.device.specs.declared.Ru.the-variants as ru
 use Rattle.device.specs.declared.Storing.{Storing}
 use Rattle.device.specs.declared.Verdict.the-variants as verdict
+use Rattle.device.proofs.Laws as numbers
 use Rattle.filter.specs.Match.{allOnes, isOwn, isGroup}
 use Rattle.filter.proofs.Laws as match
 use Rattle.actions.specs.Actions.{countOf, done}
@@ -47,17 +54,20 @@ use Rattle.control.specs.Obey.{ofScb}
 use Rattle.chip.specs.World.{World, afterwards}
 use Rattle.chip.specs.Arrival.{arrivalOf}
 use Rattle.chip.specs.Cases.{allPass}
-use Rattle.chip.specs.Call.{Call, attention, arrive, turn, ran}
+use Rattle.chip.specs.Call.{Call, reset, attention, arrive, turn, ran}
 use Rattle.chip.proofs.Papers as marked-cases
 use Rattle.chip.proofs.Swaps as swapped
 use Rattle.calls.specs.Calls.{Areas, Called, onBytes, turnCall, runCall}
+use Rattle.calls.specs.Refusals.{rows, resetRows}
+use Rattle.calls.proofs.Shown as tabled
 use Rattle.progress.specs.Trace.{run, AllMay, turns}
 use Rattle.traces.specs.Event.{Event, call, step, DuringList, WhileHeld}
 use Rattle.traces.specs.Bytes.{called, number, isRefused}
+use Rattle.traces.specs.Bytes.{reason as reasonIn}
 use Rattle.traces.specs.Areas.{FrameBytes, AreBytes, Holds, worldIn, worldSaid, Shows}
 use Rattle.traces.specs.Driven.{Lending, left, isTaken, Drive, leftDriven, unrolled, AllFair}
 use Rattle.closure.specs.Sound.{Sound}
-use Rattle.closure.specs.Refusals.{When, Seen, Untouched}
+use Rattle.closure.specs.Refusals.{TakesAll, When, Means, Seen, Untouched}
 use Rattle.closure.specs.Carried.{Again}
 use Rattle.closure.specs.Turns.{AsTurns}
 use Rattle.closure.proofs.Refusals as refusals
@@ -67,6 +77,7 @@ use Rattle.closure.proofs.Carried as carried
 use Rattle.closure.proofs.Outside as outside
 use Rattle.closure.proofs.Turns as run-of-turns
 use Rattle.frames.specs.Arrival as arrival
+use Rattle.frames.specs.Reasons.{whyOf, Reached, IsOther, Told}
 use Rattle.frames.specs.Filtered.{EndsMcSetup, leftBy, FallsIn, SetUpBy, FilterAfter}
 use Rattle.frames.specs.Held.{ends, heldFates, FatesOfHeld, GoodFate, BadFate}
 use Rattle.frames.specs.Fates.{Deed, alter, Scene, namesOf, opening, still, advance, beginnings, endings, times, timesFated, timesAltered, AllFates}
@@ -76,6 +87,7 @@ use Rattle.frames.specs.Stands.{NoOverlap, pieces, counters, otherCounters, lac
 use Rattle.frames.specs.Data.{Staying, dataOf, Delivered, ArrivedDelivered, EndLent, DeliveredOnBytes, ArrivedOnBytes}
 use Rattle.frames.proofs.Arrival as arrivals
 use Rattle.frames.proofs.Arrived as arrived
+use Rattle.frames.proofs.Reasons as reasons
 use Rattle.frames.proofs.Filtered as filtered
 use Rattle.frames.proofs.Held as holdings
 use Rattle.frames.proofs.Stands as exits
@@ -87,6 +99,7 @@ use Rattle.frames.proofs.DataWitness as data-run
 use Rattle.frames.proofs.FilterWitness as filter-run
 use Rattle.frames.proofs.DataBytesWitness as data-bytes-run
 use Rattle.frames.proofs.BytesWitness as bytes-run
+use Rattle.frames.proofs.ReasonsWitness as reasons-run
 use Rattle.lists.specs.Uses.{Listed, firstOf}
 use Rattle.lists.specs.Done.{Starts, Resumes, Started, enough, Premises, Done}
 use Rattle.lists.specs.OnBytes.{PremisesOnBytes, DoneOnBytes, PremisesByRuns, DoneByRuns}
@@ -137,11 +150,31 @@ pub refused-by-the-table : (c : Call) (a : Areas) → Bytes (a .kept) → (n : �
     → (number (called c a .answer) ≡ n → When n c a) × (When n c a → number (called c a .answer) ≡ n)
 refused-by-the-table = refusals.table
 
--- and every row of it is given at some call; the rows stand in the order of their numbers (`rowsAscend`, crates/calls/proofs/Shown.antt)
+-- 02, Wish 3: "21 device record, 22 holding area, 23 outgoing area, lowest first, between 1 and 3 in the order". What each of the seven numbers
+-- means, both ways, of a call that takes all four; and of reset, which gives 21 or none
+pub each-number-exactly-when : (c : Call) (a : Areas) → Bytes (a .kept)
+    → TakesAll c
+    ((r : Refusal)
+    → (number (called c a .answer) ≡ refusalNumber r → Means r c a) × (Means r c a → number (called c a .answer) ≡ refusalNumber r))
+each-number-exactly-when = refusals.written-out
+
+pub a-reset-gives-21-or-none : (a : Areas)
+    → ((length (a .kept) ≡ recordSize) × (number (called reset a .answer) ≡ 0))
+    ⊎ ((length (a .kept) ≡ recordSize → ⊥) × (number (called reset a .answer) ≡ 21))
+a-reset-gives-21-or-none = refusals.reset-numbers
+
+-- the order is 1, 21, 22, 23, 3, 4, and a number names one row
+pub the-order-of-refusals : (map refusalNumber rows ≡ 1 ∷ 21 ∷ 22 ∷ 23 ∷ 3 ∷ 4 ∷ []) × (map refusalNumber resetRows ≡ 21 ∷ [])
+the-order-of-refusals = tabled.rowsInOrder
+
+pub a-number-names-one-row : (x y : Refusal) → refusalNumber x ≡ refusalNumber y → x ≡ y
+a-number-names-one-row = numbers.one-refusal
+
+-- and every row of it is given at some call
 pub every-row-is-given : (r : Refusal) → Seen r
 every-row-is-given = rows-seen.each-row
 
--- "and a refused call changes no lent byte", with length 0 and no edge
+-- "and a refused call changes no lent byte", with length 0, no edge and no reason
 pub a-refusal-changes-nothing : (c : Call) (a : Areas) → isRefused (called c a) ≡ true → Untouched a (called c a)
 a-refusal-changes-nothing = refusals.untouched
 
@@ -265,7 +298,7 @@ a-good-frame-is-held = arrivals.good-ready
 
 -- "or adds one to exactly one counter", one being held: memory is as it was but for OVRNERRS, one more, "wrapping after 65,535"
 pub or-is-counted : (w : World) (f : List ℕ) (v : ℕ) → arrival.RightLengths w f → arrival.Ours w f → isHolding (arrival.unitOf w) ≡ true
-    → arrival.NotHeld w fate.Overrun counter.Overruns (arrivalOf w f v)
+    → arrival.NotHeld w fate.Overrun reason.NotDropped counter.Overruns (arrivalOf w f v)
 or-is-counted = arrivals.overrun
 
 -- the same exactness for every other arrival
@@ -276,6 +309,42 @@ every-arrival = arrivals.arrival-fate
 pub every-arrival-on-bytes : (a : Areas) (d : Device) (f : List ℕ) (v : ℕ) → AreBytes a → Bytes f → Holds (a .kept) d
     → isRefused (called (arrive f v) a) ≡ false → ArrivedOn a d f v
 every-arrival-on-bytes = arrived.arrived-on
+
+-- 02, Wish 3: "An arrival that is dropped also says why .. Each reason is given exactly when document 01's order reaches it": both ways, at every arrival
+-- that is not refused, a frame that is held or lost by OVRNERRS or RSCERRS among them, which has no reason
+pub why-a-frame-is-dropped : (w : World) (f : List ℕ) (v : ℕ) → arrival.RightLengths w f → (why : Reason)
+    → (whyOf w f v ≡ why → Reached why w f v) × (Reached why w f v → whyOf w f v ≡ why)
+why-a-frame-is-dropped = reasons.exactly
+
+-- it is read off the fate that all else of the arrival follows from
+pub the-reason-is-that-of-the-fate : (w : World) (f : List ℕ) (v : ℕ) (x : Fate) → arrivalOf w f v .outcome .fates ≡ x ∷ [] → whyOf w f v ≡ reasonOf x
+the-reason-is-that-of-the-fate = reasons.by-the-fate
+
+-- on bytes: in bits 40 to 47 of the answer, by its number; the number is one of the reasons', and names it
+pub why-a-frame-is-dropped-on-bytes : (a : Areas) (d : Device) (f : List ℕ) (v : ℕ) → AreBytes a → Holds (a .kept) d
+    → isRefused (called (arrive f v) a) ≡ false → (why : Reason)
+    → (reasonIn (called (arrive f v) a .answer) ≡ reasonNumber why → Reached why (worldIn d a) f v)
+    × (Reached why (worldIn d a) f v → reasonIn (called (arrive f v) a .answer) ≡ reasonNumber why)
+why-a-frame-is-dropped-on-bytes = reasons.exactly-on-bytes
+
+pub every-arrival-has-its-reason : (a : Areas) (d : Device) (f : List ℕ) (v : ℕ) → AreBytes a → Holds (a .kept) d
+    → isRefused (called (arrive f v) a) ≡ false
+    → (why : Reason) × ((reasonIn (called (arrive f v) a .answer) ≡ reasonNumber why) × Reached why (worldIn d a) f v)
+every-arrival-has-its-reason = reasons.some-reason
+
+pub a-number-names-one-reason : (x y : Reason) → reasonNumber x ≡ reasonNumber y → x ≡ y
+a-number-names-one-reason = numbers.one-reason
+
+-- no other call's answer has one, refused or not, nor that of a run; a refused arrival's has none either (`a-refusal-changes-nothing`)
+pub no-reason-at-another-call : (c : Call) (a : Areas) → AreBytes a → IsOther c → reasonIn (called c a .answer) ≡ 0
+no-reason-at-another-call = reasons.no-reason
+
+pub no-reason-of-a-run : (a : Areas) (report budget : ℕ) → AreBytes a → reasonIn (runCall a report budget .answer) ≡ 0
+no-reason-of-a-run = reasons.no-reason-of-a-run
+
+-- and each is given at some arrival
+pub every-reason-is-given : (why : Reason) → Told why
+every-reason-is-given = reasons-run.each-reason
 
 -- a held good frame stays held, is stored, or is counted, "both, if kept with too few buffers", or is lost by an abort or a reset. While it stays held
 -- its own turns write 4000h at begin, and a buffer with its F, count and EOF, and nothing else: no counter, no event. At its end all is said: what is

@@ -5,13 +5,14 @@ use lib.Dec.{T, eqb}
 use lib.ListN.{length, replicate}
 use Rattle.memory.specs.Memory.{byteAt, putByte, bytesAt, putBytes, value, digits, fieldAt, apply}
 use Rattle.memory.specs.Address.{place}
-use Rattle.device.specs.Answers.{counterOf, counts}
+use Rattle.device.specs.Answers.{counterOf, reasonOf, counts}
 use Rattle.device.specs.Limits.{header, holdingSize, outgoingSize, recordSize, longest, mostBuffers, filterBits, fcs}
-use Rattle.device.specs.Numbers.{verdictNumber, verdictOf, refusalNumber, counterPlace}
+use Rattle.device.specs.Numbers.{verdictNumber, verdictOf, refusalNumber, reasonNumber, counterPlace}
 use Rattle.device.specs.State.{goodBy, ruWorks, cuWorks, fresh}
 use Rattle.device.specs.declared.Counter.{Counter}
 use Rattle.device.specs.declared.Counter.the-variants as counter
 use Rattle.device.specs.declared.Cu.the-variants as cu
+use Rattle.device.specs.declared.Fate.{Fate}
 use Rattle.device.specs.declared.Fate.the-variants as fate
 use Rattle.device.specs.declared.Refusal.the-variants as refusal
 use Rattle.device.specs.declared.Ru.the-variants as ru
@@ -22,10 +23,20 @@ pub othersMisaligned : T (eqb (verdictNumber (verdictOf 3)) 2 && eqb (verdictNum
 unfolding verdictOf
 othersMisaligned = tt
 
--- 01, "Calls, lent areas, refusals": 1 N, 2 another area, 3 an arriving frame, 4 the record; 0 if not refused
-pub refusalsNumbered : T (eqb (refusalNumber refusal.Accepted) 0 && eqb (refusalNumber refusal.Memory) 1 && eqb (refusalNumber refusal.Record) 2
-    && eqb (refusalNumber refusal.Holding) 2 && eqb (refusalNumber refusal.Outgoing) 2 && eqb (refusalNumber refusal.Overlong) 3 && eqb (refusalNumber refusal.Foreign) 4)
+-- 01, "Calls, lent areas, refusals": 1 N, 3 an arriving frame, 4 the record's content; 0 if not refused. 02, Wish 3: 21 device record, 22 holding area,
+-- 23 outgoing area
+pub refusalsNumbered : T (eqb (refusalNumber refusal.Accepted) 0 && eqb (refusalNumber refusal.Memory) 1 && eqb (refusalNumber refusal.Record) 21
+    && eqb (refusalNumber refusal.Holding) 22 && eqb (refusalNumber refusal.Outgoing) 23 && eqb (refusalNumber refusal.Overlong) 3 && eqb (refusalNumber refusal.Foreign) 4)
 refusalsNumbered = tt
+
+-- 02, Wish 3: the reasons of the fates of an arriving frame, in the order of the rules. Lost by OVRNERRS or RSCERRS, or held: none
+abbrev why : Fate → ℕ
+why f = reasonNumber (reasonOf f)
+
+pub reasonsOfFates : T (eqb (why fate.TooFew) 1 && eqb (why fate.NoMatch) 2 && eqb (why fate.UnitIdle) 3 && eqb (why fate.UnitSuspended) 4
+    && eqb (why fate.Overrun) 0 && eqb (why (fate.Bad counter.Crc)) 5 && eqb (why (fate.Bad counter.Uncounted)) 5
+    && eqb (why (fate.Held counter.Alignment)) 0 && eqb (why fate.NoResources) 0)
+reasonsOfFates = tt
 
 -- 01, "The SCB": +8 CRCERRS, +10 ALNERRS, +12 RSCERRS, +14 OVRNERRS. Each is increased alone: what the four come to, with an SCB at 0 and
 -- every byte of it alike before

@@ -13,11 +13,17 @@ use Rattle.device.specs.declared.Counter.the-variants as counter
 use Rattle.device.specs.declared.Device.{Device}
 use Rattle.device.specs.declared.Fate.{Fate}
 use Rattle.device.specs.declared.Fate.the-variants as fate
+use Rattle.device.specs.declared.Reason.{Reason}
+use Rattle.device.specs.declared.Reason.the-variants as reason
 use Rattle.device.specs.declared.Refusal.the-variants as refusal
 
 -- 01, "Calls, lent areas, refusals": an answer is the number (0 if not refused), the length sent (0 if none) and the edge
 abbrev pub answered : ℕ → Bool → Answer
-answered length edge = record { number = refusal.Accepted; length = length; edge = edge }
+answered length edge = record { number = refusal.Accepted; length = length; edge = edge; reason = reason.NotDropped }
+
+-- 02, Wish 3: "An arrival that is dropped also says why". It sends nothing and raises nothing
+abbrev pub arrived : Reason → Answer
+arrived why = record { number = refusal.Accepted; length = 0; edge = false; reason = why }
 
 -- what a call comes to, besides the lent bytes: its fates are those of the frames that it makes something of, an arriving one or held ones, these
 -- the oldest first
@@ -84,6 +90,22 @@ isCounter counter.Crc = true
 isCounter counter.Alignment = true
 isCounter counter.Resources = true
 isCounter counter.Overruns = true
+
+-- 02, Wish 3: why it was dropped; a frame that is lost by OVRNERRS or RSCERRS is counted, not dropped, and a bad one that is not held is dropped, counted or not
+abbrev pub reasonOf : Fate → Reason
+reasonOf fate.TooFew = reason.TooFew
+reasonOf fate.NoMatch = reason.NoMatch
+reasonOf fate.UnitIdle = reason.UnitIdle
+reasonOf fate.UnitSuspended = reason.UnitSuspended
+reasonOf fate.Overrun = reason.NotDropped
+reasonOf (fate.Bad c) = reason.Bad
+reasonOf (fate.Held c) = reason.NotDropped
+reasonOf fate.NoResources = reason.NotDropped
+reasonOf fate.Stored = reason.NotDropped
+reasonOf fate.StoredCounted = reason.NotDropped
+reasonOf fate.Counted = reason.NotDropped
+reasonOf fate.Aborted = reason.NotDropped
+reasonOf fate.Reset = reason.NotDropped
 
 -- the write that a counter gets, on memory as it stands then: 01, "counters are read from the SCB, increased modulo 65,536, written back"
 unfoldable pub counts : Counter → RealAddress → Offset → List ℕ → List Write

@@ -6,6 +6,8 @@ use Rattle.device.specs.declared.Action.{Action}
 use Rattle.device.specs.declared.Action.the-variants as action
 use Rattle.device.specs.declared.Counter.{Counter}
 use Rattle.device.specs.declared.Counter.the-variants as counter
+use Rattle.device.specs.declared.Reason.{Reason}
+use Rattle.device.specs.declared.Reason.the-variants as reason
 use Rattle.device.specs.declared.Refusal.{Refusal}
 use Rattle.device.specs.declared.Refusal.the-variants as refusal
 use Rattle.device.specs.declared.Verdict.{Verdict}
@@ -42,15 +44,24 @@ verdictNumber verdict.Misaligned = 2
 unfoldable pub verdictOf : ℕ → Verdict
 verdictOf n = cond (eqb n 0) verdict.Good (cond (eqb n 1) verdict.Crc verdict.Misaligned)
 
--- 01, "Calls, lent areas, refusals": the number, 0 if not refused. Another lent area than memory is the record, the holding or the outgoing area
+-- 01, "Calls, lent areas, refusals", as 02, Wish 3, mends it: the number, 0 if not refused. "21 device record, 22 holding area, 23 outgoing area"
 abbrev pub refusalNumber : Refusal → ℕ
 refusalNumber refusal.Accepted = 0
 refusalNumber refusal.Memory = 1
-refusalNumber refusal.Record = 2
-refusalNumber refusal.Holding = 2
-refusalNumber refusal.Outgoing = 2
+refusalNumber refusal.Record = 21
+refusalNumber refusal.Holding = 22
+refusalNumber refusal.Outgoing = 23
 refusalNumber refusal.Overlong = 3
 refusalNumber refusal.Foreign = 4
+
+-- 02, Wish 3: "too few bytes, no match, unit Idle, unit Suspended, or bad and not saved", from 1 on; 0 if not dropped
+abbrev pub reasonNumber : Reason → ℕ
+reasonNumber reason.NotDropped = 0
+reasonNumber reason.TooFew = 1
+reasonNumber reason.NoMatch = 2
+reasonNumber reason.UnitIdle = 3
+reasonNumber reason.UnitSuspended = 4
+reasonNumber reason.Bad = 5
 
 -- 01, "The SCB": +8 CRCERRS, +10 ALNERRS, +12 RSCERRS, +14 OVRNERRS; no counter has no place
 abbrev pub counterPlace : Counter → ℕ

@@ -130,11 +130,22 @@ pub enum Refusal {
     Foreign,
 }
 
-// An answer: the number, the length sent, and whether an interrupt edge is reported.
+// Why an arriving frame was dropped, in the order of the rules; or that it was not: it is held, or lost and counted by OVRNERRS or RSCERRS.
+pub enum Reason {
+    NotDropped,
+    TooFew,
+    NoMatch,
+    UnitIdle,
+    UnitSuspended,
+    Bad,
+}
+
+// An answer: the number, the length sent, whether an interrupt edge is reported, and why an arriving frame was dropped.
 pub struct Answer {
     pub number: Refusal,
     pub length: u16,
     pub edge: bool,
+    pub reason: Reason,
 }
 
 // The SCB's error counters, or none of them.
@@ -172,10 +183,24 @@ pub fn refusal_number(r: Refusal) -> u16
     match r {
         Refusal::Accepted => 0,
         Refusal::Memory => 1,
-        Refusal::Record => 2,
-        Refusal::Holding => 2,
-        Refusal::Outgoing => 2,
+        Refusal::Record => 21,
+        Refusal::Holding => 22,
+        Refusal::Outgoing => 23,
         Refusal::Overlong => 3,
         Refusal::Foreign => 4,
+    }
+}
+
+// The number of a reason, 0 if no frame was dropped.
+pub fn reason_number(r: Reason) -> u8
+    ensures { λ n. ⌜ n ≡ numbers.reasonNumber r ⌝ }
+{
+    match r {
+        Reason::NotDropped => 0,
+        Reason::TooFew => 1,
+        Reason::NoMatch => 2,
+        Reason::UnitIdle => 3,
+        Reason::UnitSuspended => 4,
+        Reason::Bad => 5,
     }
 }

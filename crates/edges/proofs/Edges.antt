@@ -8,7 +8,7 @@ use lib.ListN.{replicate}
 use Rattle.chip.specs.Cases.{Word, _is_, unsaid, high, low, Step, Case, passes, allPass}
 use Rattle.chip.specs.Call.{reset, attention, arrive, turn}
 use Rattle.cases.proofs.Prepared.{all-prepared}
-use Rattle.chip.proofs.Board.{board, descriptors, bufferAt, good, crc, misaligned, counting, broadcast, quiet, edge, step, ends, turned, came, initialised, receiving, commanding, attended, raising, settling, configured, saving, working, counters}
+use Rattle.chip.proofs.Board.{board, descriptors, bufferAt, good, crc, misaligned, counting, broadcast, quiet, edge, step, ends, turned, came, notDropped, tooFew, noMatch, unitIdle, unitSuspended, bad, dropped, initialised, receiving, commanding, attended, raising, settling, configured, saving, working, counters}
 
 -- ---- reset
 
@@ -42,7 +42,7 @@ resettingForgets =
           ++ (step (0x32 is 0x0080 ∷ []) attention quiet (0x30 is 0x2000 ∷ []) low
           ∷ initialised
           ∷ receiving
-          ∷ came (broadcast 45) good []
+          ∷ dropped bad (broadcast 45) good []
           ∷ turned (0x60 is 0 ∷ [])
           ∷ []);
     }
@@ -264,8 +264,8 @@ whileHeld =
           initialised
           ∷ receiving
           ∷ came (broadcast 46) good (counters 0 0 0 0)
-          ∷ came (replicate 13 255) good (counters 0 0 0 0)
-          ∷ came (2 ∷ replicate 59 255) crc (counters 0 0 0 0)
+          ∷ dropped tooFew (replicate 13 255) good (counters 0 0 0 0)
+          ∷ dropped noMatch (2 ∷ replicate 59 255) crc (counters 0 0 0 0)
           ∷ came (replicate 60 255) crc (counters 0 0 0 1)
           ∷ came (replicate 59 255) misaligned (counters 0 0 0 2)
           ∷ came (replicate 100 255) good (counters 0 0 0 3)
@@ -287,10 +287,10 @@ inNoResources =
           ∷ turned []
           ∷ turned []
           ∷ settling (0x30 is 0x5020 ∷ [])
-          ∷ came (broadcast 46) crc (counters 1 0 0 0)
-          ∷ came (broadcast 46) misaligned (counters 1 1 0 0)
-          ∷ came (broadcast 45) good (counters 1 1 0 0)
-          ∷ came (broadcast 45) crc (counters 1 1 0 0)
+          ∷ dropped bad (broadcast 46) crc (counters 1 0 0 0)
+          ∷ dropped bad (broadcast 46) misaligned (counters 1 1 0 0)
+          ∷ dropped bad (broadcast 45) good (counters 1 1 0 0)
+          ∷ dropped bad (broadcast 45) crc (counters 1 1 0 0)
           ∷ came (broadcast 46) good (counters 1 1 1 0)
           ∷ turned (0x60 is 0xA000 ∷ 0x80 is 0 ∷ 0x30 is 0x5020 ∷ [])
           ∷ []);
@@ -301,10 +301,10 @@ otherVerdicts : Case
 otherVerdicts =
     record {
       given = board;
-      steps = initialised ∷ receiving ∷ came (broadcast 46) 3 (counters 0 1 0 0) ∷ came (broadcast 46) 256 (counters 0 2 0 0) ∷ came (broadcast 46) 257 (counters 0 3 0 0) ∷ [];
+      steps = initialised ∷ receiving ∷ dropped bad (broadcast 46) 3 (counters 0 1 0 0) ∷ dropped bad (broadcast 46) 256 (counters 0 2 0 0) ∷ dropped bad (broadcast 46) 257 (counters 0 3 0 0) ∷ [];
     }
 
--- in Suspended nothing is counted
+-- in Suspended nothing is counted; length and match are asked before
 suspendedCountsNothing : Case
 suspendedCountsNothing =
     record {
@@ -313,9 +313,11 @@ suspendedCountsNothing =
           initialised
           ∷ receiving
           ∷ raising 0x0030 (0x30 is 0x1010 ∷ [])
-          ∷ came (broadcast 46) good (counters 0 0 0 0)
-          ∷ came (broadcast 46) crc (counters 0 0 0 0)
-          ∷ came (broadcast 46) misaligned (counters 0 0 0 0)
+          ∷ dropped tooFew (replicate 13 2) crc (counters 0 0 0 0)
+          ∷ dropped noMatch (2 ∷ replicate 59 255) crc (counters 0 0 0 0)
+          ∷ dropped unitSuspended (broadcast 46) good (counters 0 0 0 0)
+          ∷ dropped unitSuspended (broadcast 46) crc (counters 0 0 0 0)
+          ∷ dropped unitSuspended (broadcast 46) misaligned (counters 0 0 0 0)
           ∷ turned (0x60 is 0 ∷ [])
           ∷ [];
     }
@@ -347,7 +349,7 @@ ownGroup =
       given = 0x42 is 0x8001 ∷ 0x46 is 0x0201 ∷ descriptors ++ board;
       steps =
           configured
-          ++ (receiving ∷ came (1 ∷ 3 ∷ 0 ∷ 0 ∷ 0 ∷ 0 ∷ counting 1 54) good [] ∷ turned (0x60 is 0 ∷ []) ∷ came (1 ∷ 2 ∷ 0 ∷ 0 ∷ 0 ∷ 0 ∷ counting 1 54) good [] ∷ turned (0x60 is 0x4000 ∷ []) ∷ []);
+          ++ (receiving ∷ dropped noMatch (1 ∷ 3 ∷ 0 ∷ 0 ∷ 0 ∷ 0 ∷ counting 1 54) good [] ∷ turned (0x60 is 0 ∷ []) ∷ came (1 ∷ 2 ∷ 0 ∷ 0 ∷ 0 ∷ 0 ∷ counting 1 54) good [] ∷ turned (0x60 is 0x4000 ∷ []) ∷ []);
     }
 
 -- an MC-Setup of one address, in three words, and a Configure with that byte 8; both are done
@@ -360,11 +362,11 @@ abbrev bothDone : List Step
 bothDone = initialised ∷ commanding ∷ turned [] ∷ turned (0x40 is 0xA000 ∷ []) ∷ turned [] ∷ settling (0x80 is 0xA000 ∷ []) ∷ []
 
 -- all FFh in the list does not help where broadcast is disabled; promiscuous does
-listedOnes : (byte descriptor : ℕ) → Case
-listedOnes byte descriptor =
+listedOnes : (byte descriptor reason : ℕ) → Case
+listedOnes byte descriptor reason =
     record {
       given = listedAndSet 0xFFFF 0xFFFF 0xFFFF byte;
-      steps = bothDone ++ (receiving ∷ came (broadcast 46) good [] ∷ turned (0x60 is descriptor ∷ []) ∷ []);
+      steps = bothDone ++ (receiving ∷ dropped reason (broadcast 46) good [] ∷ turned (0x60 is descriptor ∷ []) ∷ []);
     }
 
 -- all FFh passes by no bit, not even by its own, 59, which AB-00-00-02-00-00 shares: with broadcast disabled that group passes and all FFh does
@@ -376,7 +378,7 @@ bitOfOnes first second third =
       steps =
           bothDone
           ++ (receiving
-          ∷ came (broadcast 46) good []
+          ∷ dropped noMatch (broadcast 46) good []
           ∷ turned (0x60 is 0 ∷ [])
           ∷ came (0xAB ∷ 0 ∷ 0 ∷ 2 ∷ 0 ∷ 0 ∷ counting 1 54) good []
           ∷ turned (0x60 is 0x4000 ∷ [])
@@ -394,18 +396,18 @@ thirdByte byte status =
     }
 
 -- which bytes a count takes: with byte 10, 0, taken 59 bytes are held; with byte 8, 1, taken another's frame is
-takesMinimum : (count descriptor : ℕ) → Case
-takesMinimum count descriptor =
+takesMinimum : (count descriptor reason : ℕ) → Case
+takesMinimum count descriptor reason =
     record {
       given = 0x42 is 0x8002 ∷ 0x46 is count ∷ 0x48 is 0x0600 ∷ descriptors ++ board;
-      steps = configured ++ (receiving ∷ came (broadcast 45) good [] ∷ turned (0x60 is descriptor ∷ []) ∷ []);
+      steps = configured ++ (receiving ∷ dropped reason (broadcast 45) good [] ∷ turned (0x60 is descriptor ∷ []) ∷ []);
     }
 
-takesPromiscuous : (count descriptor : ℕ) → Case
-takesPromiscuous count descriptor =
+takesPromiscuous : (count descriptor reason : ℕ) → Case
+takesPromiscuous count descriptor reason =
     record {
       given = 0x42 is 0x8002 ∷ 0x46 is count ∷ 0x48 is 0x0600 ∷ 0x4E is 1 ∷ 0x50 is 0x40 ∷ descriptors ++ board;
-      steps = configured ++ (receiving ∷ came (2 ∷ counting 2 59) good [] ∷ turned (0x60 is descriptor ∷ []) ∷ []);
+      steps = configured ++ (receiving ∷ dropped reason (2 ∷ counting 2 59) good [] ∷ turned (0x60 is descriptor ∷ []) ∷ []);
     }
 
 -- a Configure that is rejected changes nothing: save-bad, which it would clear, and the minimum, which it would make 0, stay
@@ -443,7 +445,7 @@ listedThen count =
           ∷ turned []
           ∷ settling (0x80 is 0xA000 ∷ 0x30 is 0x2000 ∷ [])
           ∷ receiving
-          ∷ came (3 ∷ 2 ∷ 0 ∷ 0 ∷ 0 ∷ 0 ∷ counting 1 54) good []
+          ∷ dropped noMatch (3 ∷ 2 ∷ 0 ∷ 0 ∷ 0 ∷ 0 ∷ counting 1 54) good []
           ∷ turned (0x60 is 0 ∷ [])
           ∷ [];
     }
@@ -456,7 +458,7 @@ thirtieth =
       steps =
           configured
           ++ (receiving
-          ∷ came (3 ∷ 3 ∷ 0 ∷ 0 ∷ 0 ∷ 0 ∷ counting 1 54) good []
+          ∷ dropped noMatch (3 ∷ 3 ∷ 0 ∷ 0 ∷ 0 ∷ 0 ∷ counting 1 54) good []
           ∷ turned (0x60 is 0 ∷ [])
           ∷ came (3 ∷ 2 ∷ 0 ∷ 0 ∷ 0 ∷ 0 ∷ counting 1 54) good []
           ∷ turned (0x60 is 0x4000 ∷ [])
@@ -529,7 +531,7 @@ alteredOutgoing =
             held = [];
             sent = 12 is 0x7777 ∷ 40 is 0x5555 ∷ [];
             call = turn 0;
-            answer = record { number = 0; length = 14; edge = true };
+            answer = record { number = 0; length = 14; edge = true; reason = 0 };
             words = 0x40 is 0xA000 ∷ [];
             outgoing = 0 is 0 ∷ 12 is 0x7777 ∷ 40 is 0x5555 ∷ [];
             level = high;
@@ -657,7 +659,7 @@ resumeIdle =
       steps =
           initialised
           ∷ step (0x32 is 0xF220 ∷ 0x34 is 0x40 ∷ 0x36 is 0x60 ∷ []) attention quiet (0x30 is 0 ∷ 0x32 is 0 ∷ []) low
-          ∷ came (broadcast 46) good (counters 0 0 0 0)
+          ∷ dropped unitIdle (broadcast 46) good (counters 0 0 0 0)
           ∷ turned (0x40 is 0 ∷ 0x60 is 0 ∷ 0x30 is 0 ∷ [])
           ∷ [];
     }
@@ -756,8 +758,8 @@ pub works : List Case
 unfolding ownGroup listedOnes bitOfOnes thirdByte takesMinimum takesPromiscuous rejectedKeeps listedThen thirtieth readAtBegin sourceSent alteredOutgoing alteredHolding reportOfNop tooLong endlessBuffers storedAsRead noResourcesWins freeOfOnes frameLinkOfOnes freeThenStatus counterAfterHeader shortSavedLacks
 works =
     ownGroup
-    ∷ listedOnes 2 0
-    ∷ listedOnes 3 0x4000
+    ∷ listedOnes 2 0 noMatch
+    ∷ listedOnes 3 0x4000 notDropped
     ∷ bitOfOnes 0xFFFF 0xFFFF 0xFFFF
     ∷ bitOfOnes 0x00AB 0x0200 0x0000
     ∷ thirdByte 0x36 0xA000
@@ -767,12 +769,12 @@ works =
     ∷ thirdByte 0x0E 0x8000
     ∷ thirdByte 0x46 0x8000
     ∷ thirdByte 0x86 0x8000
-    ∷ takesMinimum 0x0A 0
-    ∷ takesMinimum 0x0B 0x4000
-    ∷ takesMinimum 0xFF 0x4000
-    ∷ takesPromiscuous 0xF8 0
-    ∷ takesPromiscuous 0x09 0x4000
-    ∷ takesPromiscuous 0x00 0
+    ∷ takesMinimum 0x0A 0 bad
+    ∷ takesMinimum 0x0B 0x4000 notDropped
+    ∷ takesMinimum 0xFF 0x4000 notDropped
+    ∷ takesPromiscuous 0xF8 0 noMatch
+    ∷ takesPromiscuous 0x09 0x4000 notDropped
+    ∷ takesPromiscuous 0x00 0 noMatch
     ∷ rejectedKeeps
     ∷ listedThen 102
     ∷ listedThen 6

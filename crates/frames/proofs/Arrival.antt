@@ -15,7 +15,7 @@ use Rattle.memory.specs.declared.Offset.{Offset}
 use Rattle.memory.proofs.Fields.{word-same, bytes-other, length-digits}
 use Rattle.memory.proofs.Laws.{length-putBytes}
 use Rattle.memory.proofs.Power.{allowed}
-use Rattle.device.specs.Answers.{counterOf, counts, isHeld}
+use Rattle.device.specs.Answers.{counterOf, reasonOf, counts, isHeld}
 use Rattle.device.specs.Limits.{header, fcs, heldFrom}
 use Rattle.device.specs.Numbers.{verdictOf}
 use Rattle.device.specs.State.{isHolding, goodBy}
@@ -25,6 +25,7 @@ use Rattle.device.specs.declared.Counter.the-variants as counter
 use Rattle.device.specs.declared.Fate.{Fate}
 use Rattle.device.specs.declared.Fate.the-variants as fate
 use Rattle.device.specs.declared.Frame.{Frame}
+use Rattle.device.specs.declared.Reason.the-variants as reason
 use Rattle.device.specs.declared.Ru.{Ru}
 use Rattle.device.specs.declared.Ru.the-variants as ru
 use Rattle.device.specs.declared.Verdict.the-variants as verdict
@@ -69,7 +70,7 @@ by-fate : (w : World) (f : List ℕ) (v : ℕ) → said w f v (fated w f v) ≡ 
 unfolding said fated chip.arrivalOf chip.arrival receive.arrival
 by-fate w f v = refl
 
-not-held-said : (x : Fate) (w : World) (f : List ℕ) (v : ℕ) → isHeld x ≡ false → RightLengths w f → NotHeld w x (counterOf x) (said w f v x)
+not-held-said : (x : Fate) (w : World) (f : List ℕ) (v : ℕ) → isHeld x ≡ false → RightLengths w f → NotHeld w x (reasonOf x) (counterOf x) (said w f v x)
 unfolding said
 not-held-said x w f v h l =
     record {
@@ -82,8 +83,8 @@ not-held-said x w f v h l =
     }
 
 not-held : (x : Fate) (w : World) (f : List ℕ) (v : ℕ) → isHeld x ≡ false → RightLengths w f → fated w f v ≡ x
-    → NotHeld w x (counterOf x) (chip.arrivalOf w f v)
-not-held x w f v h l e = subst (λ (r : Ran). NotHeld w x (counterOf x) r) (ap (said w f v) (sym e) ∙ by-fate w f v) (not-held-said x w f v h l)
+    → NotHeld w x (reasonOf x) (counterOf x) (chip.arrivalOf w f v)
+not-held x w f v h l e = subst (λ (r : Ran). NotHeld w x (reasonOf x) (counterOf x) r) (ap (said w f v) (sym e) ∙ by-fate w f v) (not-held-said x w f v h l)
 
 -- a frame that is set down at the front of the holding area
 entered : (h f : List ℕ) → length f ≤ length h → take (length f) (sets h heldFrom f) ≡ f
@@ -164,23 +165,23 @@ in-unit w f v u j o e g = rw (le-ltb (length f) header (o .enough), o .matched) 
 -- ---- the classes
 
 -- under 14 bytes, dropped
-pub few : (w : World) (f : List ℕ) (v : ℕ) → RightLengths w f → length f < header → NotHeld w fate.TooFew counter.Uncounted (chip.arrivalOf w f v)
+pub few : (w : World) (f : List ℕ) (v : ℕ) → RightLengths w f → length f < header → NotHeld w fate.TooFew reason.TooFew counter.Uncounted (chip.arrivalOf w f v)
 unfolding fated receive.fateOf
 few w f v l h = not-held fate.TooFew w f v refl l (rw (lt-ltb (length f) header h))
 
 -- no match, dropped
 pub unmatched : (w : World) (f : List ℕ) (v : ℕ) → RightLengths w f → header ≤ length f → isOurs w f ≡ false
-    → NotHeld w fate.NoMatch counter.Uncounted (chip.arrivalOf w f v)
+    → NotHeld w fate.NoMatch reason.NoMatch counter.Uncounted (chip.arrivalOf w f v)
 unfolding fated receive.fateOf
 unmatched w f v l h n = not-held fate.NoMatch w f v refl l (rw (le-ltb (length f) header h, n))
 
 -- RU Idle or Suspended, dropped
 pub idle : (w : World) (f : List ℕ) (v : ℕ) → RightLengths w f → Ours w f → unitOf w ≡ ru.Idle
-    → NotHeld w fate.UnitIdle counter.Uncounted (chip.arrivalOf w f v)
+    → NotHeld w fate.UnitIdle reason.UnitIdle counter.Uncounted (chip.arrivalOf w f v)
 idle w f v l o u = not-held fate.UnitIdle w f v refl l (in-unit w f v ru.Idle _ o u refl)
 
 pub suspended : (w : World) (f : List ℕ) (v : ℕ) (fd : Offset) → RightLengths w f → Ours w f → unitOf w ≡ ru.Suspended fd
-    → NotHeld w fate.UnitSuspended counter.Uncounted (chip.arrivalOf w f v)
+    → NotHeld w fate.UnitSuspended reason.UnitSuspended counter.Uncounted (chip.arrivalOf w f v)
 suspended w f v fd l o u = not-held fate.UnitSuspended w f v refl l (in-unit w f v (ru.Suspended fd) _ o u refl)
 
 -- a frame already held: OVRNERRS, whatever the frame
@@ -195,7 +196,7 @@ overrun-fate (ru.Closing s o e) j h = refl
 overrun-fate (ru.Lacking s) j h = refl
 
 pub overrun : (w : World) (f : List ℕ) (v : ℕ) → RightLengths w f → Ours w f → isHolding (unitOf w) ≡ true
-    → NotHeld w fate.Overrun counter.Overruns (chip.arrivalOf w f v)
+    → NotHeld w fate.Overrun reason.NotDropped counter.Overruns (chip.arrivalOf w f v)
 overrun w f v l o h =
     not-held fate.Overrun w f v refl l (in-unit w f v (unitOf w) (receive.judged (settingsOf w) f v) o refl refl ∙ overrun-fate (unitOf w) _ h)
 
@@ -207,7 +208,7 @@ good-ready w f v fd l o g u =
 
 -- else RSCERRS
 pub good-unready : (w : World) (f : List ℕ) (v : ℕ) → RightLengths w f → Ours w f → Good w f v → unitOf w ≡ ru.NoResources
-    → NotHeld w fate.NoResources counter.Resources (chip.arrivalOf w f v)
+    → NotHeld w fate.NoResources reason.NotDropped counter.Resources (chip.arrivalOf w f v)
 good-unready w f v l o g u =
     not-held fate.NoResources w f v refl l (in-unit w f v ru.NoResources _ o u (good-judged w f v l g))
 
@@ -221,13 +222,13 @@ bad-saved w f v fd c l o b u s =
 
 pub bad-unsaved : (w : World) (f : List ℕ) (v : ℕ) (fd : Offset) (c : Counter) → RightLengths w f → Ours w f → Bad w f v c → unitOf w ≡ ru.Ready fd
     → settingsOf w .savebad ≡ false
-    → NotHeld w (fate.Bad c) c (chip.arrivalOf w f v)
+    → NotHeld w (fate.Bad c) reason.Bad c (chip.arrivalOf w f v)
 bad-unsaved w f v fd c l o b u s =
     not-held (fate.Bad c) w f v refl l
     (in-unit w f v (ru.Ready fd) _ o u (bad-judged w f v c l b) ∙ rw (bad-good w f v c b, s, bad-counter w f v c b))
 
 pub bad-unready : (w : World) (f : List ℕ) (v : ℕ) (c : Counter) → RightLengths w f → Ours w f → Bad w f v c → unitOf w ≡ ru.NoResources
-    → NotHeld w (fate.Bad c) c (chip.arrivalOf w f v)
+    → NotHeld w (fate.Bad c) reason.Bad c (chip.arrivalOf w f v)
 bad-unready w f v c l o b u =
     not-held (fate.Bad c) w f v refl l
     (in-unit w f v ru.NoResources _ o u (bad-judged w f v c l b) ∙ rw (bad-good w f v c b, bad-counter w f v c b))

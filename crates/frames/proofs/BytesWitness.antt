@@ -66,7 +66,7 @@ pub record Fine (c : Call) : Type 0 where
   pub right : FrameRight c
 
 module _ (d : Device) (h : Holds (imageOf d) d) where
-  lent-bytes : AreBytes (lentOf d)
+  pub lent-bytes : AreBytes (lentOf d)
   lent-bytes =
       record {
         memory = replicate-bytes 8192 0 (lit≤ tt);
@@ -91,7 +91,7 @@ module _ (d : Device) (h : Holds (imageOf d) d) where
       }
 
   -- no such call is refused, and each leaves the record of the next state
-  accepted : (c : Call) → Fine c → refusedAt (lending c (lentOf d)) ≡ false
+  pub accepted : (c : Call) → Fine c → refusedAt (lending c (lentOf d)) ≡ false
   accepted c f = accepts c (lentOf d) d fits (f .right)
 
   carries : (c : Call) → Fine c → Carried c d (lentOf d)

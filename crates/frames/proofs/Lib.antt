@@ -1,5 +1,5 @@
 -- Demand 2 of frames. Which are addressed to us: `Filtered`, `FilterWitness`. At an arrival: `Arrival.arrival-fate`, and a theorem for each class
--- of frames. At every call while a frame is held: `Held.good-held`, `Held.bad-held`; as facts about memory at exit `Stands.good-exit`,
+-- of frames; why it is dropped, `Reasons`, `ReasonsWitness`. At every call while a frame is held: `Held.good-held`, `Held.bad-held`; as facts about memory at exit `Stands.good-exit`,
 -- `Stands.bad-exit`, and when their premise is met, `Clear`.
 -- What the buffers get, put together: `Data.delivered`, `Data.arrived`, on bytes `Data.delivered-on-bytes`, `Data.arrived-on-bytes`;
 -- `DataWitness`, `DataBytesWitness`.
@@ -7,6 +7,7 @@
 -- Over calls on the areas that are lent: an arrival, `Arrived`; all, `OnBytes`; a list of them: `BytesWitness`.
 -- That calls that are not refused meet the premises: `Accepted`.
 pub mod Arrival
+pub mod Reasons
 pub mod End
 pub mod Held
 pub mod Filtered
@@ -22,4 +23,5 @@ pub mod OnBytes
 pub mod Accepted
 pub mod Witness
 pub mod BytesWitness
+pub mod ReasonsWitness
 pub mod DataBytesWitness

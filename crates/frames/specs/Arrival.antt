@@ -8,7 +8,7 @@ use Rattle.memory.specs.Memory.{wordAt, bytesAt}
 use Rattle.memory.specs.Size.{sizeAllowed}
 use Rattle.memory.specs.declared.Offset.{Offset}
 use Rattle.memory.proofs.Fields.{Apart}
-use Rattle.device.specs.Answers.{answered}
+use Rattle.device.specs.Answers.{arrived}
 use Rattle.device.specs.Change.{withRu, withUnits}
 use Rattle.device.specs.Limits.{header, holdingSize, fcs}
 use Rattle.device.specs.Numbers.{verdictOf}
@@ -18,6 +18,8 @@ use Rattle.device.specs.declared.Counter.the-variants as counter
 use Rattle.device.specs.declared.Fate.{Fate}
 use Rattle.device.specs.declared.Fate.the-variants as fate
 use Rattle.device.specs.declared.Frame.{Frame}
+use Rattle.device.specs.declared.Reason.{Reason}
+use Rattle.device.specs.declared.Reason.the-variants as reason
 use Rattle.device.specs.declared.Ru.{Ru}
 use Rattle.device.specs.declared.Ru.the-variants as ru
 use Rattle.device.specs.declared.Settings.{Settings}
@@ -30,7 +32,7 @@ use Rattle.traces.specs.Areas.{NotOverlong}
 
 -- ---- which frame arrives
 
--- 01, "Calls, lent areas, refusals": what the lengths are where neither 1, 2 nor 3 is given
+-- 01, "Calls, lent areas, refusals": what the lengths are where neither 1, 22 nor 3 is given
 pub record RightLengths (w : World) (f : List ℕ) : Type 0 where
   pub size : sizeAllowed (length (w .memory)) ≡ true
   pub area : length (w .holding) ≡ holdingSize
@@ -86,21 +88,21 @@ Counts counter.Alignment w after = OneMore (inScb w 10) (w .memory) after
 Counts counter.Resources w after = OneMore (inScb w 12) (w .memory) after
 Counts counter.Overruns w after = OneMore (inScb w 14) (w .memory) after
 
--- the frame is not held: the record and both areas are as they were, there is no edge, and memory changes by the counter said
-pub record NotHeld (w : World) (x : Fate) (c : Counter) (r : Ran) : Type 0 where
+-- the frame is not held: the record and both areas are as they were, the answer is the reason said and no more, and memory changes by the counter said
+pub record NotHeld (w : World) (x : Fate) (why : Reason) (c : Counter) (r : Ran) : Type 0 where
   pub fates : r .outcome .fates ≡ x ∷ []
   pub device : r .outcome .device ≡ w .device
-  pub answer : r .outcome .answer ≡ answered 0 false
+  pub answer : r .outcome .answer ≡ arrived why
   pub holding : r .holding ≡ w .holding
   pub outgoing : r .outgoing ≡ w .outgoing
   pub memory : Counts c w (r .memory)
 
 -- it is held, before the descriptor that was next: its bytes enter the holding area, bytes that it doesn't reach stay; of the record only
--- the receive unit changes, which keeps how the frame was judged; there is no edge, and memory changes by the counter said
+-- the receive unit changes, which keeps how the frame was judged; no reason is given, and memory changes by the counter said
 pub record IsHeld (w : World) (f : List ℕ) (fd : Offset) (judged : Frame) (c : Counter) (r : Ran) : Type 0 where
   pub fates : r .outcome .fates ≡ fate.Held c ∷ []
   pub device : r .outcome .device ≡ withUnits (w .device) (withRu (w .device .units) (ru.Held fd judged false))
-  pub answer : r .outcome .answer ≡ answered 0 false
+  pub answer : r .outcome .answer ≡ arrived reason.NotDropped
   pub entered : take (length f) (r .holding) ≡ f
   pub stayed : drop (length f) (r .holding) ≡ drop (length f) (w .holding)
   pub outgoing : r .outgoing ≡ w .outgoing
@@ -122,22 +124,22 @@ judgedAs w f v isShort = record { length = length f; verdict = v; short = isShor
 
 pub data ArrivalFate (w : World) (f : List ℕ) (v : ℕ) (r : Ran) : Type 0 where
   -- under 14 bytes, dropped. No match, dropped. RU Idle or Suspended, dropped
-  few : length f < header → NotHeld w fate.TooFew counter.Uncounted r → ArrivalFate w f v r
-  unmatched : header ≤ length f → isOurs w f ≡ false → NotHeld w fate.NoMatch counter.Uncounted r → ArrivalFate w f v r
-  idle : Ours w f → unitOf w ≡ ru.Idle → NotHeld w fate.UnitIdle counter.Uncounted r → ArrivalFate w f v r
-  suspended : (fd : Offset) → Ours w f → unitOf w ≡ ru.Suspended fd → NotHeld w fate.UnitSuspended counter.Uncounted r → ArrivalFate w f v r
-  -- a frame already held: OVRNERRS
-  overrun : Ours w f → isHolding (unitOf w) ≡ true → NotHeld w fate.Overrun counter.Overruns r → ArrivalFate w f v r
-  -- a good one is held in Ready, else RSCERRS
+  few : length f < header → NotHeld w fate.TooFew reason.TooFew counter.Uncounted r → ArrivalFate w f v r
+  unmatched : header ≤ length f → isOurs w f ≡ false → NotHeld w fate.NoMatch reason.NoMatch counter.Uncounted r → ArrivalFate w f v r
+  idle : Ours w f → unitOf w ≡ ru.Idle → NotHeld w fate.UnitIdle reason.UnitIdle counter.Uncounted r → ArrivalFate w f v r
+  suspended : (fd : Offset) → Ours w f → unitOf w ≡ ru.Suspended fd → NotHeld w fate.UnitSuspended reason.UnitSuspended counter.Uncounted r → ArrivalFate w f v r
+  -- a frame already held: OVRNERRS, which is no reason
+  overrun : Ours w f → isHolding (unitOf w) ≡ true → NotHeld w fate.Overrun reason.NotDropped counter.Overruns r → ArrivalFate w f v r
+  -- a good one is held in Ready, else RSCERRS, which is none either
   good-ready : (fd : Offset) → Ours w f → Good w f v → unitOf w ≡ ru.Ready fd
       → IsHeld w f fd (judgedAs w f verdict.Good false) counter.Uncounted r
       → ArrivalFate w f v r
-  good-unready : Ours w f → Good w f v → unitOf w ≡ ru.NoResources → NotHeld w fate.NoResources counter.Resources r → ArrivalFate w f v r
-  -- a bad one is held only in Ready with save-bad set
+  good-unready : Ours w f → Good w f v → unitOf w ≡ ru.NoResources → NotHeld w fate.NoResources reason.NotDropped counter.Resources r → ArrivalFate w f v r
+  -- a bad one is held only in Ready with save-bad set; else it is dropped, counted or not
   bad-saved : (fd : Offset) (c : Counter) → Ours w f → Bad w f v c → unitOf w ≡ ru.Ready fd → settingsOf w .savebad ≡ true
       → IsHeld w f fd (judgedAs w f (verdictOf v) (shortBy c)) c r
       → ArrivalFate w f v r
   bad-unsaved : (fd : Offset) (c : Counter) → Ours w f → Bad w f v c → unitOf w ≡ ru.Ready fd → settingsOf w .savebad ≡ false
-      → NotHeld w (fate.Bad c) c r
+      → NotHeld w (fate.Bad c) reason.Bad c r
       → ArrivalFate w f v r
-  bad-unready : (c : Counter) → Ours w f → Bad w f v c → unitOf w ≡ ru.NoResources → NotHeld w (fate.Bad c) c r → ArrivalFate w f v r
+  bad-unready : (c : Counter) → Ours w f → Bad w f v c → unitOf w ≡ ru.NoResources → NotHeld w (fate.Bad c) reason.Bad c r → ArrivalFate w f v r

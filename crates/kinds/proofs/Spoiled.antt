@@ -102,7 +102,7 @@ refusing-changes-nothing c a = kept-by (isRefused (called c a)) (called c a) ref
   where
     kept-by : (b : Bool) (r : Called) → isRefused r ≡ b → (isRefused r ≡ true → Untouched a r) → Untouched a (cond b r (asLent 1 a))
     kept-by true r e h = h e
-    kept-by false r e h = record { areas = refl; length = refl; edge = refl; whole = refl }
+    kept-by false r e h = record { areas = refl; length = refl; edge = refl; reason = refl; whole = refl }
 
 -- ---- one with a constant answer
 

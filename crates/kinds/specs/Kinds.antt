@@ -153,7 +153,7 @@ pub record FirstOnly (chip : Chip) : Type 0 where
 abbrev pub ScbOf : Device → Ran → Units → Type 0
 ScbOf d said u = (u ≡ d .units) ⊎ (u ≡ said .outcome .device .units)
 
--- the edge, and whatever stands above it in an answer
+-- the edge, and whatever stands above it in an answer: of an arrival its reason
 abbrev pub fromEdge : ℕ → ℕ
 fromEdge answer = answer / 2 ^ 32
 

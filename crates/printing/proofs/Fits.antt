@@ -1,5 +1,5 @@
--- One line always fits: what a right line prints has at most 1,310,700 characters, `line-fits`. Most could be printed by `turn 65535`: as
--- many answers, of which none has more than 20. No contract cites this file. Assumes nothing.
+-- One line always fits: what a right line prints has at most as many characters as 65,535 answers can have, `line-fits`. No contract cites this
+-- file. Assumes nothing.
 use mathlib.Core.Path.{_≡_}
 use mathlib.Core.Bool.{Bool, true, false, cond}
 use mathlib.Core.List.{List, [], _∷_}
@@ -19,23 +19,23 @@ use Rattle.wording.specs.declared.Area.the-variants as area
 use Rattle.wording.specs.declared.Line.{Line}
 use Rattle.wording.specs.declared.Verb.{Verb}
 use Rattle.wording.specs.declared.Verb.the-variants as verb
-use Rattle.texts.specs.Texts.{each, showLine, lookLine, showText, lookText, interruptText}
+use Rattle.texts.specs.Texts.{longestAnswer, each, showLine, lookLine, showText, lookText, interruptText}
 use Rattle.texts.proofs.Lengths.{length-answer, length-show-line, length-look-line}
 use Rattle.scene.specs.Scene.{Scene, turnsOf, turnCount, shown, looked, recordText, sayText, many}
-use Rattle.printing.specs.Line.{callText, turnsText, lineText}
+use Rattle.printing.specs.Line.{callText, turnsText, longestLine, lineText}
 
 -- ---- calls
 
-call-fits : (c : Call) (s : Scene) → length (callText c s) ≤ 20
+call-fits : (c : Call) (s : Scene) → length (callText c s) ≤ longestAnswer
 unfolding callText
 call-fits c s = length-answer (onBoard c (s .play .board) (s .memory) (s .holding) (s .outgoing) .said .answer)
 
-turns-fit : (n report : ℕ) (s : Scene) → length (turnsText n report s) ≤ 20 * n
+turns-fit : (n report : ℕ) (s : Scene) → length (turnsText n report s) ≤ longestAnswer * n
 unfolding turnsText
 turns-fit zero report s = omega arith
 turns-fit (suc n) report s =
-    let a : length (turnsText n report s) ≤ 20 * n = turns-fit n report s in
-    let b : length (callText (turn report) (turnsOf n report s)) ≤ 20 = call-fits (turn report) (turnsOf n report s) in
+    let a : length (turnsText n report s) ≤ longestAnswer * n = turns-fit n report s in
+    let b : length (callText (turn report) (turnsOf n report s)) ≤ longestAnswer = call-fits (turn report) (turnsOf n report s) in
     rw (length-append (turnsText n report s) (callText (turn report) (turnsOf n report s))) (omega arith)
 
 count-by : (x : Bool) (n : ℕ) → cond x 1 (n % 65536) ≤ 65535
@@ -69,23 +69,23 @@ look-fits area place n h =
     (λ k. rw (length-look-line area (place + 16 * k) (min 8 (n - 8 * k))) (omega arith)) in
     omega arith
 
-shown-fits : (a : Area) (m h og : List ℕ) (place n : ℕ) → n ≤ 65536 → length (shown a m h og place n) ≤ 1310700
+shown-fits : (a : Area) (m h og : List ℕ) (place n : ℕ) → n ≤ 65536 → length (shown a m h og place n) ≤ longestLine
 unfolding shown
 shown-fits area.Memory m h og place n p = omega (arith, show-fits m place n p)
 shown-fits area.Holding m h og place n p = omega (arith, show-fits h place n p)
 shown-fits area.Outgoing m h og place n p = omega (arith, show-fits og place n p)
 
-looked-fits : (a : Area) (m h og : List ℕ) (place n : ℕ) → n ≤ 65536 → length (looked a m h og place n) ≤ 1310700
+looked-fits : (a : Area) (m h og : List ℕ) (place n : ℕ) → n ≤ 65536 → length (looked a m h og place n) ≤ longestLine
 unfolding looked
 looked-fits area.Memory m h og place n p = omega (arith, look-fits m place n p)
 looked-fits area.Holding m h og place n p = omega (arith, look-fits h place n p)
 looked-fits area.Outgoing m h og place n p = omega (arith, look-fits og place n p)
 
-record-fits : (b : Board) → length (recordText b) ≤ 1310700
+record-fits : (b : Board) → length (recordText b) ≤ longestLine
 unfolding recordText
 record-fits b = omega (arith, show-fits (b .kept .bytes) 0 recordSize (omega arith))
 
-interrupt-fits : (high : Bool) → length (interruptText high) ≤ 1310700
+interrupt-fits : (high : Bool) → length (interruptText high) ≤ longestLine
 unfolding interruptText
 interrupt-fits true = omega arith
 interrupt-fits false = omega arith
@@ -105,7 +105,7 @@ room a place n e =
     omega arith
 
 pub line-fits : (v : Verb) (l : Line) (own : List ℕ) (s : Scene) → length own ≤ 65536 → fits v l (sizeOf (l .area)) ≡ true
-    → length (lineText v l own s) ≤ 1310700
+    → length (lineText v l own s) ≤ longestLine
 unfolding lineText sayText
 line-fits verb.Nothing l own s n f = omega arith
 line-fits verb.Size l own s n f = omega arith
@@ -114,7 +114,7 @@ line-fits verb.Attention l own s n f = omega (arith, call-fits attention s)
 line-fits verb.Arrival l own s n f = omega (arith, call-fits (arrive own (l .first % many)) s)
 line-fits verb.Turn l own s n f =
     let k : turnCount l ≤ 65535 = count-by (eqb (l .taken) 0) (l .first) in
-    let a : length (turnsText (turnCount l) (l .second % 65536) s) ≤ 20 * turnCount l = turns-fit (turnCount l) (l .second % 65536) s in
+    let a : length (turnsText (turnCount l) (l .second % 65536) s) ≤ longestAnswer * turnCount l = turns-fit (turnCount l) (l .second % 65536) s in
     omega arith
 line-fits verb.Run l own s n f = omega (arith, call-fits (run (l .second % 65536) (turnCount l)) s)
 line-fits verb.Bytes l own s n f = omega arith

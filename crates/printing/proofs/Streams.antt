@@ -13,6 +13,7 @@ use lib.ListN.{length}
 use Rattle.lines.specs.declared.Reader.{Reader}
 use Rattle.lines.specs.Reader as lines
 use Rattle.session.specs.Run.{State, stateOf, start, faultOf, stoppedBy, lineObeyed, judged, lineEnded, fed, ran}
+use Rattle.printing.specs.Line.{programRoom}
 use Rattle.printing.specs.Run.{judgedText, charText, textOf, emptiedIn, written, joined, Room, quietly, newlines, Cut}
 use Rattle.printing.specs.Streams.{Stream, output, errors, judgedOn, charOn, textOn, streamOf, seenOn, writtenOn, inStretchesOn}
 use Rattle.printing.proofs.Run.{fed-alike, ran-alike, text-alike, stretch}
@@ -198,7 +199,7 @@ stretches-on v st (xs ∷ xss) k h =
     ∙ sym (append-on v st xs (joined xss))
 
 -- from the start, with the program's own lengths
-pub the-streams-have : (v : Stream) (m h og by out : List ℕ) (xss : List (List ℕ)) → length by ≡ 65536 → length out ≡ 1310720 → Cut xss
+pub the-streams-have : (v : Stream) (m h og by out : List ℕ) (xss : List (List ℕ)) → length by ≡ 65536 → length out ≡ programRoom → Cut xss
     → inStretchesOn v (stateOf start m h og by out) xss ≡ textOn v (stateOf start m h og by out) (joined xss)
 the-streams-have v m h og by out xss l o c =
     stretches-on v (stateOf start m h og by out) xss c

@@ -15,6 +15,7 @@ use Rattle.texts.proofs.Lengths.{length-fault}
 use Rattle.scene.specs.Scene.{playOf, sceneOf}
 use Rattle.session.specs.declared.Session.{Session}
 use Rattle.session.specs.Run.{State, stateOf, start, expectedOf, faultOf, stoppedBy, lineObeyed, judged, lineEnded, fed, ran}
+use Rattle.printing.specs.Line.{longestLine, programRoom}
 use Rattle.printing.specs.Run.{judgedText, charText, textOf, emptiedIn, inStretches, joined, Room, newlines, Cut}
 use Rattle.printing.specs.Sane.{Narrow, Sane}
 use Rattle.printing.proofs.Fits.{line-fits}
@@ -60,17 +61,17 @@ start-sane m h og by out l = record { reading = start-narrow by l; line = omega 
 
 -- ---- one line always fits
 
-fault-fits : (line : ℕ) (r : Reader) → line < 2 ^ 64 → r .fault .column < 2147483648 → length (faultOf line r) ≤ 1310700
+fault-fits : (line : ℕ) (r : Reader) → line < 2 ^ 64 → r .fault .column < 2147483648 → length (faultOf line r) ≤ longestLine
 unfolding faultOf
 fault-fits line r p q = omega (arith, length-fault line (r .fault .column) (expectedOf (r .fault .wrong)) p (omega arith))
 
-text-by : (x : Bool) (t u : List ℕ) → (x ≡ true → length t ≤ 1310700) → length u ≤ 1310700 → length (cond x t u) ≤ 1310700
+text-by : (x : Bool) (t u : List ℕ) → (x ≡ true → length t ≤ longestLine) → length u ≤ longestLine → length (cond x t u) ≤ longestLine
 text-by true t u p q = p refl
 text-by false t u p q = q
 
 judged-fits : (s : Session) (m h og : List ℕ) (e : lines.Read) → s .line < 2 ^ 64 → Narrow e
     → (lines.isRight (e .reader) ≡ true → Fits (e .reader .line))
-    → length (judgedText s (e .reader) m h og (e .bytes)) ≤ 1310700
+    → length (judgedText s (e .reader) m h og (e .bytes)) ≤ longestLine
 unfolding judgedText
 judged-fits s m h og e l n right =
     text-by (lines.isRight (e .reader)) _ _
@@ -80,13 +81,13 @@ judged-fits s m h og e l n right =
     line-fits (e .reader .line .verb) (e .reader .line) (take (e .reader .line .filled) (e .bytes)) (sceneOf (playOf (s .board) 0) m h og []) t (right r))
     (fault-fits (s .line) (e .reader) l (n .fault))
 
-char-by : (x y : Bool) (t : List ℕ) → length t ≤ 1310700 → length (cond x [] (cond y t [])) ≤ 1310700 * cond y 1 0
+char-by : (x y : Bool) (t : List ℕ) → length t ≤ longestLine → length (cond x [] (cond y t [])) ≤ longestLine * cond y 1 0
 char-by true true t h = omega arith
 char-by true false t h = omega arith
 char-by false true t h = omega arith
 char-by false false t h = omega arith
 
-char-fits : (st : State) (c : ℕ) → Sane st → length (charText st c) ≤ 1310700 * cond (eqb c 10) 1 0
+char-fits : (st : State) (c : ℕ) → Sane st → length (charText st c) ≤ longestLine * cond (eqb c 10) 1 0
 unfolding charText
 char-fits st c k =
     char-by (st .session .stopped) (eqb c 10) _
@@ -94,15 +95,15 @@ char-fits st c k =
     (end-narrow (st .session .reader) (st .bytes) (k .reading)) (end-fits (st .session .reader) (st .bytes)))
 
 -- what a stretch prints
-pub text-fits : (st : State) (cs : List ℕ) → Sane st → length (textOf st cs) ≤ 1310700 * newlines cs
+pub text-fits : (st : State) (cs : List ℕ) → Sane st → length (textOf st cs) ≤ longestLine * newlines cs
 unfolding textOf newlines
 text-fits st [] k = omega arith
 text-fits st (c ∷ cs) k =
-    let a : length (charText st c) ≤ 1310700 * cond (eqb c 10) 1 0 = char-fits st c k in
-    let b : length (textOf (fed st c) cs) ≤ 1310700 * newlines cs = text-fits (fed st c) cs (fed-sane st c k) in
+    let a : length (charText st c) ≤ longestLine * cond (eqb c 10) 1 0 = char-fits st c k in
+    let b : length (textOf (fed st c) cs) ≤ longestLine * newlines cs = text-fits (fed st c) cs (fed-sane st c k) in
     rw (length-append (charText st c) (textOf (fed st c) cs)) (omega arith)
 
-pub one-line-fits : (st : State) (cs : List ℕ) → newlines cs ≤ 1 → Sane st → length (textOf st cs) ≤ 1310700
+pub one-line-fits : (st : State) (cs : List ℕ) → newlines cs ≤ 1 → Sane st → length (textOf st cs) ≤ longestLine
 one-line-fits st cs n k = omega (arith, text-fits st cs k)
 
 -- ---- the program
@@ -113,19 +114,19 @@ emptied-sane st k = record { reading = k .reading; line = k .line }
 ran-room : (st : State) (cs : List ℕ) → length (ran st cs .out) ≡ length (st .out)
 ran-room st cs = ap length (ran-puts st cs .bytes) ∙ length-sets (st .out) (st .session .at) (textOf st cs)
 
-pub rooms : (st : State) (xss : List (List ℕ)) → Sane st → Cut xss → 1310700 ≤ length (st .out) → Room st xss
+pub rooms : (st : State) (xss : List (List ℕ)) → Sane st → Cut xss → longestLine ≤ length (st .out) → Room st xss
 rooms st [] k h l = tt
 rooms st (xs ∷ xss) k h l =
-    let t : length (textOf st xs) ≤ 1310700 = one-line-fits st xs (h .0) k in
+    let t : length (textOf st xs) ≤ longestLine = one-line-fits st xs (h .0) k in
     let o : length (ran (emptiedIn st) xs .out) ≡ length (st .out) = ran-room (emptiedIn st) xs in
     (omega arith, rooms (ran (emptiedIn st) xs) xss (ran-sane (emptiedIn st) xs (emptied-sane st k)) (h .1) (omega arith))
 
 -- from any sane state: what is written out, stretch by stretch, is what the whole input prints
-pub sane-prints : (st : State) (xss : List (List ℕ)) → Sane st → Cut xss → 1310700 ≤ length (st .out) → inStretches st xss ≡ textOf st (joined xss)
+pub sane-prints : (st : State) (xss : List (List ℕ)) → Sane st → Cut xss → longestLine ≤ length (st .out) → inStretches st xss ≡ textOf st (joined xss)
 sane-prints st xss k h l = stretches st xss (rooms st xss k h l)
 
 -- from the start, with the program's own lengths
-pub the-program-prints : (m h og by out : List ℕ) (xss : List (List ℕ)) → length by ≡ 65536 → length out ≡ 1310720 → Cut xss
+pub the-program-prints : (m h og by out : List ℕ) (xss : List (List ℕ)) → length by ≡ 65536 → length out ≡ programRoom → Cut xss
     → inStretches (stateOf start m h og by out) xss ≡ textOf (stateOf start m h og by out) (joined xss)
 the-program-prints m h og by out xss l o c =
     sane-prints (stateOf start m h og by out) xss (start-sane m h og by out (omega arith)) c (omega arith)

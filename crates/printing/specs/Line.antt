@@ -1,11 +1,11 @@
 -- What a line prints, where there is room for it: docs/replay.md, "Lines" and "Answers". Assumes nothing.
 use mathlib.Core.List.{List, [], _++_}
-use Prim.Native.Nat.{ℕ, zero, suc, _%_}
+use Prim.Native.Nat.{ℕ, zero, suc, _*_, _%_}
 use Rattle.board.specs.Board.{Call, reset, attention, arrive, turn, run, onBoard, isHigh}
 use Rattle.wording.specs.declared.Line.{Line}
 use Rattle.wording.specs.declared.Verb.{Verb}
 use Rattle.wording.specs.declared.Verb.the-variants as verb
-use Rattle.texts.specs.Texts.{answerText, interruptText}
+use Rattle.texts.specs.Texts.{answerText, longestAnswer, interruptText}
 use Rattle.scene.specs.Scene.{Scene, playOf, sceneOf, turnsOf, turnCount, shown, looked, recordText, sayText, many}
 
 -- a call prints its answer
@@ -16,6 +16,14 @@ callText c s = answerText (onBoard c (s .play .board) (s .memory) (s .holding) (
 unfoldable pub turnsText : ℕ → ℕ → Scene → List ℕ
 turnsText zero report s = []
 turnsText (suc n) report s = turnsText n report s ++ callText (turn report) (turnsOf n report s)
+
+-- most is printed by `turn 65535`: as many answers, of which none is longer than the longest
+abbrev pub longestLine : ℕ
+longestLine = 65535 * longestAnswer
+
+-- the room that the program has for it
+abbrev pub programRoom : ℕ
+programRoom = 65536 * longestAnswer
 
 -- own: the bytes or the text that the line brought
 unfoldable pub lineText : Verb → Line → List ℕ → Scene → List ℕ

@@ -8,9 +8,9 @@ use lib.ListN.{replicate, getD}
 use Rattle.memory.specs.Address.{place}
 use Rattle.memory.specs.Memory.{byteAt, putByte, bytesAt, putBytes, value, digits, fieldAt, wordAt, Write, wordTo, apply}
 use Rattle.scb.specs.Words.{bitsAt, one}
-use Rattle.device.specs.Answers.{counterOf, counts, isHeld}
+use Rattle.device.specs.Answers.{counterOf, counts, isHeld, reasonOf}
 use Rattle.device.specs.Change.{withRu, withSettings}
-use Rattle.device.specs.Numbers.{counterPlace, verdictOf}
+use Rattle.device.specs.Numbers.{counterPlace, verdictOf, reasonNumber}
 use Rattle.device.specs.State.{freshUnits}
 use Rattle.device.specs.declared.Fate.{Fate}
 use Rattle.device.specs.declared.Frame.{Frame}
@@ -85,6 +85,19 @@ badCounted = tt
 pub lackingCounted : T (eqb (counted (arrives false ru.NoResources 60 0)) 12 && eqb (counted (arrives true ru.NoResources 60 1)) 8)
 unfolding lengthOf judged fateOf verdictOf
 lackingCounted = tt
+
+-- 02, Wish 3: the reasons, as the order reaches them: too few before no match, no match before Idle and Suspended, these before bad; a frame already held
+-- is no reason, bad or not, nor is RSCERRS; a bad frame in No Resources is not saved, whatever save-bad says
+abbrev why : (savebad matched : Bool) → Ru → (bytes verdict : ℕ) → ℕ
+why savebad matched unit bytes v = reasonNumber (reasonOf (fateOf (settings savebad) matched unit (replicate bytes 0) v))
+
+pub reasonsInOrder : T (eqb (why false false ru.Idle 13 1) 1 && eqb (why false false ru.Idle 60 1) 2 && eqb (why false true ru.Idle 60 1) 3
+    && eqb (why false false (ru.Suspended (record { 0 = 0x50 })) 60 1) 2 && eqb (why false true (ru.Suspended (record { 0 = 0x50 })) 60 1) 4
+    && eqb (why false true (ru.Held (record { 0 = 0x50 }) (judged (settings true) [] 0) false) 60 1) 0 && eqb (why false true ru.NoResources 60 0) 0
+    && eqb (why true true ru.NoResources 60 1) 5 && eqb (why false true ready 59 0) 5 && eqb (why false true ready 60 2) 5
+    && eqb (why true true ready 60 2) 0 && eqb (why false true ready 60 0) 0)
+unfolding lengthOf judged fateOf verdictOf
+reasonsInOrder = tt
 
 -- only a held frame enters the holding area
 abbrev arrived : (matched : Bool) → Arrival

@@ -5,6 +5,7 @@ use libc::STDIN_FILENO;
 use session::Session;
 ghost use mathlib.Core.Path.{_≡_};
 ghost use lib.ListN.{length};
+ghost use Rattle.printing.specs.Line.{programRoom};
 
 // A piece of input, line by line.
 fn run_lines(
@@ -48,11 +49,11 @@ fn run_all(
     }
 }
 
-// Room for what one line prints: 65,535 answers of at most 20 characters are the most.
-fn room() -> [u8; 1310720]
-    ensures { λ r. ⌜ 1310720 ≡ length r ⌝ }
+// Room for what one line prints, by the longest answer: 65,535 of them are the most.
+fn room() -> [u8; 1966080]
+    ensures { λ r. ⌜ programRoom ≡ length r ⌝ }
 {
-    [0; 1310720]
+    [0; 1966080]
 }
 
 fn run_file(fd: i32) {

@@ -2,7 +2,7 @@
 use mathlib.Core.Path.{_≡_, refl}
 use mathlib.Core.Bool.{true}
 use mathlib.Core.List.{List, [], _∷_}
-use Prim.Native.Nat.{ℕ, _+_, _*_, _^_}
+use Prim.Native.Nat.{ℕ, _+_, _-_, _*_, _^_}
 use Rattle.texts.specs.Codes.{codes}
 use Rattle.scb.specs.Words.{bitsAt}
 use Rattle.texts.specs.Texts.{
@@ -11,6 +11,7 @@ use Rattle.texts.specs.Texts.{
   decimalBy,
   decimal,
   furtherText,
+  reasonText,
   answerText,
   interruptText,
   byteText,
@@ -54,17 +55,26 @@ hex-word = refl
 
 -- nothing refused, 60 bytes sent, an edge
 pub sent : answerText (60 * 2 ^ 16 + 2 ^ 32) ≡ codes "0 60 1\n"
-unfolding answerText bitsAt furtherText decimal decimalBy
+unfolding answerText bitsAt furtherText reasonText decimal decimalBy
 sent = refl
 
 pub refused : answerText 4 ≡ codes "4 0 0\n"
-unfolding answerText bitsAt furtherText decimal decimalBy
+unfolding answerText bitsAt furtherText reasonText decimal decimalBy
 refused = refl
 
 -- and 3 turns of a run
 pub run-sent : answerText (60 * 2 ^ 16 + 2 ^ 32 + 3 * 2 ^ 48) ≡ codes "0 60 1 3\n"
-unfolding answerText bitsAt furtherText decimal decimalBy
+unfolding answerText bitsAt furtherText reasonText decimal decimalBy
 run-sent = refl
+
+-- 02, Wish 3: a dropped frame, and the longest word; a word stands behind the turns
+pub unmatched : answerText (2 * 2 ^ 40) ≡ codes "0 0 0 no-match\n"
+unfolding answerText bitsAt furtherText reasonText decimal decimalBy
+unmatched = refl
+
+pub longest : answerText (4 * 2 ^ 40 + (2 ^ 16 - 1) * (1 + 2 ^ 16 + 2 ^ 48) + 2 ^ 32) ≡ codes "65535 65535 1 65535 suspended\n"
+unfolding answerText bitsAt furtherText reasonText decimal decimalBy
+longest = refl
 
 pub high : interruptText true ≡ codes "interrupt high\n"
 unfolding interruptText

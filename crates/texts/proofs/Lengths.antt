@@ -15,8 +15,8 @@ use Rattle.texts.specs.declared.Expected.{Expected}
 use Rattle.texts.specs.declared.Expected.the-variants as expected
 use Rattle.texts.specs.Codes.{codes}
 use Rattle.scb.specs.Words.{bitsAt}
-use Rattle.calls.specs.Answer.{number, sentLength, edge, turnsTaken}
-use Rattle.texts.specs.Texts.{Puts, each, hex, decimalBy, decimal, furtherText, answerText, byteText, wordText, showLine, lookLine, expectedText, faultText}
+use Rattle.calls.specs.Answer.{number, sentLength, edge, reason, turnsTaken}
+use Rattle.texts.specs.Texts.{Puts, each, hex, decimalBy, decimal, furtherText, reasonText, answerText, longestAnswer, byteText, wordText, showLine, lookLine, expectedText, faultText}
 
 -- ---- room
 
@@ -103,14 +103,29 @@ length-further : (n : ℕ) → n < 65536 → length (furtherText n) ≤ 6
 unfolding furtherText
 length-further n h = further-by (eqb n 0) n h
 
--- whatever the answer: three numbers of at most 5, 5 and 1 digits, and a further one of at most 5
-pub length-answer : (a : ℕ) → length (answerText a) ≤ 20
+reason-by : (a b c d e : Bool)
+    → length (cond a (codes " too-few") (cond b (codes " no-match") (cond c (codes " idle") (cond d (codes " suspended") (cond e (codes " bad") []))))) ≤ 10
+reason-by true b c d e = omega arith
+reason-by false true c d e = omega arith
+reason-by false false true d e = omega arith
+reason-by false false false true e = omega arith
+reason-by false false false false true = omega arith
+reason-by false false false false false = omega arith
+
+-- the longest word is ` suspended`
+length-reason : (n : ℕ) → length (reasonText n) ≤ 10
+unfolding reasonText
+length-reason n = reason-by (eqb n 1) (eqb n 2) (eqb n 3) (eqb n 4) (eqb n 5)
+
+-- whatever the answer
+pub length-answer : (a : ℕ) → length (answerText a) ≤ longestAnswer
 unfolding answerText bitsAt
 length-answer a =
     let n : length (decimal (number a)) ≤ 5 = length-decimal 4 (number a) (omega arith) in
     let l : length (decimal (sentLength a)) ≤ 5 = length-decimal 4 (sentLength a) (omega arith) in
     let e : length (decimal (edge a)) ≤ 1 = length-decimal 0 (edge a) (omega arith) in
     let t : length (furtherText (turnsTaken a % 2 ^ 16)) ≤ 6 = length-further (turnsTaken a % 2 ^ 16) (omega arith) in
+    let w : length (reasonText (reason a)) ≤ 10 = length-reason (reason a) in
     simp length-append (omega arith)
 
 length-expected : (what : Expected) → length (expectedText what) ≤ 20

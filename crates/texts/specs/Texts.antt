@@ -7,7 +7,10 @@ use Prim.Native.Nat.{ℕ, zero, suc, _+_, _-_, _*_, _/_, _%_, _^_, min}
 use lib.Dec.{eqb, ltb}
 use lib.ListN.{length, getD}
 use lib.Seq.{sets}
+use Rattle.device.specs.Numbers.{reasonNumber}
+use Rattle.device.specs.declared.Reason.the-variants as reason
 use Rattle.calls.specs.Answer.{number, sentLength, edge, turnsTaken}
+use Rattle.calls.specs.Answer.{reason as reasonIn}
 use Rattle.texts.specs.Codes.{codes}
 use Rattle.texts.specs.declared.Expected.{Expected}
 use Rattle.texts.specs.declared.Expected.the-variants as expected
@@ -48,10 +51,24 @@ decimal n = decimalBy (suc n) n
 unfoldable pub furtherText : ℕ → List ℕ
 furtherText n = cond (eqb n 0) [] (codes " " ++ decimal n)
 
+-- why a frame was dropped, "as one word behind the numbers"; no answer has a number that is no reason's
+unfoldable pub reasonText : ℕ → List ℕ
+reasonText n =
+    cond (eqb n (reasonNumber reason.TooFew)) (codes " too-few")
+    (cond (eqb n (reasonNumber reason.NoMatch)) (codes " no-match")
+    (cond (eqb n (reasonNumber reason.UnitIdle)) (codes " idle")
+    (cond (eqb n (reasonNumber reason.UnitSuspended)) (codes " suspended")
+    (cond (eqb n (reasonNumber reason.Bad)) (codes " bad") []))))
+
 -- the parts of an answer; of its turns as many bits as a number of 64 has
 unfoldable pub answerText : ℕ → List ℕ
 answerText a =
-    decimal (number a) ++ codes " " ++ decimal (sentLength a) ++ codes " " ++ decimal (edge a) ++ furtherText (turnsTaken a % 2 ^ 16) ++ codes "\n"
+    decimal (number a) ++ codes " " ++ decimal (sentLength a) ++ codes " " ++ decimal (edge a) ++ furtherText (turnsTaken a % 2 ^ 16)
+    ++ reasonText (reasonIn a) ++ codes "\n"
+
+-- whatever the answer: three numbers of at most 5, 5 and 1 digits, a further one of at most 5, the longest word, four blanks and the line's end
+abbrev pub longestAnswer : ℕ
+longestAnswer = 30
 
 -- "`interrupt high` or `interrupt low`"
 unfoldable pub interruptText : Bool → List ℕ

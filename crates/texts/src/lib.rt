@@ -96,16 +96,35 @@ fn put_further(out: &mut [u8], at: usize, n: u64) -> usize
     put_decimal(out, next, n)
 }
 
-// What the length, the edge and the turns count in an answer, and the 16 bits that a number has there.
+// Why a frame was dropped, by the reason's number, in a word behind others; nothing if it was not.
+fn put_reason(out: &mut [u8], at: usize, reason: u64) -> usize
+    ensures { λ r. ⌜ Puts (texts.reasonText reason) at (now (out .entry)) r (now (out .exit)) ⌝ }
+{
+    match reason {
+        1 => put_text(out, at, b" too-few"),
+        2 => put_text(out, at, b" no-match"),
+        3 => put_text(out, at, b" idle"),
+        4 => put_text(out, at, b" suspended"),
+        5 => put_text(out, at, b" bad"),
+        _ => at,
+    }
+}
+
+// What the length, the edge, the reason and the turns count in an answer; the 16 bits that a number has there, and the 8 of a reason.
 const LENGTH: u64 = 1 << 16;
 
 const EDGE: u64 = 1 << 32;
+
+const REASON: u64 = 1 << 40;
 
 const TURN: u64 = 1 << 48;
 
 const NUMBERS: u64 = 1 << 16;
 
-// The line of an answer, which is one number: refusal, length sent, edge and the turns of a run stand in it from bits 0, 16, 32 and 48 on.
+const REASONS: u64 = 1 << 8;
+
+// The line of an answer, which is one number: refusal, length sent, edge, reason and the turns of a run stand in it from bits 0, 16, 32, 40 and
+// 48 on. The word stands behind the numbers.
 pub fn put_answer(out: &mut [u8], at: usize, answer: u64) -> usize
     ensures { λ r. ⌜ Puts (texts.answerText answer) at (now (out .entry)) r (now (out .exit)) ⌝ }
 {
@@ -115,7 +134,8 @@ pub fn put_answer(out: &mut [u8], at: usize, answer: u64) -> usize
     let fourth = put_byte(out, third, b' ');
     let fifth = put_decimal(out, fourth, answer / EDGE % 2);
     let sixth = put_further(out, fifth, answer / TURN % NUMBERS);
-    put_byte(out, sixth, b'\n')
+    let seventh = put_reason(out, sixth, answer / REASON % REASONS);
+    put_byte(out, seventh, b'\n')
 }
 
 // The line that shows the interrupt.

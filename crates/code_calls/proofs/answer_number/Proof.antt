@@ -4,8 +4,15 @@ use borrow.Author.Needs.{needs}
 use Rattle.code_calls.proofs.answer_number.Statement.{statement}
 use Rattle.code_calls.proofs.answer_number.Tie as tie
 
-pub answer-number-spec : {M : Type 1} → statement M
+returns : tie.Need-returns
 unfolding answerNumber
+returns c =
+    let number : tie.After-refusal-number = search needs in
+    let edge : tie.After-one = search needs in
+    let reason : tie.After-reason-number = search needs in
+    rw (number .refusal-number .ensures, edge .one .ensures .0, reason .reason-number .ensures)
+
+pub answer-number-spec : {M : Type 1} → statement M
 answer-number-spec =
     tie.close
     (tie.spec
@@ -17,4 +24,8 @@ answer-number-spec =
     (λ c κs. search needs)
     (λ c. search needs)
     (λ c. search needs)
-    (λ c. rw (c .before .before .refusal-number .ensures, c .one .ensures .0)))
+    (λ c κs. search needs)
+    (λ c. search needs)
+    (λ c. search needs)
+    (λ c. search needs)
+    returns)

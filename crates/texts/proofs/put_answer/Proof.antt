@@ -1,4 +1,4 @@
--- `texts::put_answer` meets its contract: its seven parts. Assumes nothing.
+-- `texts::put_answer` meets its contract: its eight parts. Assumes nothing.
 use mathlib.Core.Path.{_≡_}
 use Prim.Native.Nat.{ℕ, _/_, _%_, _^_}
 use native.Mathlib.Omega.{arith}
@@ -12,8 +12,30 @@ use Rattle.texts.proofs.put_answer.Tie as tie
 low-word : (n : ℕ) → n / 2 ^ 0 % 2 ^ 16 ≡ n % 65536
 low-word n = omega arith
 
-pub put-answer-spec : {M : Type 1} → statement M
+returns : tie.Need-returns
 unfolding answerText bitsAt
+returns c =
+    let s : tie.Start = search needs in
+    let end = c .before .before in
+    let reason = end .before .before .before .before in
+    let turns = reason .before .before .before .before in
+    let edge = turns .before .before .before .before in
+    let second = edge .before .before .before .before in
+    let length = second .before .before .before .before in
+    let blank = length .before .before .before .before in
+    let number = blank .before .before .before .before in
+    rw (low-word (s .args .answer))
+    (puts-cat
+    (puts-cat
+    (puts-cat
+    (puts-cat
+    (puts-cat (puts-cat (puts-cat (number .put-decimal .ensures) (blank .put-byte .ensures)) (length .put-decimal2 .ensures)) (second .put-byte2 .ensures))
+    (edge .put-decimal3 .ensures))
+    (turns .put-further .ensures))
+    (reason .put-reason .ensures))
+    (end .put-byte3 .ensures))
+
+pub put-answer-spec : {M : Type 1} → statement M
 put-answer-spec =
     tie.close
     (tie.spec
@@ -24,5 +46,6 @@ put-answer-spec =
     (λ c κs. search needs)
     (λ c κs. search needs)
     (λ c κs. search needs)
+    (λ c κs. search needs)
     (λ c. search needs)
-    (λ c. let s : tie.Start = search needs in rw (low-word (s .args .answer)) (puts-cat (puts-cat (puts-cat (puts-cat (puts-cat (puts-cat (c .before .before .before .before .before .before .before .before .before .before .before .before .before .before .before .before .before .before .before .before .before .before .before .before .before .before .put-decimal .ensures) (c .before .before .before .before .before .before .before .before .before .before .before .before .before .before .before .before .before .before .before .before .before .before .put-byte .ensures)) (c .before .before .before .before .before .before .before .before .before .before .before .before .before .before .before .before .before .before .put-decimal2 .ensures)) (c .before .before .before .before .before .before .before .before .before .before .before .before .before .before .put-byte2 .ensures)) (c .before .before .before .before .before .before .before .before .before .before .put-decimal3 .ensures)) (c .before .before .before .before .before .before .put-further .ensures)) (c .before .before .put-byte3 .ensures))))
+    returns)
