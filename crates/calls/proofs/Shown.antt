@@ -1,7 +1,7 @@
 -- Answers, lengths, refusals and reset: 01, "Calls, lent areas, refusals". Each is a computed case that another reading fails. Assumes nothing.
 use mathlib.Core.Path.{_≡_, refl}
-use mathlib.Core.Bool.{Bool, true, false, _&&_, not}
-use mathlib.Core.List.{List, [], _∷_, map}
+use mathlib.Core.Bool.{Bool, true, false, _&&_}
+use mathlib.Core.List.{[], _∷_, map}
 use Prim.Native.Nat.{ℕ}
 use lib.Dec.{T, eqb}
 use lib.ListN.{length, getD, replicate}

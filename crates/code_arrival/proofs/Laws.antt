@@ -14,8 +14,6 @@ use Rattle.device.specs.Numbers.{counterPlace, verdictOf}
 use Rattle.device.specs.State.{goodBy, isGood}
 use Rattle.device.specs.declared.Counter.{Counter}
 use Rattle.device.specs.declared.Counter.the-variants as counter
-use Rattle.device.specs.declared.Fate.{Fate}
-use Rattle.device.specs.declared.Fate.the-variants as fate
 use Rattle.device.specs.declared.Frame.{Frame}
 use Rattle.device.specs.declared.Reason.{Reason}
 use Rattle.device.specs.declared.Reason.the-variants as reason
@@ -134,38 +132,26 @@ held-is (ru.Filling s w) f = refl
 held-is (ru.Closing s o full) f = refl
 held-is (ru.Lacking s) f = refl
 
--- a held frame is not dropped
-pub held-none : (x : Fate) → isHeld x ≡ true → reason.NotDropped ≡ reasonOf x
-held-none fate.TooFew h = absurd (false≢true h)
-held-none fate.NoMatch h = absurd (false≢true h)
-held-none fate.UnitIdle h = absurd (false≢true h)
-held-none fate.UnitSuspended h = absurd (false≢true h)
-held-none fate.Overrun h = refl
-held-none (fate.Bad c) h = absurd (false≢true h)
-held-none (fate.Held c) h = refl
-held-none fate.NoResources h = refl
-held-none fate.Stored h = refl
-held-none fate.StoredCounted h = refl
-held-none fate.Counted h = refl
-held-none fate.Aborted h = refl
-held-none fate.Reset h = refl
+-- why a frame is dropped: not if it is held, or if a frame is held already; past Suspended good or bad, and else by the unit
+abbrev pub whyBy : (held already judged good idle : Bool) → Reason
+whyBy true already judged good idle = reason.NotDropped
+whyBy false true judged good idle = reason.NotDropped
+whyBy false false true true idle = reason.NotDropped
+whyBy false false true false idle = reason.Bad
+whyBy false false false good true = reason.UnitIdle
+whyBy false false false good false = reason.UnitSuspended
 
--- why a frame is dropped, by the unit's tag
-unready-why : (g : Bool) (c : Counter) → reasonOf (inNoResources g c) ≡ cond (g || isHeld (inNoResources g c)) reason.NotDropped reason.Bad
+unready-why : (g : Bool) (c : Counter) → reasonOf (inNoResources g c) ≡ whyBy (isHeld (inNoResources g c)) false true g false
 unready-why true c = refl
 unready-why false c = refl
 
-ready-why : (g s : Bool) (c : Counter) → reasonOf (inReady g s c) ≡ cond (g || isHeld (inReady g s c)) reason.NotDropped reason.Bad
+ready-why : (g s : Bool) (c : Counter) → reasonOf (inReady g s c) ≡ whyBy (isHeld (inReady g s c)) false true g false
 ready-why true s c = refl
 ready-why false true c = refl
 ready-why false false c = refl
 
--- no reason is given: a frame is held already, or this one is good, or it is held
-abbrev pub spared : Ru → Frame → Bool
-spared u f = ltb 3 (ruTag u) || isGood f || isHeld (fateIn u f)
-
 pub reason-is : (u : Ru) (f : Frame)
-    → reasonOf (fateIn u f) ≡ cond (eqb (ruTag u) 0) reason.UnitIdle (cond (eqb (ruTag u) 1) reason.UnitSuspended (cond (spared u f) reason.NotDropped reason.Bad))
+    → reasonOf (fateIn u f) ≡ whyBy (isHeld (fateIn u f)) (ltb 3 (ruTag u)) (ltb 1 (ruTag u)) (isGood f) (eqb (ruTag u) 0)
 reason-is ru.Idle f = refl
 reason-is ru.NoResources f = unready-why (isGood f) (counterFor f)
 reason-is (ru.Suspended o) f = refl

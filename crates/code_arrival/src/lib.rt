@@ -119,21 +119,27 @@ fn is_held(tag: u64, f: u64) -> bool
     (tag == ru::READY) & (is_good(f) | ru::save_bad(f))
 }
 
-// Idle and Suspended drop it, and a bad frame that is not held is dropped. A frame already held: it is lost and counted, as a good one in No
-// Resources is, and no reason is given.
+// Why a frame is dropped: it is not if it is held, or lost and counted since one is held or since there are no resources; then it is bad, or the
+// unit is Idle or Suspended.
 fn reason_for(tag: u64, f: u64) -> Reason
     ensures { λ r. ⌜ ((u : Ru) → tag ≡ ruTag u → r ≡ reasonOf (arrivals.fateIn u (frameIn f))) ⌝ }
 {
+    if is_held(tag, f) {
+        return Reason::NotDropped;
+    }
+    if ru::READY < tag {
+        return Reason::NotDropped;
+    }
+    if ru::SUSPENDED < tag {
+        if is_good(f) {
+            return Reason::NotDropped;
+        }
+        return Reason::Bad;
+    }
     if tag == ru::IDLE {
         return Reason::UnitIdle;
     }
-    if tag == ru::SUSPENDED {
-        return Reason::UnitSuspended;
-    }
-    if (ru::READY < tag) | is_good(f) | is_held(tag, f) {
-        return Reason::NotDropped;
-    }
-    Reason::Bad
+    Reason::UnitSuspended
 }
 
 // The counter is read from the SCB, increased modulo 65,536, written back. No counter: nothing is written.
@@ -165,16 +171,17 @@ pub fn arrive(
 {
     let f = judge(setup, frame, verdict);
     let tag = packed::ru_tag(k);
+    let reason = reason_for(tag, f);
     count(memory, packed::base(k), packed::scb(k), counter_for(tag, f));
     if is_held(tag, f) {
         memory::put_run(holding, HELD_FROM, frame);
         return Arrived {
             packed: packed::with_ru(k, ru::HELD, ru::held(f, k.ru), 0),
-            reason: Reason::NotDropped,
+            reason: reason,
         };
     }
     Arrived {
         packed: k,
-        reason: reason_for(tag, f),
+        reason: reason,
     }
 }

@@ -37,7 +37,7 @@ use Rattle.closure.proofs.Refusals.{untouched}
 use Rattle.closure.proofs.Turns.{run-is-turns, run-untouched, turns-lent}
 use Rattle.frames.specs.Arrival.{RightLengths, ArrivalFate}
 use Rattle.frames.specs.Arrival as classes
-use Rattle.frames.specs.Reasons.{whyOf, NotSaved, unset, unready, NotDropped, overrun, held, lost, saved, Reached, IsOther}
+use Rattle.frames.specs.Reasons.{whyOf, unset, unready, NotDropped, overrun, held, lost, saved, Reached, IsOther}
 use Rattle.frames.proofs.Arrival as arrivals
 
 -- the reason is that of the one fate

@@ -16,7 +16,7 @@ use Rattle.device.specs.declared.Ru.the-variants as ru
 use Rattle.filter.specs.Match.{agree, matches}
 use Rattle.phases.specs.Phases.{cuWord, ruWord, WordWide}
 use Rattle.image.specs.Image.{imageOf}
-use Rattle.image.specs.Ranges.{inRange, unitsFit, cuFits, ruFits, initialisedOrFresh, Wide}
+use Rattle.image.specs.Ranges.{inRange, unitsFit, cuFits, ruFits, initialisedOrFresh}
 use Rattle.image.proofs.Exact.{fresh-wide}
 use Rattle.chip.specs.Call.{arrive}
 use Rattle.traces.specs.Areas.{Holds, worldIn}

@@ -6,7 +6,7 @@ use Rattle.device.specs.Answers.{isHeld}
 use Rattle.receive.specs.Arrival.{judged, fateIn, fateOf, arrival, holding}
 use Rattle.phases.specs.Phases.{ruTag}
 use Rattle.packed.proofs.Laws.{ru-is, base-is, scb-is}
-use Rattle.code_arrival.proofs.Laws.{offset-same, real-same, held-none}
+use Rattle.code_arrival.proofs.Laws.{offset-same, real-same}
 use Rattle.code_arrival.proofs.Units.{judged-below, frame-back, held-unit}
 use borrow.Author.Needs.{needs}
 use Rattle.code_arrival.proofs.arrive.Statement.{statement}
@@ -17,6 +17,7 @@ unfolding arrival fateOf
 arrive-spec =
     tie.close
     (tie.spec
+    (λ c κs. search needs)
     (λ c κs. search needs)
     (λ c κs. search needs)
     (λ c κs. search needs)
@@ -39,6 +40,7 @@ arrive-spec =
     let counter-for : tie.After-counter-for = search needs in
     let scb : tie.After-scb = search needs in
     let base : tie.After-base = search needs in
+    let reason-for : tie.After-reason-for = search needs in
     let ru-tag : tie.After-ru-tag = search needs in
     let judge : tie.After-judge = search needs in
     let start = judge .before .before .before .before .before in
@@ -54,19 +56,17 @@ arrive-spec =
     (record {
       units = rw q (with-ru .with-ru .ensures u (holding (u .ru) j) h (held-unit (u .ru) _ _ _ j r q _ (λ o w. held .held .ensures o j n (judged-below _ _ _) w)));
       memory = rw (← real-same _ (u .base) (base .base .ensures ∙ base-is u k h), ← offset-same _ (u .scb) (scb .scb .ensures ∙ scb-is u k h)) (count .count .ensures _ p);
-      reason = held-none (fateIn (u .ru) j) q;
+      reason = rw b at (reason-for .reason-for .ensures (u .ru) t);
       holding = rw q (put-run .put-run .ensures);
     }))
-    (λ c κs. search needs)
     (λ c. search needs)
     (λ c u s h hs e.
-    let reason-for : tie.After-reason-for = search needs in
-    let left : tie.Else1 = search needs in
     let is-held : tie.After-is-held = search needs in
     let count : tie.After-count = search needs in
     let counter-for : tie.After-counter-for = search needs in
     let scb : tie.After-scb = search needs in
     let base : tie.After-base = search needs in
+    let reason-for : tie.After-reason-for = search needs in
     let ru-tag : tie.After-ru-tag = search needs in
     let judge : tie.After-judge = search needs in
     let start = judge .before .before .before .before .before in
@@ -76,7 +76,7 @@ arrive-spec =
     let b = frame-back _ j n (judged-below _ _ _) in
     let r = ru-is u k h in
     let t : ru-tag .ru-tag .result ≡ ruTag (u .ru) = ru-tag .ru-tag .ensures ∙ r .tag-is in
-    let q : isHeld (fateIn (u .ru) j) ≡ false = sym (rw b at (is-held .is-held .ensures (u .ru) t)) ∙ left .if1 .left in
+    let q : isHeld (fateIn (u .ru) j) ≡ false = sym (rw b at (is-held .is-held .ensures (u .ru) t)) ∙ c .if1 .left in
     let p = rw b at (counter-for .counter-for .ensures (u .ru) t) in
     rw (le-ltb _ 14 (start .pre .1))
     (record {

@@ -1,5 +1,5 @@
 -- `code_calls::arrival_on` meets its contract. Assumes nothing.
-use mathlib.Core.Path.{_≡_, sym, _∙_, ap}
+use mathlib.Core.Path.{sym, _∙_, ap}
 use native.Mathlib.Omega.{arith}
 use Rattle.memory.proofs.Bytes.{Bytes}
 use Rattle.image.specs.Image.{deviceAt}

@@ -1,6 +1,6 @@
 -- `code_chip::arrival` meets its contract: too short, for us, or not. Assumes nothing.
 use borrow.Author.Tests.{lt-ltb, le-ltb}
-use mathlib.Core.Path.{_≡_, refl, sym, _∙_}
+use mathlib.Core.Path.{refl, sym, _∙_}
 use Rattle.actions.specs.Setup.{setupOf}
 use Rattle.code_chip.proofs.Laws.{arrives-few, arrives-unmatched, arrives-matched}
 use borrow.Author.Needs.{needs}
