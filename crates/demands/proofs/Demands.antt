@@ -95,11 +95,11 @@ use Rattle.frames.proofs.Clear as clear
 use Rattle.frames.proofs.Data as stored
 use Rattle.frames.proofs.Fates as fates
 use Rattle.frames.proofs.OnBytes as on-bytes
-use Rattle.frames.proofs.DataWitness as data-run
-use Rattle.frames.proofs.FilterWitness as filter-run
-use Rattle.frames.proofs.DataBytesWitness as data-bytes-run
-use Rattle.frames.proofs.BytesWitness as bytes-run
-use Rattle.frames.proofs.ReasonsWitness as reasons-run
+use Rattle.traced.proofs.DataWitness as data-run
+use Rattle.traced.proofs.FilterWitness as filter-run
+use Rattle.traced.proofs.DataBytesWitness as data-bytes-run
+use Rattle.traced.proofs.BytesWitness as bytes-run
+use Rattle.traced.proofs.ReasonsWitness as reasons-run
 use Rattle.lists.specs.Uses.{Listed, firstOf}
 use Rattle.lists.specs.Done.{Starts, Resumes, Started, enough, Premises, Done}
 use Rattle.lists.specs.OnBytes.{PremisesOnBytes, DoneOnBytes, PremisesByRuns, DoneByRuns}

@@ -27,11 +27,11 @@ use Rattle.closure.proofs.Command.{append-bytes, replicate-bytes}
 use Rattle.closure.proofs.Carried.{carry-shown, lent-kept}
 use Rattle.closure.proofs.Driven.{shows-said}
 use Rattle.closure.proofs.Turns.{turn-again}
 use Rattle.frames.specs.Held.{ends}
 use Rattle.frames.specs.Data.{Staying, dataOf, EndLent, DeliveredOnBytes, ArrivedOnBytes}
 use Rattle.frames.proofs.Data.{delivered-on-bytes, arrived-on-bytes}
-use Rattle.frames.proofs.DataWitness.{ready, upward, sixty, frame, descriptor, words, before, in-range, sized, Seen, enough, too-few}
-use Rattle.frames.proofs.BytesWitness.{Fine, stray, stray-refused, fine-turn}
+use Rattle.traced.proofs.DataWitness.{ready, upward, sixty, frame, descriptor, words, before, in-range, sized, Seen, enough, too-few}
+use Rattle.traced.proofs.BytesWitness.{Fine, stray, stray-refused, fine-turn}
 use Rattle.closure.proofs.Accepted.{Right, accepts, right-again}
 
 -- ---- turns, each lent what stands, after a turn that is lent nothing and refused

@@ -43,10 +43,10 @@ use Rattle.closure.specs.Refusals.{FrameRight}
 use Rattle.closure.proofs.Command.{append-bytes, replicate-bytes}
 use Rattle.closure.proofs.Accepted.{Right, accepts}
 use Rattle.closure.proofs.Carried.{carry}
 use Rattle.frames.specs.Fates.{Deed, event, alter, opening, numbersOf, by-call, by-altering, Ended, still, advance, beginnings, endings}
 use Rattle.frames.specs.OnBytes.{altering, deedsBy, deedsOf, Given, AllGiven, AllKept, heldOf, endedOf, stillOf}
 use Rattle.frames.proofs.OnBytes.{not-altered, altered}
-use Rattle.frames.proofs.Witness.{ready, in-range, bare, Story}
+use Rattle.traced.proofs.Witness.{ready, in-range, bare, Story}
 
 -- ---- what is lent: memory and areas of zeros, with the record of a state
 

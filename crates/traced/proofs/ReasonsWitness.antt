@@ -21,11 +21,11 @@ use Rattle.image.proofs.Exact.{fresh-wide}
 use Rattle.chip.specs.Call.{arrive}
 use Rattle.traces.specs.Areas.{Holds, worldIn}
 use Rattle.closure.proofs.Command.{append-bytes, replicate-bytes}
 use Rattle.frames.specs.Arrival.{isOurs, Ours, crc}
 use Rattle.frames.specs.Reasons.{unset, held, Reached, Told}
-use Rattle.frames.proofs.BytesWitness.{lentOf, lent-bytes, accepted}
+use Rattle.traced.proofs.BytesWitness.{lentOf, lent-bytes, accepted}
 use Rattle.frames.proofs.Reasons.{exactly-on-bytes}
-use Rattle.frames.proofs.Witness.{deviceWith, bare}
+use Rattle.traced.proofs.Witness.{deviceWith, bare}
 
 -- ---- the states: initialised, and the receive unit as said
 

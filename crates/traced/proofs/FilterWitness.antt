@@ -27,10 +27,10 @@ use Rattle.attention.specs.Status.{statusTo}
 use Rattle.chip.specs.Arrival as arrivals
 use Rattle.chip.specs.Turn.{concluded, commandTurn, turnOf}
 use Rattle.chip.specs.World.{World, worldOf}
 use Rattle.frames.specs.Arrival.{isOurs}
 use Rattle.frames.specs.Filtered.{EndsMcSetup, leftBy, FallsIn}
-use Rattle.frames.proofs.DataWitness.{ready, upward}
+use Rattle.traced.proofs.DataWitness.{ready, upward}
 use Rattle.frames.proofs.Filtered.{passes}
 
 -- the MC-Setup at 200h is begun: two groups, 01-00-00-00-00-00 and 01-00-5E-00-00-01, which fall on bits 5 and 52
 abbrev pub begun : Begun

@@ -1,0 +1,1 @@
+-- No definitions: the runs are in proofs/.
