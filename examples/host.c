@@ -81,7 +81,7 @@ static const char *why_dropped(unsigned reason)
     case LQ_DROPPED_NO_MATCH: return "it is not for this station";
     case LQ_DROPPED_IDLE: return "the receive unit is Idle";
     case LQ_DROPPED_SUSPENDED: return "the receive unit is Suspended";
-    case LQ_DROPPED_BAD: return "it is bad and such frames are not saved";
+    case LQ_DROPPED_BAD: return "it is bad and not saved";
     default: return "there is no such reason";
     }
 }

@@ -89,8 +89,8 @@ uint64_t lq_run(uint8_t *memory, size_t memory_len, uint8_t *holding, size_t hol
    run the turns in bits 48-63. The other bits are 0 and reserved. ---- */
 
 /* The number: LQ_ACCEPTED, or why the call was refused: the first of these, in this order, that applies. A refused call
-   has changed nothing, and the rest of its answer is 0. Every call but lq_reset tests all of them, used or not; lq_reset
-   gives LQ_REFUSED_RECORD and no other. */
+   has changed nothing, and the rest of its answer is 0. Every call but lq_reset asks the length of every area, used or
+   not; lq_arrival alone can give LQ_REFUSED_OVERLONG; lq_reset gives LQ_REFUSED_RECORD and no other. */
 #define LQ_ACCEPTED         0
 #define LQ_REFUSED_MEMORY   1  /* memory_len is not a power of two, or out of bounds */
 #define LQ_REFUSED_RECORD   21 /* record_len is not LQ_RECORD_SIZE */
@@ -116,9 +116,10 @@ static inline bool lq_edge(uint64_t answer)
     return (answer >> 32 & 1) != 0;
 }
 
-/* Why an arriving frame was dropped. The chip asks in this order, and the first that applies is the reason.
-   LQ_NOT_DROPPED: it is held; or it was lost and counted, by OVRNERRS since a frame was held, by RSCERRS since there were
-   no resources; or the call was refused. The answers of all other calls have it too. */
+/* Why an arriving frame was dropped. The chip asks in this order, and the first that applies is the reason; before
+   LQ_DROPPED_BAD it asks whether a frame is held already. LQ_NOT_DROPPED: it is held; or it was lost and counted, by
+   OVRNERRS since a frame was held, by RSCERRS since there were no resources; or the call was refused. The answers of all
+   other calls have it too. */
 #define LQ_NOT_DROPPED       0
 #define LQ_DROPPED_TOO_FEW   1 /* it has fewer than LQ_FRAME_HEADER bytes */
 #define LQ_DROPPED_NO_MATCH  2 /* it is not addressed to this chip */

@@ -362,7 +362,7 @@ static void check_order(const struct areas *right, unsigned wrong, unsigned way,
     free_areas(&areas);
 }
 
-/* every combination, on every call; frames that were dropped if they came through, too */
+/* every combination, on every call; frames that would be dropped if they came through, too */
 static void order_of(const struct areas *right)
 {
     for (unsigned wrong = 0; wrong < COMBINATIONS; wrong++)

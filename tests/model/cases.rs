@@ -1550,32 +1550,34 @@ fn to(address: [u8; 6], length: usize) -> Vec<u8> {
     frame
 }
 
+/// Of each kind of frame its length, whether it is a broadcast or another's, its verdict, and what is said in each of `STATES` with save-bad
+/// clear and with save-bad set: too (f)ew bytes, (n)o match, (I)dle, (S)uspended, (b)ad, or nothing.
+const SAID_BY_THE_ORDER: [(usize, bool, u32, &str, &str); 21] = [
+    (0, true, 0, "ffffff", "ffffff"),
+    (0, true, 1, "ffffff", "ffffff"),
+    (5, false, 2, "ffffff", "ffffff"),
+    (13, true, 0, "ffffff", "ffffff"),
+    (13, true, 1, "ffffff", "ffffff"),
+    (13, false, 0, "ffffff", "ffffff"),
+    (13, false, 2, "ffffff", "ffffff"),
+    (14, false, 0, "nnnnnn", "nnnnnn"),
+    (14, false, 1, "nnnnnn", "nnnnnn"),
+    (60, false, 0, "nnnnnn", "nnnnnn"),
+    (60, false, 1, "nnnnnn", "nnnnnn"),
+    (60, false, 2, "nnnnnn", "nnnnnn"),
+    (14, true, 0, "IISbb.", "IISb.."),
+    (59, true, 0, "IISbb.", "IISb.."),
+    (59, true, 1, "IISbb.", "IISb.."),
+    (59, true, 2, "IISbb.", "IISb.."),
+    (60, true, 0, "IIS...", "IIS..."),
+    (60, true, 1, "IISbb.", "IISb.."),
+    (60, true, 2, "IISbb.", "IISb.."),
+    (2048, true, 0, "IIS...", "IIS..."),
+    (2048, true, u32::MAX, "IISbb.", "IISb.."),
+];
+
 fn reason_by_the_order() -> Result<(), String> {
-    // Of each kind of frame its length, whether it is a broadcast or another's, its verdict, and what is said in each state with save-bad
-    // clear and with save-bad set: too (f)ew bytes, (n)o match, (I)dle, (S)uspended, (b)ad, or nothing.
-    for (length, ours, verdict, clear, set) in [
-        (0, true, 0, "ffffff", "ffffff"),
-        (0, true, 1, "ffffff", "ffffff"),
-        (5, false, 2, "ffffff", "ffffff"),
-        (13, true, 0, "ffffff", "ffffff"),
-        (13, true, 1, "ffffff", "ffffff"),
-        (13, false, 0, "ffffff", "ffffff"),
-        (13, false, 2, "ffffff", "ffffff"),
-        (14, false, 0, "nnnnnn", "nnnnnn"),
-        (14, false, 1, "nnnnnn", "nnnnnn"),
-        (60, false, 0, "nnnnnn", "nnnnnn"),
-        (60, false, 1, "nnnnnn", "nnnnnn"),
-        (60, false, 2, "nnnnnn", "nnnnnn"),
-        (14, true, 0, "IISbb.", "IISb.."),
-        (59, true, 0, "IISbb.", "IISb.."),
-        (59, true, 1, "IISbb.", "IISb.."),
-        (59, true, 2, "IISbb.", "IISb.."),
-        (60, true, 0, "IIS...", "IIS..."),
-        (60, true, 1, "IISbb.", "IISb.."),
-        (60, true, 2, "IISbb.", "IISb.."),
-        (2048, true, 0, "IIS...", "IIS..."),
-        (2048, true, u32::MAX, "IISbb.", "IISb.."),
-    ] {
+    for (length, ours, verdict, clear, set) in SAID_BY_THE_ORDER {
         for (byte2, said) in [(0, clear), (0x80, set)] {
             for (state, letter) in STATES.into_iter().zip(said.chars()) {
                 let answer = match letter {

@@ -20,7 +20,7 @@ compare() { # WHAT EXPECTED SAID
     awk -v what="$1" -v said="$3" '
         { more = getline other < said; if (more <= 0) other = "(nothing more)" }
         /^== .* ==$/ { part = $0 }
-        /[a-z]/ && !/^interrupt / { name = $0 }
+        /[a-z]/ && !/^interrupt / && !/^[0-9]+ [0-9]+ [01]( |$)/ { name = $0 } # an answer may end in a word
         $0 "" != other "" { differ(NR, $0, other); found = 1; exit }
         END { if (!found && (getline other < said) > 0) differ(NR + 1, "(nothing more)", other) }
         function differ(line, wanted, got) {

@@ -1,4 +1,4 @@
--- "The lowest number that applies is given", over any list of rows; and what it comes to for a call that takes all four areas. Assumes nothing.
+-- The first row that is not right gives the number, over any list of rows; and what it comes to for a call that takes all four areas. Assumes nothing.
 use mathlib.Core.Path.{_≡_, refl, sym, ap, _∙_}
 use mathlib.Core.Bool.{Bool, true, false, cond}
 use mathlib.Core.List.{List, [], _∷_, _++_}

@@ -1,4 +1,4 @@
--- A call that is not refused answers a length and an edge: so an answer is known by these two. Assumes nothing.
+-- An attention, a turn and a run that are not refused answer a length and an edge, and no reason: so the answer is known by these two. Assumes nothing.
 use mathlib.Core.Path.{_≡_, refl}
 use mathlib.Core.Bool.{Bool, true, false}
 use mathlib.Core.List.{List}

@@ -68,7 +68,7 @@ use Rattle.traces.specs.Areas.{FrameBytes, AreBytes, Holds, worldIn, worldSaid,
 use Rattle.traces.specs.Driven.{Lending, left, isTaken, Drive, leftDriven, unrolled, AllFair}
 use Rattle.closure.specs.Sound.{Sound}
 use Rattle.closure.specs.Refusals.{TakesAll, When, Means, Seen, Untouched}
-use Rattle.closure.specs.Carried.{Again}
+use Rattle.closure.specs.Carried.{Again, Parts}
 use Rattle.closure.specs.Turns.{AsTurns}
 use Rattle.closure.proofs.Refusals as refusals
 use Rattle.closure.proofs.Witness as rows-seen
@@ -331,6 +331,11 @@ pub every-arrival-has-its-reason : (a : Areas) (d : Device) (f : List ℕ) (v : 
     → isRefused (called (arrive f v) a) ≡ false
     → (why : Reason) × ((reasonIn (called (arrive f v) a .answer) ≡ reasonNumber why) × Reached why (worldIn d a) f v)
 every-arrival-has-its-reason = reasons.some-reason
+
+-- every part of it, at every call that is not refused: number 0, and length, edge and reason as the call on the state has them; nothing else is set
+pub the-parts-of-an-answer : (c : Call) (a : Areas) (d : Device) → AreBytes a → Holds (a .kept) d → isRefused (called c a) ≡ false
+    → Parts (called c a .answer) (ran c (worldIn d a) .outcome .answer)
+the-parts-of-an-answer = carried.answer-parts
 
 pub a-number-names-one-reason : (x y : Reason) → reasonNumber x ≡ reasonNumber y → x ≡ y
 a-number-names-one-reason = numbers.one-reason

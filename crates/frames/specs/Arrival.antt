@@ -32,7 +32,7 @@ use Rattle.traces.specs.Areas.{NotOverlong}
 
 -- ---- which frame arrives
 
--- 01, "Calls, lent areas, refusals": what the lengths are where neither 1, 22 nor 3 is given
+-- 01, "Calls, lent areas, refusals": what the lengths are where none of 1, 21, 22, 23 and 3 is given
 pub record RightLengths (w : World) (f : List ℕ) : Type 0 where
   pub size : sizeAllowed (length (w .memory)) ≡ true
   pub area : length (w .holding) ≡ holdingSize

@@ -157,7 +157,7 @@ ScbOf d said u = (u ≡ d .units) ⊎ (u ≡ said .outcome .device .units)
 abbrev pub fromEdge : ℕ → ℕ
 fromEdge answer = answer / 2 ^ 32
 
--- a counter's word, or the edge, is not what the definitions leave
+-- a counter's word, or the edge, or what stands above it, is not what the definitions leave
 pub data Invented (d : Device) (said : Ran) (r : Called) : Type 0 where
   anotherCounter : (u : Units) → ScbOf d said u → (k : Counter) → isCounter k ≡ true
       → (wordAt (r .areas .memory) (ofScb u (counterPlace k)) ≡ wordAt (said .memory) (ofScb u (counterPlace k)) → ⊥) → Invented d said r
@@ -175,7 +175,7 @@ pub record Invents (chip : Chip) : Type 0 where
   pub invented : Invented device (ran call (worldOf device memory holding outgoing)) (chip .calls inner call (lentOf device memory holding outgoing))
 
 -- the same in the run of a list, as demand 3 has it, amid turns, arriving frames, host writes and refused calls: after some of them a counter, or
--- along them an edge, is not what the definitions leave
+-- along them an edge, or what stands above it, is not what the definitions leave
 pub data InventedAlong (d : Device) (after : Areas) (answers : List ℕ) (w : World) (said : List ℕ) : Type 0 where
   anotherCount : (k : Counter) → isCounter k ≡ true
       → (wordAt (after .memory) (ofScb (d .units) (counterPlace k)) ≡ wordAt (w .memory) (ofScb (d .units) (counterPlace k)) → ⊥)
@@ -205,7 +205,7 @@ pub record InventsWhileHeld (chip : Chip) : Type 0 where
       (run step (eventsIn acts) world) (answersOf (eventsIn acts) world)
 
 -- the same along any trace of calls and host writes, from any state in range, whatever it does at calls that are to be refused: after it a counter of
--- the SCB, where that was or where it is, or along it an edge, is not what the definitions leave
+-- the SCB, where that was or where it is, or along it an edge, or what stands above it, is not what the definitions leave
 pub record InventsInTrace (chip : Chip) : Type 0 where
   pub inner : chip .Inner
   pub world : World

@@ -1,4 +1,4 @@
--- What the program prints in all: `the-program-prints`. A stretch in which at most one line ends prints at most 1,310,700 characters, which is
+-- What the program prints in all: `the-program-prints`. A stretch in which at most one line ends prints at most `longestLine` characters, which is
 -- less than the slice for texts holds, so nothing is cut off; and in all the program prints what one run over the whole input prints.
 -- No contract cites this file. Assumes nothing.
 use mathlib.Core.Path.{_≡_, refl, ap, _∙_}

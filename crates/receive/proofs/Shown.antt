@@ -91,9 +91,14 @@ lackingCounted = tt
 abbrev why : (savebad matched : Bool) → Ru → (bytes verdict : ℕ) → ℕ
 why savebad matched unit bytes v = reasonNumber (reasonOf (fateOf (settings savebad) matched unit (replicate bytes 0) v))
 
+-- a frame is held that has run out of buffers, and whose end is next
+abbrev outOfThem : Ru
+outOfThem = ru.Lacking (record { fd = record { 0 = 0x50 }; el = false; suspend = false; pausing = false; frame = judged (settings true) [] 0 })
+
 pub reasonsInOrder : T (eqb (why false false ru.Idle 13 1) 1 && eqb (why false false ru.Idle 60 1) 2 && eqb (why false true ru.Idle 60 1) 3
     && eqb (why false false (ru.Suspended (record { 0 = 0x50 })) 60 1) 2 && eqb (why false true (ru.Suspended (record { 0 = 0x50 })) 60 1) 4
-    && eqb (why false true (ru.Held (record { 0 = 0x50 }) (judged (settings true) [] 0) false) 60 1) 0 && eqb (why false true ru.NoResources 60 0) 0
+    && eqb (why false true (ru.Held (record { 0 = 0x50 }) (judged (settings true) [] 0) false) 60 1) 0 && eqb (why false true outOfThem 60 1) 0
+    && eqb (why false true ru.NoResources 60 0) 0
     && eqb (why true true ru.NoResources 60 1) 5 && eqb (why false true ready 59 0) 5 && eqb (why false true ready 60 2) 5
     && eqb (why true true ready 60 2) 0 && eqb (why false true ready 60 0) 0)
 unfolding lengthOf judged fateOf verdictOf

@@ -49,11 +49,13 @@ fn run_all(
     }
 }
 
-// Room for what one line prints, by the longest answer: 65,535 of them are the most.
-fn room() -> [u8; 1966080]
+// Room for what one line prints, by the longest answer, of 30 characters: 65,535 of them are the most.
+const ROOM: usize = 30 << 16;
+
+fn room() -> [u8; ROOM]
     ensures { λ r. ⌜ programRoom ≡ length r ⌝ }
 {
-    [0; 1966080]
+    [0; ROOM]
 }
 
 fn run_file(fd: i32) {

@@ -67,7 +67,19 @@ pub run-sent : answerText (60 * 2 ^ 16 + 2 ^ 32 + 3 * 2 ^ 48) ≡ codes "0 60 1 
 unfolding answerText bitsAt furtherText reasonText decimal decimalBy
 run-sent = refl
 
--- 02, Wish 3: a dropped frame, and the longest word; a word stands behind the turns
+-- 02, Wish 3: the words, each of its number; a word stands behind the turns
+pub few : answerText (1 * 2 ^ 40) ≡ codes "0 0 0 too-few\n"
+unfolding answerText bitsAt furtherText reasonText decimal decimalBy
+few = refl
+
+pub idle : answerText (3 * 2 ^ 40) ≡ codes "0 0 0 idle\n"
+unfolding answerText bitsAt furtherText reasonText decimal decimalBy
+idle = refl
+
+pub bad : answerText (5 * 2 ^ 40) ≡ codes "0 0 0 bad\n"
+unfolding answerText bitsAt furtherText reasonText decimal decimalBy
+bad = refl
+
 pub unmatched : answerText (2 * 2 ^ 40) ≡ codes "0 0 0 no-match\n"
 unfolding answerText bitsAt furtherText reasonText decimal decimalBy
 unmatched = refl

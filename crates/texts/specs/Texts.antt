@@ -51,7 +51,7 @@ decimal n = decimalBy (suc n) n
 unfoldable pub furtherText : ℕ → List ℕ
 furtherText n = cond (eqb n 0) [] (codes " " ++ decimal n)
 
--- why a frame was dropped, "as one word behind the numbers"; no answer has a number that is no reason's
+-- "Why an arriving frame was dropped stands behind the numbers, as one word"; no answer has a number that is no reason's
 unfoldable pub reasonText : ℕ → List ℕ
 reasonText n =
     cond (eqb n (reasonNumber reason.TooFew)) (codes " too-few")

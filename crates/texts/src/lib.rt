@@ -96,16 +96,27 @@ fn put_further(out: &mut [u8], at: usize, n: u64) -> usize
     put_decimal(out, next, n)
 }
 
+// The numbers of the reasons.
+const TOO_FEW: u64 = 1;
+
+const NO_MATCH: u64 = 2;
+
+const IDLE: u64 = 3;
+
+const SUSPENDED: u64 = 4;
+
+const BAD: u64 = 5;
+
 // Why a frame was dropped, by the reason's number, in a word behind others; nothing if it was not.
 fn put_reason(out: &mut [u8], at: usize, reason: u64) -> usize
     ensures { λ r. ⌜ Puts (texts.reasonText reason) at (now (out .entry)) r (now (out .exit)) ⌝ }
 {
     match reason {
-        1 => put_text(out, at, b" too-few"),
-        2 => put_text(out, at, b" no-match"),
-        3 => put_text(out, at, b" idle"),
-        4 => put_text(out, at, b" suspended"),
-        5 => put_text(out, at, b" bad"),
+        TOO_FEW => put_text(out, at, b" too-few"),
+        NO_MATCH => put_text(out, at, b" no-match"),
+        IDLE => put_text(out, at, b" idle"),
+        SUSPENDED => put_text(out, at, b" suspended"),
+        BAD => put_text(out, at, b" bad"),
         _ => at,
     }
 }
