@@ -11,7 +11,7 @@ use lib.ListN.{length, take, length-append, length-take}
 use lib.Seq.{length-sets}
 use Rattle.lines.specs.declared.Reader.{Reader}
 use Rattle.lines.specs.Reader as lines
-use Rattle.texts.proofs.Lengths.{length-fault}
+use Rattle.faults.proofs.Lengths.{length-fault}
 use Rattle.scene.specs.Scene.{playOf, sceneOf}
 use Rattle.session.specs.declared.Session.{Session}
 use Rattle.session.specs.Run.{State, stateOf, start, expectedOf, faultOf, stoppedBy, lineObeyed, judged, lineEnded, fed, ran}

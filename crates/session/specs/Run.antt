@@ -12,9 +12,9 @@ use Rattle.lines.specs.declared.Reader.{Reader}
 use Rattle.wording.specs.declared.Wrong.{Wrong}
 use Rattle.wording.specs.declared.Wrong.the-variants as wrong
 use Rattle.lines.specs.Reader as lines
-use Rattle.texts.specs.declared.Expected.{Expected}
-use Rattle.texts.specs.declared.Expected.the-variants as expected
-use Rattle.texts.specs.Texts.{faultText}
+use Rattle.faults.specs.declared.Expected.{Expected}
+use Rattle.faults.specs.declared.Expected.the-variants as expected
+use Rattle.faults.specs.Faults.{faultText}
 use Rattle.scene.specs.declared.Play.{Play}
 use Rattle.session.specs.declared.Session.{Session}
 use Rattle.scene.specs.Scene.{Scene, playOf, sceneOf, behind, obeyed}

@@ -1,9 +1,9 @@
 // A session of the replay program: the board, the reader of a line, and where the next text goes; what a line's end makes of it. What a run
 // is, character by character, is said here, and needs no code of the calls; the room `running` runs it. Every function takes every session.
 use board::Board;
+use faults::Expected;
 use lines::Reader;
 use scene::Play;
-use texts::Expected;
 use wording::Wrong;
 ghost use mathlib.Core.Path.{_≡_};
 ghost use mathlib.Core.List.{List};
@@ -71,7 +71,7 @@ pub fn stop(s: Session, reader: Reader, out: &mut [u8]) -> Session
 {
     let fault = reader.fault;
     let wrong = fault.wrong;
-    let next = texts::put_fault(out, s.at, s.line, fault.column as u64, expected(wrong));
+    let next = faults::put_fault(out, s.at, s.line, fault.column as u64, expected(wrong));
     Session {
         at: next,
         reader,

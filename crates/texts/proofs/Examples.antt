@@ -20,10 +20,7 @@ use Rattle.texts.specs.Texts.{
   lookLine,
   showText,
   lookText,
-  expectedText,
-  faultText,
 }
-use Rattle.texts.specs.declared.Expected.the-variants as expected
 
 -- ---- numbers
 
@@ -113,7 +110,3 @@ two-look-lines = refl
 pub no-line : (area : List ℕ) (place : ℕ) → showText area place 0 ≡ []
 unfolding showText each
 no-line area place = refl
-
-pub fault : faultText 12 7 expected.Number ≡ codes "line 12, column 7: expected a number\n"
-unfolding faultText expectedText decimal decimalBy
-fault = refl

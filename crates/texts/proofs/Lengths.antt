@@ -11,12 +11,10 @@ use lib.Dec.{eqb}
 use lib.ListN.{length, take, length-append}
 use lib.Seq.{length-sets, sets-eq, take-append-seam}
 use Rattle.memory.proofs.Laws.{below-or-not}
-use Rattle.texts.specs.declared.Expected.{Expected}
-use Rattle.texts.specs.declared.Expected.the-variants as expected
 use Rattle.texts.specs.Codes.{codes}
 use Rattle.scb.specs.Words.{bitsAt}
 use Rattle.calls.specs.Answer.{number, sentLength, edge, reason, turnsTaken}
-use Rattle.texts.specs.Texts.{Puts, each, hex, decimalBy, decimal, furtherText, reasonText, answerText, longestAnswer, byteText, wordText, showLine, lookLine, expectedText, faultText}
+use Rattle.texts.specs.Texts.{Puts, each, hex, decimalBy, decimal, furtherText, reasonText, answerText, longestAnswer, byteText, wordText, showLine, lookLine}
 
 -- ---- room
 
@@ -126,24 +124,4 @@ length-answer a =
     let e : length (decimal (edge a)) ≤ 1 = length-decimal 0 (edge a) (omega arith) in
     let t : length (furtherText (turnsTaken a % 2 ^ 16)) ≤ 6 = length-further (turnsTaken a % 2 ^ 16) (omega arith) in
     let w : length (reasonText (reason a)) ≤ 10 = length-reason (reason a) in
-    simp length-append (omega arith)
-
-length-expected : (what : Expected) → length (expectedText what) ≤ 20
-unfolding expectedText
-length-expected expected.First = omega arith
-length-expected expected.Number = omega arith
-length-expected expected.Size = omega arith
-length-expected expected.Short = omega arith
-length-expected expected.Area = omega arith
-length-expected expected.Place = omega arith
-length-expected expected.Bytes = omega arith
-length-expected expected.Room = omega arith
-length-expected expected.End = omega arith
-
-pub length-fault : (line column : ℕ) (what : Expected) → line < 2 ^ 64 → column < 2 ^ 64 → length (faultText line column what) ≤ 86
-unfolding faultText
-length-fault line column what h k =
-    let l : length (decimal line) ≤ 20 = length-decimal 19 line (omega arith) in
-    let c : length (decimal column) ≤ 20 = length-decimal 19 column (omega arith) in
-    let e : length (expectedText what) ≤ 20 = length-expected what in
     simp length-append (omega arith)

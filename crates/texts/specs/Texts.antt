@@ -12,8 +12,6 @@ use Rattle.device.specs.declared.Reason.the-variants as reason
 use Rattle.calls.specs.Answer.{number, sentLength, edge, turnsTaken}
 use Rattle.calls.specs.Answer.{reason as reasonIn}
 use Rattle.texts.specs.Codes.{codes}
-use Rattle.texts.specs.declared.Expected.{Expected}
-use Rattle.texts.specs.declared.Expected.the-variants as expected
 
 -- a text goes to index at; what would pass the end goes nowhere. `r`: where the next one goes, behind it or at the end
 pub record Puts (text : List ℕ) (at : ℕ) (before : List ℕ) (r : ℕ) (after : List ℕ) : Type 0 where
@@ -97,20 +95,3 @@ showText area place count = each (λ k. showLine area (place + 16 * k) (min 16 (
 -- lines of at most 8 words
 unfoldable pub lookText : List ℕ → ℕ → ℕ → List ℕ
 lookText area place count = each (λ k. lookLine area (place + 16 * k) (min 8 (count - 8 * k))) ((count + 7) / 8)
-
--- ---- faults. "One line says where and what was expected"
-
-unfoldable pub expectedText : Expected → List ℕ
-expectedText expected.First = codes "a line's first word"
-expectedText expected.Number = codes "a number"
-expectedText expected.Size = codes "a number up to 65536"
-expectedText expected.Short = codes "a number up to 65535"
-expectedText expected.Area = codes "an area"
-expectedText expected.Place = codes "a place in the area"
-expectedText expected.Bytes = codes "bytes"
-expectedText expected.Room = codes "room in the area"
-expectedText expected.End = codes "the end of the line"
-
-unfoldable pub faultText : ℕ → ℕ → Expected → List ℕ
-faultText line column what =
-    codes "line " ++ decimal line ++ codes ", column " ++ decimal column ++ codes ": expected " ++ expectedText what ++ codes "\n"

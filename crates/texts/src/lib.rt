@@ -1,5 +1,4 @@
-// What the replay program prints (docs/replay.md), as text: numbers, answers, stretches of memory and faults, put one behind the other into a
-// slice. Each function answers where the next text goes. What would pass the slice's end goes nowhere, and the place stays at the end.
+// What the replay program prints (docs/replay.md), as text: numbers, answers and stretches of memory, put one behind the other into a slice. Each function answers where the next text goes. What would pass the slice's end goes nowhere, and the place stays at the end.
 ghost use mathlib.Core.Path.{_≡_};
 ghost use mathlib.Core.List.{[], _∷_, _++_};
 ghost use Prim.Native.Nat.{_+_, _-_, _%_, min};
@@ -295,49 +294,4 @@ pub fn put_words(out: &mut [u8], at: usize, area: &[u8], place: u32, count: u32)
         k += 1;
     }
     next
-}
-
-// ---- faults
-
-// What was expected where a line went wrong.
-pub enum Expected {
-    First,
-    Number,
-    Size,
-    Short,
-    Area,
-    Place,
-    Bytes,
-    Room,
-    End,
-}
-
-// What was expected, in words.
-fn put_expected(out: &mut [u8], at: usize, what: Expected) -> usize
-    ensures { λ r. ⌜ Puts (texts.expectedText what) at (now (out .entry)) r (now (out .exit)) ⌝ }
-{
-    match what {
-        Expected::First => put_text(out, at, b"a line's first word"),
-        Expected::Number => put_text(out, at, b"a number"),
-        Expected::Size => put_text(out, at, b"a number up to 65536"),
-        Expected::Short => put_text(out, at, b"a number up to 65535"),
-        Expected::Area => put_text(out, at, b"an area"),
-        Expected::Place => put_text(out, at, b"a place in the area"),
-        Expected::Bytes => put_text(out, at, b"bytes"),
-        Expected::Room => put_text(out, at, b"room in the area"),
-        Expected::End => put_text(out, at, b"the end of the line"),
-    }
-}
-
-// The line of a fault.
-pub fn put_fault(out: &mut [u8], at: usize, line: u64, column: u64, what: Expected) -> usize
-    ensures { λ r. ⌜ Puts (texts.faultText line column what) at (now (out .entry)) r (now (out .exit)) ⌝ }
-{
-    let first = put_text(out, at, b"line ");
-    let second = put_decimal(out, first, line);
-    let third = put_text(out, second, b", column ");
-    let fourth = put_decimal(out, third, column);
-    let fifth = put_text(out, fourth, b": expected ");
-    let sixth = put_expected(out, fifth, what);
-    put_byte(out, sixth, b'\n')
 }

@@ -1,8 +1,8 @@
--- `texts::put_expected` meets its contract, text by text. Assumes nothing.
+-- `faults::put_expected` meets its contract, text by text. Assumes nothing.
 use borrow.Author.Needs.{needs}
-use Rattle.texts.specs.Texts.{expectedText}
-use Rattle.texts.proofs.put_expected.Statement.{statement}
-use Rattle.texts.proofs.put_expected.Tie as tie
+use Rattle.faults.specs.Faults.{expectedText}
+use Rattle.faults.proofs.put_expected.Statement.{statement}
+use Rattle.faults.proofs.put_expected.Tie as tie
 
 pub put-expected-spec : {M : Type 1} → statement M
 unfolding expectedText

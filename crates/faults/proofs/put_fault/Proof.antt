@@ -1,9 +1,9 @@
--- `texts::put_fault` meets its contract: its seven parts. Assumes nothing.
+-- `faults::put_fault` meets its contract: its seven parts. Assumes nothing.
 use borrow.Author.Needs.{needs}
-use Rattle.texts.specs.Texts.{faultText}
+use Rattle.faults.specs.Faults.{faultText}
 use Rattle.texts.proofs.Laws.{puts-cat}
-use Rattle.texts.proofs.put_fault.Statement.{statement}
-use Rattle.texts.proofs.put_fault.Tie as tie
+use Rattle.faults.proofs.put_fault.Statement.{statement}
+use Rattle.faults.proofs.put_fault.Tie as tie
 
 returns : tie.Need-returns
 unfolding faultText

@@ -1,0 +1,2 @@
+-- How long a fault is.
+pub mod Lengths
