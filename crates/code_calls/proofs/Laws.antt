@@ -28,7 +28,7 @@ use Rattle.chip.specs.Turn.{turnOf}
 use Rattle.chip.specs.Run.{Run, stopsAt, continued, runOf}
 use Rattle.chip.proofs.Run.{run-one}
 use Rattle.code_chip.proofs.Loop.{holding-kept}
-use Rattle.code_calls.proofs.Answers.{Plain, run-plain}
+use Rattle.chip.proofs.Answers.{Plain, run-plain}
 use Rattle.calls.specs.Calls.{Areas, isImage, lengthsOf, refusalOf, refused, unlessRefused, answerNumber}
 use Rattle.calls.proofs.Rows.{LengthsRight, rows-right, by-length}
 use Rattle.calls.proofs.Laws.{refuses, no-image, accepted}

@@ -91,7 +91,8 @@ isCounter counter.Alignment = true
 isCounter counter.Resources = true
 isCounter counter.Overruns = true
 
--- 02, Wish 3: why it was dropped; a frame that is lost by OVRNERRS or RSCERRS is counted, not dropped, and a bad one that is not held is dropped, counted or not
+-- 02, Wish 3: why it was dropped. A frame that is lost by OVRNERRS or RSCERRS is counted, not dropped; a bad one that is not held is dropped,
+-- counted or not
 abbrev pub reasonOf : Fate → Reason
 reasonOf fate.TooFew = reason.TooFew
 reasonOf fate.NoMatch = reason.NoMatch

@@ -16,9 +16,12 @@ use Rattle.frames.specs.Arrival.{RightLengths}
 use Rattle.frames.specs.OnBytes.{ArrivedOn}
 use Rattle.frames.proofs.Arrival.{arrival-fate}
 
+-- the lengths are right where the call is not refused
+pub right-lengths : (a : Areas) (d : Device) (f : List ℕ) (v : ℕ) → AreBytes a → isRefused (called (arrive f v) a) ≡ false → RightLengths (worldIn d a) f
+right-lengths a d f v b e =
+    let x = not-refused (arrive f v) a (b .kept) e in record { size = size-allowed _ (x .size); area = x .holding; frame = x .frame }
+
 pub arrived-on : (a : Areas) (d : Device) (f : List ℕ) (v : ℕ) → AreBytes a → Bytes f → Holds (a .kept) d → isRefused (called (arrive f v) a) ≡ false
     → ArrivedOn a d f v
 arrived-on a d f v b fb h e =
-    let x = not-refused (arrive f v) a (b .kept) e in
-    let lengths : RightLengths (worldIn d a) f = record { size = size-allowed _ (x .size); area = x .holding; frame = x .frame } in
-    record { said = carry (arrive f v) a d fb b h e .same; fate = arrival-fate (worldIn d a) f v lengths }
+    record { said = carry (arrive f v) a d fb b h e .same; fate = arrival-fate (worldIn d a) f v (right-lengths a d f v b e) }

@@ -6,7 +6,6 @@
 -- Over calls on the areas that are lent: an arrival, `Arrived`; all, `OnBytes`.
 -- That calls that are not refused meet the premises: `Accepted`. Runs that meet them: the room traced.
 pub mod Arrival
-pub mod Reasons
 pub mod End
 pub mod Held
 pub mod Filtered
@@ -16,5 +15,6 @@ pub mod Clear
 pub mod Data
 pub mod Fates
 pub mod Arrived
+pub mod Reasons
 pub mod OnBytes
 pub mod Accepted

@@ -5,26 +5,21 @@ use mathlib.Core.Bool.{Bool, true, false}
 use mathlib.Core.List.{List, [], _∷_}
 use Prim.Native.Nat.{ℕ, zero, suc}
 use native.Mathlib.Omega.{arith}
-use Rattle.memory.specs.Memory.{wordAt}
 use Rattle.memory.proofs.Bytes.{bytes-nil}
-use Rattle.memory.proofs.Power.{size-allowed}
-use Rattle.scb.specs.Words.{bitsAt, scbCommandAt, resets}
+use Rattle.scb.specs.Words.{bitsAt}
 use Rattle.device.specs.Answers.{reasonOf}
 use Rattle.device.specs.Numbers.{reasonNumber}
-use Rattle.device.specs.State.{cuWorks, ruWorks}
 use Rattle.device.specs.declared.Answer.{Answer}
 use Rattle.device.specs.declared.Device.{Device}
 use Rattle.device.specs.declared.Fate.{Fate}
 use Rattle.device.specs.declared.Reason.{Reason}
 use Rattle.device.specs.declared.Reason.the-variants as reason
 use Rattle.device.proofs.Laws.{one-reason}
-use Rattle.control.specs.Obey.{ofScb}
-use Rattle.attention.specs.Attention as attending
 use Rattle.chip.specs.Arrival.{arrivalOf}
 use Rattle.chip.specs.Attention.{attentionOf}
 use Rattle.chip.specs.Call.{Call, reset, attention, arrive, turn, ran}
-use Rattle.chip.specs.Turn.{servedBy, concluded, commandTurn, receiveTurn, turnBy, turnOf}
 use Rattle.chip.specs.World.{World, resetOf}
+use Rattle.chip.proofs.Answers.{attention-plain, turn-plain}
 use Rattle.calls.specs.Answer.{turnsTaken, withoutTurns}
 use Rattle.calls.specs.Calls.{Areas, Called, runCall}
 use Rattle.calls.proofs.Answer.{told-alone}
@@ -39,6 +34,7 @@ use Rattle.frames.specs.Arrival.{RightLengths, ArrivalFate}
 use Rattle.frames.specs.Arrival as classes
 use Rattle.frames.specs.Reasons.{whyOf, unset, unready, NotDropped, overrun, held, lost, saved, Reached, IsOther}
 use Rattle.frames.proofs.Arrival as arrivals
+use Rattle.frames.proofs.Arrived.{right-lengths}
 
 -- the reason is that of the one fate
 first-why : List Fate → Reason
@@ -101,7 +97,7 @@ module _ (a : Areas) (d : Device) (f : List ℕ) (v : ℕ) (b : AreBytes a) (h :
   there = worldIn d a
 
   right : RightLengths there f
-  right = let x = not-refused (arrive f v) a (b .kept) e in record { size = size-allowed _ (x .size); area = x .holding; frame = x .frame }
+  right = right-lengths a d f v b e
 
   -- the number in the answer is that of the reason
   numbered : reasonIn (called (arrive f v) a .answer) ≡ reasonNumber (whyOf there f v)
@@ -122,31 +118,12 @@ module _ (a : Areas) (d : Device) (f : List ℕ) (v : ℕ) (b : AreBytes a) (h :
 
 -- ---- no other call gives one
 
-attend-none : (r : Bool) (d : Device) (command : ℕ) (m : List ℕ) → attending.attendBy r d command m .outcome .answer .reason ≡ reason.NotDropped
-unfolding attending.attendBy
-attend-none true d command m = refl
-attend-none false d command m = refl
-
-attention-none : (i : Bool) (d : Device) (m : List ℕ) → attending.attentionBy i d m .outcome .answer .reason ≡ reason.NotDropped
-unfolding attending.initialise attending.attend
-attention-none false d m = refl
-attention-none true d m =
-    let command = wordAt m (ofScb (d .units) scbCommandAt) in attend-none (resets command) d command m
-
-turn-none : (c r l : Bool) (w : World) (report : ℕ) → turnBy (servedBy c r l) w report .outcome .answer .reason ≡ reason.NotDropped
-unfolding commandTurn receiveTurn concluded
-turn-none false false l w report = refl
-turn-none true false l w report = refl
-turn-none false true l w report = refl
-turn-none true true true w report = refl
-turn-none true true false w report = refl
-
 none-on : (c : Call) (w : World) → IsOther c → ran c w .outcome .answer .reason ≡ reason.NotDropped
-unfolding resetOf attentionOf attending.attention turnOf
+unfolding resetOf attentionOf
 none-on reset w o = refl
-none-on attention w o = attention-none (w .device .units .initialised) (w .device) (w .memory)
+none-on attention w o = ap whyIn (attention-plain (w .device) (w .memory))
 none-on (arrive f v) w o = absurd o
-none-on (turn report) w o = turn-none (cuWorks (w .device .units .cu)) (ruWorks (w .device .units .ru)) (w .device .units .rulast) w report
+none-on (turn report) w o = ap whyIn (turn-plain w report)
 
 -- one that is not refused answers as on the state that the record holds
 state-none : (c : Call) (a : Areas) (d : Device) → AreBytes a → Holds (a .kept) d → isRefused (called c a) ≡ false → IsOther c

@@ -1,5 +1,5 @@
--- What becomes of each frame: what the filter is; at an arrival, and why it is dropped; at every call while it is held; at exit, in memory; what the buffers get of it;
--- over whole traces; where a call is not refused; over the calls on the areas that a host lends.
+-- What becomes of each frame: what the filter is; at an arrival, and why it is dropped; at every call while it is held; at exit, in memory; what
+-- the buffers get of it; over whole traces; where a call is not refused; over the calls on the areas that a host lends.
 pub mod Arrival
 pub mod Reasons
 pub mod Held

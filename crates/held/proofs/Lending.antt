@@ -14,7 +14,7 @@ use Rattle.memory.proofs.Bytes.{Bytes, bytes-nil, put-bytes, digits-bytes}
 use Rattle.scb.specs.Words.{bitsAt}
 use Rattle.device.specs.Limits.{holdingSize, outgoingSize, recordSize}
 use Rattle.device.specs.Numbers.{refusalNumber}
-use Rattle.device.specs.State.{heldIn, cuWorks, ruWorks}
+use Rattle.device.specs.State.{heldIn}
 use Rattle.device.specs.declared.Answer.{Answer}
 use Rattle.device.specs.declared.Device.{Device}
 use Rattle.device.specs.declared.Refusal.the-variants as refusal
@@ -27,7 +27,7 @@ use Rattle.image.proofs.Steps.{length-image}
 use Rattle.image.proofs.Exact.{decode-image, device-back, image-bytes, fresh-wide}
 use Rattle.chip.specs.Call.{reset, attention, turn}
 use Rattle.chip.specs.Cases.{Word, _is_, put, passes}
-use Rattle.chip.specs.Turn.{servedBy, concluded, commandTurn, receiveTurn, turnBy, turnOf}
+use Rattle.chip.specs.Turn.{turnOf}
 use Rattle.chip.specs.World.{World, worldOf}
 use Rattle.calls.specs.Calls.{Areas, areasOf, Called, answerNumber, lengthsOf, refusalOf, onBytes, attentionCall, turnCall, resetCall}
 use Rattle.calls.proofs.Answer.{told-number}
@@ -38,6 +38,7 @@ use Rattle.traces.specs.Bytes.{number, isRefused}
 use Rattle.traces.specs.Event.{call, isTurn, WhileHeld}
 use Rattle.traces.specs.Areas.{unitsBy, worldSaid}
 use Rattle.traces.specs.Driven.{Lending, lending, refusedAt, leftBy, left, isTaken, Lends, AllFair}
+use Rattle.closure.proofs.Answers.{number-accepted}
 use Rattle.held.specs.Held.{fatesAt}
 use Rattle.held.specs.OnRecords.{framesKept, Settled, Within}
 use Rattle.held.proofs.Exact.{words, given, begun, frame, its-frame, anySettles, and-left, and-right, not-settled, one-settles}
@@ -134,20 +135,6 @@ pub record Good (d : Device) : Type 0 where
   pub range : inRange d ≡ true
   pub wide : Wide d
 
--- a turn of the definitions is never refused
-turn-number : (c r l : Bool) (w : World) (report : ℕ) → turnBy (servedBy c r l) w report .outcome .answer .number ≡ refusal.Accepted
-unfolding commandTurn receiveTurn concluded
-turn-number false false l w report = refl
-turn-number true false l w report = refl
-turn-number false true l w report = refl
-turn-number true true true w report = refl
-turn-number true true false w report = refl
-
-turn-accepted : (w : World) (report : ℕ) → turnOf w report .outcome .answer .number ≡ refusal.Accepted
-unfolding turnOf
-turn-accepted w report =
-    turn-number (cuWorks (w .device .units .cu)) (ruWorks (w .device .units .ru)) (w .device .units .rulast) w report
-
 number-zero : (a : Answer) → a .number ≡ refusal.Accepted → number (answerNumber a) ≡ 0
 number-zero a e = told-number a ∙ ap refusalNumber e
 
@@ -175,7 +162,7 @@ module _ (m h : List ℕ) (r : Right m h) (d : Device) (g : Good d) where
       ∙ ap (λ (x : Device). onBytes (turnOf (on m h x) 0)) (device-back d (g .wide))
 
   taken : refusedAt (turnOn m h d) ≡ false
-  taken = ap isRefused same ∙ rw (number-zero (turnOf (on m h d) 0 .outcome .answer) (turn-accepted (on m h d) 0))
+  taken = ap isRefused same ∙ rw (number-zero (turnOf (on m h d) 0 .outcome .answer) (number-accepted (turn 0) (on m h d)))
 
   left-next : (a : Areas) → left (turnOn m h d) a .kept ≡ imageOf (next m h d)
   left-next a = ap (λ (x : Bool). leftBy x (turnOn m h d) a .kept) taken ∙ ap (λ (x : Called). x .areas .kept) same

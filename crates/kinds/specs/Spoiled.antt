@@ -34,7 +34,7 @@ use Rattle.kinds.specs.Demands.{Acceptable, lentOf}
 use Rattle.kinds.specs.Lists.{Starting, turnsOf, AllReports, started}
 use Rattle.kinds.specs.Kinds.{setupIn, fromEdge}
 
--- ---- all that a call leaves, piece by piece: three of the answer, of which the edge has with it what stands above it, and each byte of each area by its index
+-- ---- all that a call leaves, piece by piece: three of the answer, the edge with what stands above it, and each byte of each area by its index
 
 pub data Piece : Type 0 where
   theNumber : Piece

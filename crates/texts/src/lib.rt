@@ -1,4 +1,5 @@
-// What the replay program prints (docs/replay.md), as text: numbers, answers and stretches of memory, put one behind the other into a slice. Each function answers where the next text goes. What would pass the slice's end goes nowhere, and the place stays at the end.
+// What the replay program prints (docs/replay.md), as text: numbers, answers and stretches of memory, put one behind the other into a slice. Each
+// function answers where the next text goes. What would pass the slice's end goes nowhere, and the place stays at the end.
 ghost use mathlib.Core.Path.{_≡_};
 ghost use mathlib.Core.List.{[], _∷_, _++_};
 ghost use Prim.Native.Nat.{_+_, _-_, _%_, min};

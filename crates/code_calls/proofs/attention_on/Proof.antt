@@ -8,7 +8,7 @@ use Rattle.chip.specs.Attention.{attentionOf}
 use Rattle.device.specs.Answers.{answered}
 use Rattle.device.specs.declared.Answer.{Answer}
 use Rattle.calls.specs.Calls.{answerNumber}
-use Rattle.code_calls.proofs.Answers.{attention-plain}
+use Rattle.chip.proofs.Answers.{attention-plain}
 use Rattle.code_calls.proofs.Laws.{lent-device, put-back}
 use borrow.Author.Needs.{needs}
 use Rattle.code_calls.proofs.attention_on.Statement.{statement}

@@ -1,4 +1,4 @@
--- An attention, a turn and a run that are not refused answer a length and an edge, and no reason: so the answer is known by these two. Assumes nothing.
+-- An attention, a turn and a run answer a length and an edge: they are not refused, and give no reason. Assumes nothing.
 use mathlib.Core.Path.{_≡_, refl}
 use mathlib.Core.Bool.{Bool, true, false}
 use mathlib.Core.List.{List}
@@ -41,7 +41,7 @@ turn-by true false c w report = refl
 turn-by false true c w report = refl
 turn-by false false c w report = refl
 
-turn-plain : (w : World) (report : ℕ) → Plain (turnOf w report .outcome .answer)
+pub turn-plain : (w : World) (report : ℕ) → Plain (turnOf w report .outcome .answer)
 unfolding turnOf
 turn-plain w report = turn-by (cuWorks (w .device .units .cu)) (ruWorks (w .device .units .ru)) (w .device .units .rulast) w report
 
