@@ -4,6 +4,8 @@
  * that of all calls it takes.
  *
  *     bench ROW N ITEMS    runs a row with a memory of N bytes and so many items; with + before it, turns in a row are one lq_run
+ *
+ * With h before a row of frames (+h too), headers are in buffers: address location 1.
  */
 #include "lentoquist.h"
 #include "mark.h"
@@ -26,6 +28,8 @@ enum {
     LIST_AT = 0x1C00,        /* NOPs, 6 bytes each */
     MARK = 1
 };
+
+enum { HEADER = LQ_FRAME_HEADER(LQ_ADDRESS_LENGTH_AFTER_RESET) };
 
 static uint8_t memory[LQ_MEMORY_MAX];
 static size_t size;
@@ -129,6 +133,19 @@ static void initialise(size_t n)
     command(LQ_EVENTS);
 }
 
+/* Configure, as far as byte 3: addresses as after reset, headers in buffers. */
+static void set_location(void)
+{
+    put_word(BLOCK_AT + LQ_CB_COMMAND, LQ_CMD_CONFIGURE | LQ_EL);
+    put_word(BLOCK_AT + LQ_CB_DATA + LQ_CONFIGURE_COUNT, 4);
+    put_word(BLOCK_AT + LQ_CB_DATA + LQ_CONFIGURE_SAVE, (LQ_ADDRESS_LENGTH_AFTER_RESET | LQ_ADDRESS_LOCATION) << 8);
+    put_word(SCB_AT + LQ_SCB_CBL, BLOCK_AT);
+    command(LQ_CUC(LQ_START));
+    must(lq_number(lq_run(AREAS, 0, 2)) == LQ_ACCEPTED, "a run was refused");
+    must(get_word(BLOCK_AT) == (LQ_C | LQ_OK), "a Configure is not done");
+    command(LQ_EVENTS);
+}
+
 static void fill_frame(uint8_t *frame, size_t length, uint8_t to)
 {
     memset(frame, to, 6);
@@ -151,9 +168,10 @@ static void nops(unsigned items)
     must(get_word(LIST_AT + 6 * (items - 1)) == (LQ_C | LQ_OK), "the last NOP is not done");
 }
 
-/* Data of a frame: length bytes in so many buffers, side by side, the last so many of the bytes behind the end of memory. */
+/* What buffers have of a frame: length bytes in so many of them, side by side, the last so many bytes behind the end of memory. Outside them is
+   the header, or nothing. */
 struct data {
-    unsigned length, buffers, behind;
+    unsigned length, buffers, behind, outside;
 };
 
 static unsigned each_of(struct data data)
@@ -196,8 +214,8 @@ static void sends(unsigned items, struct data data)
     for (unsigned i = 0; i < items; i++) {
         memset(outgoing, 0, sizeof outgoing);
         size_t sent = turns(2 + data.buffers);
-        must(sent == LQ_FRAME_HEADER + data.length, "a frame was not sent");
-        must(stands_at(begin, outgoing + LQ_FRAME_HEADER, data.length), "other bytes were sent");
+        must(sent == data.outside + data.length, "a frame was not sent");
+        must(stands_at(begin, outgoing + data.outside, data.length), "other bytes were sent");
     }
 }
 
@@ -220,13 +238,13 @@ static void receives(unsigned items, struct data data)
     }
     put_word(SCB_AT + LQ_SCB_RFA, FD_AT);
     command(LQ_RUC(LQ_START));
-    fill_frame(frame, LQ_FRAME_HEADER + data.length, 0xFF);
+    fill_frame(frame, data.outside + data.length, 0xFF);
     for (unsigned i = 0; i < items; i++) {
-        frame[LQ_FRAME_HEADER] = (uint8_t)i;
-        must(arrival(frame, LQ_FRAME_HEADER + data.length) == LQ_NOT_DROPPED, "a frame was dropped");
+        frame[HEADER] = (uint8_t)i;
+        must(arrival(frame, data.outside + data.length) == LQ_NOT_DROPPED, "a frame was dropped");
         turns(2 + data.buffers);
         must(get_word(FD_AT + 32 * (i % 2)) == (LQ_C | LQ_OK), "a frame was not stored");
-        must(stands_at(begin, frame + LQ_FRAME_HEADER, data.length), "other bytes were stored");
+        must(stands_at(begin, frame + data.outside, data.length), "other bytes were stored");
     }
 }
 
@@ -307,14 +325,23 @@ static const struct row {
     {"idle", idle_turns},
 };
 
-/* tx46, tx1500/6, rx46, rx46/3, rx1500:750 ..: bytes of data; then buffers if more than one, or how many bytes lie behind the end of memory */
+/* tx46, tx1500/6, rx46, rx46/3, rx1500:750 ..: bytes of data; then buffers if more than one, or how many bytes lie behind the end of memory.
+   htx46, hrx1500 ..: the same frames, with their header in the buffers before the data. */
 static void framed(const char *row, unsigned items)
 {
     char *end;
-    struct data data = {.length = (unsigned)strtoul(row + 2, &end, 10), .buffers = 1};
+    bool in_buffers = row[0] == 'h';
+    if (in_buffers) row++;
+    must(row[0] == 't' || row[0] == 'r', "there is no such row");
+    struct data data = {.length = (unsigned)strtoul(row + 2, &end, 10), .buffers = 1, .outside = HEADER};
     if (*end == '/') data.buffers = (unsigned)strtoul(end + 1, NULL, 10);
     if (*end == ':') data.behind = (unsigned)strtoul(end + 1, NULL, 10);
     must(data.length > 0 && data.length <= 1500 && data.buffers > 0 && data.buffers <= 32 && data.behind <= data.length, "there is no such row");
+    if (in_buffers) {
+        set_location();
+        data.length += HEADER;
+        data.outside = 0;
+    }
     if (row[0] == 't') sends(items, data);
     else receives(items, data);
 }
@@ -333,7 +360,6 @@ int main(int argc, char **argv)
         PLAIN[i].run(items);
         return 0;
     }
-    must(argv[1][0] == 't' || argv[1][0] == 'r', "there is no such row");
     framed(argv[1], items);
     return 0;
 }

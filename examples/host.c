@@ -46,15 +46,19 @@ static void put_bytes(uint32_t at, const uint8_t *bytes, size_t n)
     for (size_t i = 0; i < n; i++) memory[(at + i) % N] = bytes[i];
 }
 
+/* ---- the net: addresses of six bytes, as after reset; headers, and where their parts stand, go by it ---- */
+
+enum { ADDRESS_LENGTH = LQ_ADDRESS_LENGTH_AFTER_RESET };
+
 static void print_address(const uint8_t *address)
 {
-    for (int i = 0; i < 6; i++) printf(i == 0 ? "%02X" : "-%02X", address[i]);
+    for (int i = 0; i < ADDRESS_LENGTH; i++) printf(i == 0 ? "%02X" : "-%02X", address[i]);
 }
 
 static void print_frame(const uint8_t *frame, size_t length)
 {
     printf("%lu bytes from ", (unsigned long)length);
-    print_address(frame + 6);
+    print_address(frame + ADDRESS_LENGTH);
     printf(" to ");
     print_address(frame);
 }
@@ -212,7 +216,7 @@ static void start_commands(uint32_t block)
 static void configure(void)
 {
     static const uint8_t bytes[12] = {
-        [LQ_CONFIGURE_COUNT] = 12, [LQ_CONFIGURE_ADDRESS] = LQ_ADDRESS_LENGTH, [LQ_CONFIGURE_MINIMUM] = 64};
+        [LQ_CONFIGURE_COUNT] = 12, [LQ_CONFIGURE_ADDRESS] = ADDRESS_LENGTH, [LQ_CONFIGURE_MINIMUM] = 64};
     put_block(CONFIGURE, LQ_CMD_CONFIGURE, IA_SETUP);
     put_bytes(CONFIGURE + LQ_CB_DATA, bytes, sizeof bytes);
     put_block(IA_SETUP, LQ_CMD_IA_SETUP | LQ_EL | LQ_I, 0);
@@ -228,7 +232,7 @@ static void put_transmit(uint32_t block, unsigned flags, unsigned link, unsigned
     put_block(block, LQ_CMD_TRANSMIT | flags, link);
     put_word(block + LQ_TRANSMIT_BUFFER, buffer);
     put_bytes(block + LQ_TRANSMIT_DESTINATION, PEER, sizeof PEER);
-    put_word(block + LQ_TRANSMIT_TYPE, 0x0008); /* 08 00 on the line */
+    put_word(block + LQ_TRANSMIT_TYPE(ADDRESS_LENGTH), 0x0008); /* 08 00 on the line */
 }
 
 static void put_transmit_buffer(uint32_t descriptor, unsigned count, unsigned next, uint32_t bytes)
@@ -281,7 +285,7 @@ static void start_receiving(void)
 /* What a complete frame descriptor has: the header itself, the data in its buffers up to the one with EOF. */
 static void print_received(uint32_t descriptor)
 {
-    uint8_t header[LQ_FRAME_HEADER];
+    uint8_t header[LQ_FRAME_HEADER(ADDRESS_LENGTH)];
     size_t data = 0;
     unsigned used = 0;
     uint32_t buffer = get_word(descriptor + LQ_FD_BUFFER);
@@ -301,9 +305,9 @@ static void print_received(uint32_t descriptor)
 static void come(const uint8_t *destination, size_t length)
 {
     uint8_t frame[LQ_FRAME_MAX];
-    memcpy(frame, destination, 6);
-    memcpy(frame + 6, PEER, 6);
-    for (size_t i = 12; i < length; i++) frame[i] = (uint8_t)i;
+    memcpy(frame, destination, ADDRESS_LENGTH);
+    memcpy(frame + ADDRESS_LENGTH, PEER, ADDRESS_LENGTH);
+    for (size_t i = 2 * ADDRESS_LENGTH; i < length; i++) frame[i] = (uint8_t)i;
     arrival(frame, length);
 }
 
@@ -326,7 +330,7 @@ int main(void)
     start_receiving();
     receive(FRAMES, OWN, 60);
     come(THIRD, 60); /* passes by */
-    receive(FRAMES + 32, OWN, 14 + 150); /* three buffers of 64 */
+    receive(FRAMES + 32, OWN, LQ_FRAME_HEADER(ADDRESS_LENGTH) + 150); /* three buffers of 64 */
     receive(FRAMES + 64, EVERYONE, 64);
     printf("driver: status %04Xh, lost for want of resources %u\n", get_word(SCB + LQ_SCB_STATUS),
            get_word(SCB + LQ_SCB_RSCERRS));

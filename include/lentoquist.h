@@ -43,7 +43,7 @@ extern "C" {
 #endif
 
 /* The version of this interface and of the archive: pkg-config's too, which has it from here. The record's is below. */
-#define LQ_VERSION "0.2.0"
+#define LQ_VERSION "0.3.0"
 
 /* ---- Sizes. Use these constants and no numbers: the holding area will grow. ---- */
 
@@ -51,9 +51,12 @@ extern "C" {
 #define LQ_HOLDING_SIZE  2048
 #define LQ_OUTGOING_SIZE 2048
 #define LQ_FRAME_MAX     2048     /* the longest frame that may arrive, and that is sent; without FCS */
-#define LQ_FRAME_HEADER  14       /* destination, source, type: a shorter frame that arrives is dropped */
 #define LQ_MEMORY_MIN    8192
 #define LQ_MEMORY_MAX    16777216
+
+/* The header of a frame: destination and source, 0 to 6 bytes each, as Configure has set it, and two bytes of type. A
+   shorter frame that arrives is dropped. */
+#define LQ_FRAME_HEADER(length) (2 * (length) + 2)
 
 /* ---- The calls. Each answers with a number that the functions below take apart. ---- */
 
@@ -104,7 +107,9 @@ static inline unsigned lq_number(uint64_t answer)
     return (unsigned)(answer & 0xFFFF);
 }
 
-/* The length of the frame that was sent, 0 if none was: its bytes are outgoing[0] to outgoing[length - 1]. */
+/* The length of the frame that was sent, 0 if none was: its bytes are outgoing[0] to outgoing[length - 1]. A frame of
+   no bytes (LQ_ADDRESS_LOCATION) shows in the Transmit's status alone: there is nothing to take, and no run stops for
+   it. */
 static inline size_t lq_length(uint64_t answer)
 {
     return (size_t)(answer >> 16 & 0xFFFF);
@@ -121,7 +126,7 @@ static inline bool lq_edge(uint64_t answer)
    OVRNERRS since a frame was held, by RSCERRS since there were no resources; or the call was refused. The answers of all
    other calls have it too. */
 #define LQ_NOT_DROPPED       0
-#define LQ_DROPPED_TOO_FEW   1 /* it has fewer than LQ_FRAME_HEADER bytes */
+#define LQ_DROPPED_TOO_FEW   1 /* it is shorter than a header, LQ_FRAME_HEADER of the length that is configured */
 #define LQ_DROPPED_NO_MATCH  2 /* it is not addressed to this chip */
 #define LQ_DROPPED_IDLE      3 /* the receive unit is Idle: not started, or the chip is not initialised yet */
 #define LQ_DROPPED_SUSPENDED 4 /* the receive unit is Suspended */
@@ -251,7 +256,7 @@ static inline bool lq_interrupt(const uint8_t *record)
 #define LQ_I     0x2000 /* raise CX after it */
 #define LQ_CMD   0x0007
 #define LQ_CMD_NOP       0
-#define LQ_CMD_IA_SETUP  1 /* LQ_CB_DATA: six bytes */
+#define LQ_CMD_IA_SETUP  1 /* LQ_CB_DATA: six bytes, whatever the address length; the first ones, up to it, count */
 #define LQ_CMD_CONFIGURE 2 /* LQ_CB_DATA: the count, then the bytes, see LQ_CONFIGURE_.. */
 #define LQ_CMD_MC_SETUP  3 /* LQ_CB_DATA: byte count, a word; then the addresses, see LQ_MC_.. */
 #define LQ_CMD_TRANSMIT  4
@@ -259,43 +264,60 @@ static inline bool lq_interrupt(const uint8_t *record)
 #define LQ_CMD_DUMP      6 /* not offered: ends without OK */
 #define LQ_CMD_DIAGNOSE  7
 
-/* Configure: byte n is at LQ_CB_DATA + n */
+/* Configure: byte n is at LQ_CB_DATA + n. One that asks for a length of 7 or for loopback ends without OK and changes
+   nothing. */
 #define LQ_CONFIGURE_COUNT   0  /* how many bytes are taken, 4 to 12, this one included */
 #define LQ_CONFIGURE_SAVE    2  /* bit 7: save bad frames */
-#define LQ_CONFIGURE_ADDRESS 3  /* bits 2-0: address length, must be 6; bits 3, 6, 7 must be 0 */
+#define LQ_CONFIGURE_ADDRESS 3  /* bits 2-0: address length, 0 to 6; LQ_ADDRESS_LOCATION; bits 6 and 7: loopback */
 #define LQ_CONFIGURE_FILTER  8  /* bit 0: promiscuous; bit 1: broadcast disabled */
 #define LQ_CONFIGURE_MINIMUM 10 /* minimum frame length, FCS counted: 64 after reset */
 #define LQ_SAVE_BAD           0x80
-#define LQ_ADDRESS_LENGTH     6
+#define LQ_ADDRESS_LOCATION   0x08 /* headers are in buffers, see below; clear after reset */
 #define LQ_PROMISCUOUS        0x01
 #define LQ_BROADCAST_DISABLED 0x02
 
-/* MC-Setup. Each address, of six bytes, falls on one bit of a filter of 64; the new filter replaces the old one, and a
-   count below 6 leaves it empty. A frame to a group, the low bit of its first byte set, passes if its bit is set: so
-   groups that were not listed may pass too, and the host looks at the destination again. The filter has no say on
-   frames to everyone, all FFh: LQ_CONFIGURE_FILTER alone decides on them. */
-#define LQ_MC_COUNT     6 /* bytes, in bits 13-0, any number; a remainder of the division by six is ignored */
+#define LQ_ADDRESS_LENGTH_AFTER_RESET 6
+
+/* Addresses. Every Configure that is done sets the address length, and with it where fields are: they are packed. A
+   macro that takes a length takes this one; of a received frame, the one that it arrived under. Of the own address
+   the first bytes count, up to the length, and a frame to everyone has so many bytes FFh. With a length of 0 only
+   promiscuous mode receives. Own address and filter stay as they are when the length changes.
+
+   With LQ_ADDRESS_LOCATION the whole frame goes through buffers, header and all. A Transmit sends what its buffers
+   hold: destination and type of the block are not read, and the own address is not inserted. A received frame begins
+   in its first buffer, and of its frame descriptor no byte is written from LQ_FD_DESTINATION on. What arrives is
+   compared as ever, so one that is shorter than a header is dropped. Buffers that hold no byte, or none at all, make
+   a frame of no bytes: the Transmit has the status that the line reports, and the answer the length 0.
+
+   A held frame is stored by the length and location that it arrived under, whatever a Configure has said since. */
+
+/* MC-Setup. Each address, of the length that is configured, falls on one bit of a filter of 64; the new filter
+   replaces the old one. A count below the length leaves it empty, and so does any count where the length is 0. A
+   frame to a group, the low bit of its first byte set, passes if its bit is set: so groups that were not listed may
+   pass too, and the host looks at the destination again. The filter has no say on frames to everyone, all FFh:
+   LQ_CONFIGURE_FILTER alone decides on them. */
+#define LQ_MC_COUNT     6 /* bytes, in bits 13-0, any number; a remainder of the division by the length is ignored */
 #define LQ_MC_ADDRESSES 8
 
-/* Transmit */
-#define LQ_TRANSMIT_BUFFER      6 /* offset of the first transmit buffer descriptor, or LQ_NONE */
-#define LQ_TRANSMIT_DESTINATION 8
-#define LQ_TRANSMIT_TYPE        14
+/* Transmit. With LQ_ADDRESS_LOCATION destination and type are not used. */
+#define LQ_TRANSMIT_BUFFER       6 /* offset of the first transmit buffer descriptor, or LQ_NONE */
+#define LQ_TRANSMIT_DESTINATION  8
+#define LQ_TRANSMIT_TYPE(length) (LQ_TRANSMIT_DESTINATION + (length))
 
 /* Transmit buffer descriptors */
 #define LQ_TBD_COUNT  0 /* LQ_EOF, and the count in bits 13-0 */
 #define LQ_TBD_NEXT   2 /* offset of the next one, or LQ_NONE */
 #define LQ_TBD_BUFFER 4 /* real address */
 
-/* Frame descriptors */
+/* Frame descriptors. With LQ_ADDRESS_LOCATION destination, source and type are not used. */
 #define LQ_FD_STATUS      0
 #define LQ_FD_COMMAND     2 /* LQ_EL, LQ_S */
 #define LQ_FD_LINK        4 /* offset of the next one */
 #define LQ_FD_BUFFER      6 /* offset of the first receive buffer descriptor, or LQ_NONE */
 #define LQ_FD_DESTINATION 8
-#define LQ_FD_SOURCE      14
-#define LQ_FD_TYPE        20
-#define LQ_FD_SIZE        22
+#define LQ_FD_SOURCE(length) (LQ_FD_DESTINATION + (length))
+#define LQ_FD_TYPE(length)   (LQ_FD_DESTINATION + 2 * (length))
+#define LQ_FD_SIZE        22 /* with the longest addresses */
 
 /* Error bits in a frame descriptor's status, besides LQ_C, LQ_B and LQ_OK */
 #define LQ_FD_CRC            0x0800

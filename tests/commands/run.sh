@@ -50,6 +50,9 @@ prints "$work/sample"
 says ""
 try "the sample, where no list is named" 0 ./replay </dev/null
 prints "$work/sample"
+try "the tag ring" 0 ./replay examples/tag-ring.list
+prints examples/tag-ring.expected
+says ""
 try "a bad list" 2 ./replay "$bad.list"
 prints "$work/answers"
 says "$fault"

@@ -69,7 +69,7 @@ static void tdr(void)
 
 /* ---- Configure ---- */
 
-/* every count and every byte 3: accepted exactly if the length is 6, and location and loopback are 0 */
+/* every byte 3: accepted exactly if the length is not 7, and loopback is 0; bits 4 and 5 are the preamble's */
 static void configure_bytes(void)
 {
     for (unsigned third = 0; third < 256; third++) {
@@ -77,7 +77,7 @@ static void configure_bytes(void)
         begin_case("Configure, byte 3");
         put_word(&chip, BLOCK + 6, 4);
         put_word(&chip, BLOCK + 8, third << 8);
-        bool accepted = (third & 0xCF) == 6;
+        bool accepted = (third & 7) != 7 && (third & 0xC0) == 0;
         CHECK(run_command(&chip, LQ_CMD_CONFIGURE) == (accepted ? 0xA000 : 0x8000), "byte 3 of %02Xh", third);
         chip_free(&chip);
     }
@@ -88,7 +88,7 @@ static void put_configure(struct chip *chip, unsigned count, unsigned save, unsi
     for (uint32_t i = 0; i < 16; i++) put_byte(chip, BLOCK + 6 + i, 0xFF);
     put_byte(chip, BLOCK + 6, count);
     put_byte(chip, BLOCK + 8, save);
-    put_byte(chip, BLOCK + 9, LQ_ADDRESS_LENGTH);
+    put_byte(chip, BLOCK + 9, LQ_ADDRESS_LENGTH_AFTER_RESET);
     put_byte(chip, BLOCK + 14, filter);
     put_byte(chip, BLOCK + 16, minimum);
 }

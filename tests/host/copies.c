@@ -1,7 +1,7 @@
 /*
  * Copies between memory and the other areas that come to the end of memory: buffers that end there, pass it, or begin at
- * its last byte, both ways, in the smallest memory and in the largest; headers and an own address at every cut. Each case
- * says its bytes itself; of buffers and headers those beside them too, which stay.
+ * its last byte, both ways, in the smallest memory and in the largest; headers of every address length and an own address,
+ * at every cut. Each case says its bytes itself; of buffers and headers those beside them too, which stay.
  */
 #include "setup.h"
 
@@ -55,8 +55,8 @@ static void sent(size_t n, struct stretch s)
     put_tbd(&chip, TBD, s.length | LQ_EOF, LQ_NONE, place);
     start_cu(&chip, BLOCK);
     turns(&chip, 2);
-    check_answer(turn(&chip), LQ_ACCEPTED, LQ_FRAME_HEADER + s.length, true);
-    const uint8_t *data = chip.lent.outgoing.bytes + LQ_FRAME_HEADER;
+    check_answer(turn(&chip), LQ_ACCEPTED, HEADER_AFTER_RESET + s.length, true);
+    const uint8_t *data = chip.lent.outgoing.bytes + HEADER_AFTER_RESET;
     for (unsigned i = 0; i < s.length; i++) CHECK(data[i] == pattern(i), "byte %u of the data sent is %u", i, data[i]);
     CHECK(data[s.length] == 0, "a byte behind the frame was written");
     chip_free(&chip);
@@ -72,13 +72,13 @@ static void received(size_t n, struct stretch s)
     unsigned data = s.length < LEAST ? LEAST : s.length;
     begin_case("a buffer to receive in at the end of memory");
     mark_beside(&chip, place, s.length);
-    memset(frame, 0xFF, LQ_FRAME_HEADER);
-    for (unsigned i = 0; i < data; i++) frame[LQ_FRAME_HEADER + i] = (uint8_t)pattern(i);
+    memset(frame, 0xFF, HEADER_AFTER_RESET);
+    for (unsigned i = 0; i < data; i++) frame[HEADER_AFTER_RESET + i] = (uint8_t)pattern(i);
     put_fd(&chip, FD, LQ_EL, LQ_NONE, RBD);
     put_rbd(&chip, RBD, NEXT_RBD, place, s.length);
     put_rbd(&chip, NEXT_RBD, LQ_NONE, AWAY, LEAST);
     start_ru(&chip, FD);
-    call(&chip, ARRIVAL_CALL(frame, LQ_FRAME_HEADER + data, LQ_VERDICT_GOOD));
+    call(&chip, ARRIVAL_CALL(frame, HEADER_AFTER_RESET + data, LQ_VERDICT_GOOD));
     turns_until_complete(&chip, FD);
     check_word(&chip, FD, LQ_C | LQ_OK);
     for (unsigned i = 0; i < data; i++) {
@@ -102,36 +102,39 @@ static void run_at(struct chip *chip, uint32_t place)
     check_word(chip, place, LQ_C | LQ_OK);
 }
 
-static void header_sent(uint32_t place)
+static void header_sent(uint32_t place, unsigned length)
 {
     struct chip chip = ready_chip(LQ_MEMORY_MIN);
     begin_case("a header to send over the end of memory");
+    configure(&chip, (struct addressing){.length = (uint8_t)length}, 0);
     put_transmit(&chip, place, LQ_EL, 0, LQ_NONE);
-    put_word(&chip, place + LQ_TRANSMIT_TYPE, 0x3412);
+    put_word(&chip, place + LQ_TRANSMIT_TYPE(length), 0x3412);
     run_at(&chip, place);
-    const uint8_t *header = chip.lent.outgoing.bytes;
-    CHECK(memcmp(header, DESTINATION, 6) == 0, "another destination was sent");
-    CHECK(header[12] == 0x12 && header[13] == 0x34, "another type was sent");
-    CHECK(header[LQ_FRAME_HEADER] == 0, "a byte behind the header was written");
+    const uint8_t *header = chip.lent.outgoing.bytes, *type = header + 2 * length;
+    CHECK(memcmp(header, DESTINATION, length) == 0, "another destination was sent");
+    CHECK(type[0] == 0x12 && type[1] == 0x34, "another type was sent");
+    CHECK(header[LQ_FRAME_HEADER(length)] == 0, "a byte behind the header was written");
     chip_free(&chip);
 }
 
-static void header_received(uint32_t place)
+static void header_received(uint32_t place, unsigned length)
 {
     uint8_t frame[60];
     struct chip chip = ready_chip(LQ_MEMORY_MIN);
+    uint32_t behind = place + LQ_FD_DESTINATION + LQ_FRAME_HEADER(length);
     begin_case("a header to receive over the end of memory");
+    configure(&chip, (struct addressing){.length = (uint8_t)length}, length == 0 ? LQ_PROMISCUOUS : 0);
     for (unsigned i = 0; i < sizeof frame; i++) frame[i] = i < 6 ? 0xFF : (uint8_t)(0x10 + i);
     put_fd(&chip, place, LQ_EL, LQ_NONE, RBD);
     put_rbd(&chip, RBD, LQ_NONE, AWAY, sizeof frame);
-    put_byte(&chip, place + LQ_FD_SIZE, BESIDE);
+    put_byte(&chip, behind, BESIDE);
     start_ru(&chip, place);
     call(&chip, ARRIVAL_CALL(frame, sizeof frame, LQ_VERDICT_GOOD));
     turns_until_complete(&chip, place);
     check_word(&chip, place, LQ_C | LQ_OK);
-    for (unsigned i = 0; i < LQ_FRAME_HEADER; i++)
+    for (unsigned i = 0; i < LQ_FRAME_HEADER(length); i++)
         CHECK(byte_of(&chip, place + LQ_FD_DESTINATION + i) == frame[i], "byte %u of the header is another", i);
-    CHECK(byte_of(&chip, place + LQ_FD_SIZE) == BESIDE, "the byte behind the header was written");
+    CHECK(byte_of(&chip, behind) == BESIDE, "the byte behind the header was written");
     chip_free(&chip);
 }
 
@@ -155,8 +158,10 @@ void copies(void)
         received(LQ_MEMORY_MAX, STRETCHES[i]);
     }
     for (uint32_t k = 1; k <= 24; k++) {
-        header_sent(LQ_MEMORY_MIN - k);
-        header_received(LQ_MEMORY_MIN - k);
+        for (unsigned length = 0; length < ADDRESS_LENGTHS; length++) {
+            header_sent(LQ_MEMORY_MIN - k, length);
+            header_received(LQ_MEMORY_MIN - k, length);
+        }
         own_address(LQ_MEMORY_MIN - k);
     }
 }

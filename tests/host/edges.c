@@ -1,4 +1,5 @@
-/* Further cases at the edges of document 01's rules, each of which a chip that gets the rule wrong would fail. */
+/* Further cases at the edges of document 01's rules and of document 02's Wish 4, each of which a chip that gets the
+   rule wrong would fail. */
 #include "board.h"
 
 /* the host alters the holding area before a turn */
@@ -69,7 +70,7 @@
          CAME(TO(0xAB, 0, 0, 2, 0, 0), GOOD, NOTHING), \
          TURNED(WORDS({0x60, 0x4000})))
 
-/* byte 3: the length must be 6, location and loopback 0; bits 4 and 5 are free */
+/* byte 3: any length but 7, either location, no loopback; bits 4 and 5 are free */
 #define THIRD_BYTE(byte, status) \
     CASE("third byte", WORDS({0x42, 0x8002}, {0x46, 0x0004}, {0x48, (byte) * 256}, BOARD), \
          INITIALISED, \
@@ -141,6 +142,87 @@
          CAME(BROADCAST(n), GOOD, NOTHING), \
          TURNED_TIMES(65, WORDS({0x60, 0x4000})), \
          SETTLING(WORDS(__VA_ARGS__)))
+
+/* ---- 02, Wish 4: addresses of other lengths, and headers in buffers. Byte 3 of a Configure says both ---- */
+
+/* IA-Setup of 02-03-04-05-06-07, a Configure, and a Transmit with an offset at +6: the steps behind its begin */
+#define SENT_BY(name, third, first, ...) \
+    CASE(name, \
+         WORDS({0x42, 0x0001}, {0x44, 0x50}, {0x46, 0x0302}, {0x48, 0x0504}, {0x4A, 0x0706}, \
+               {0x52, 0x0002}, {0x54, 0x80}, {0x56, 0x0004}, {0x58, (third) * 256}, \
+               {0x82, 0x8004}, {0x86, first}, {0x88, 0x1211}, {0x8A, 0x1413}, {0x8C, 0x1615}, {0x8E, 0x0900}, \
+               {0xA0, 0x8002}, {0xA2, 0xFFFF}, {0xA4, 0xC0}, {0xC0, 0x2221}, BOARD), \
+         INITIALISED, \
+         COMMANDING, \
+         TURNED(NOTHING), \
+         TURNED(NOTHING), \
+         TURNED(NOTHING), \
+         TURNED(WORDS({0x50, 0xA000})), \
+         TURNED(NOTHING), \
+         __VA_ARGS__)
+
+/* "Block and descriptor fields are packed; of the own address the first bytes, up to the length, count": with two bytes
+   an address the type is at +10, with none at +8; with location 1 "the chip inserts no source address", and the
+   buffers' bytes are the frame */
+#define PACKED_SENT(third, length_, ...) \
+    SENT_BY("packed sent", third, 0xA0, \
+            TURNED(NOTHING), \
+            ENDS(0, length_, WORDS({0x80, 0xA000}, {0x30, 0x2000}), WORDS(__VA_ARGS__)))
+
+/* with location 1 and no buffer a frame of no bytes ends as reported, and nothing is in the outgoing area */
+#define NO_BYTES_SENT(report_, status) \
+    SENT_BY("no bytes sent", 0x0A, 0xFFFF, \
+            ENDS(report_, 0, WORDS({0x80, status}, {0x30, 0x2000}), WORDS({0, 0}, {2, 0}, {4, 0})))
+
+/* a frame of 60 bytes to two bytes FFh, each byte behind them its own index; in the descriptor stands 7777h from +8
+   on */
+#define TO_TWO_ONES (&(const struct frame_form){2, {255, 255}, 2, 1, 58})
+
+#define PACKED_STORED(third, ...) \
+    CASE("packed stored", \
+         WORDS({0x42, 0x8002}, {0x46, 0x0004}, {0x48, (third) * 256}, {0x68, 0x7777}, {0x6A, 0x7777}, {0x6C, 0x7777}, \
+               {0x6E, 0x7777}, {0x74, 0x7777}, DESCRIPTORS, BUFFER_AT(0xA0, 0xAA, 0xC0, 60), BOARD), \
+         CONFIGURED, \
+         RECEIVING, \
+         CAME(TO_TWO_ONES, GOOD, NOTHING), \
+         TURNED(NOTHING), \
+         TURNED(NOTHING), \
+         SETTLING(WORDS({0x60, 0xA000}, __VA_ARGS__)))
+
+/* "A held frame is stored by the length and location it arrived under, whatever Configure has said since": a frame
+   comes between a Configure's begin and its end, and is begun after it. The one before it only makes the command unit
+   the next */
+#define HELD_ACROSS(first, second, ...) \
+    CASE("held across", \
+         WORDS({0x42, 0x8002}, {0x46, 0x0004}, {0x48, (first) * 256}, {0x52, 0x8002}, {0x56, 0x0004}, \
+               {0x58, (second) * 256}, DESCRIPTORS, BUFFER_AT(0xA0, 0xAA, 0xC0, 60), \
+               BUFFER_AT(0xAA, 0xB4, 0x100, 60), BOARD), \
+         CONFIGURED, \
+         RECEIVING, \
+         CAME(BROADCAST(46), GOOD, NOTHING), \
+         TURNED(NOTHING), \
+         TURNED(NOTHING), \
+         STEP(WORDS({0x32, 0x0100}, {0x34, 0x50}), ATTENTION, QUIET, WORDS({0x30, 0x0240}), LOW), \
+         TURNED(WORDS({0x50, 0x4000})), \
+         SETTLING(WORDS({0x60, 0xA000})), \
+         CAME(BROADCAST(46), GOOD, NOTHING), \
+         SETTLING(WORDS({0x50, 0xA000}, {0x80, 0})), \
+         TURNED(WORDS({0x80, 0x4000})), \
+         TURNED(NOTHING), \
+         SETTLING(WORDS({0x80, 0xA000}, __VA_ARGS__)))
+
+/* "14-byte tests read 'shorter than the header'": one byte below it a frame is dropped, with location 1 too; the header
+   alone is a frame, which has no data with location 0, and with location 1 has */
+#define SHORTEST(third, below, last) \
+    CASE("shortest", \
+         WORDS({0x42, 0x8002}, {0x46, 0x000C}, {0x48, (third) * 256}, {0x4E, 1}, DESCRIPTORS, \
+               BUFFER_AT(0xA0, 0xAA, 0xC0, 60), BOARD), \
+         CONFIGURED, \
+         RECEIVING, \
+         DROPPED(LQ_DROPPED_TOO_FEW, ONES(below), GOOD, NOTHING), \
+         CAME(ONES((below) + 1), GOOD, NOTHING), \
+         TURNED(WORDS({0x60, 0x4000})), \
+         last)
 
 static const struct worked_case cases[] = {
     /* the call: no byte of memory changes, no edge, the interrupt is low; no turn has work, and the next
@@ -390,10 +472,10 @@ static const struct worked_case cases[] = {
     BIT_OF_ONES(0xFFFF, 0xFFFF, 0xFFFF),
     BIT_OF_ONES(0x00AB, 0x0200, 0x0000),
     THIRD_BYTE(0x36, 0xA000),
-    THIRD_BYTE(0x02, 0x8000),
-    THIRD_BYTE(0x04, 0x8000),
+    THIRD_BYTE(0x02, 0xA000),
+    THIRD_BYTE(0x04, 0xA000),
     THIRD_BYTE(0x07, 0x8000),
-    THIRD_BYTE(0x0E, 0x8000),
+    THIRD_BYTE(0x0E, 0xA000),
     THIRD_BYTE(0x46, 0x8000),
     THIRD_BYTE(0x86, 0x8000),
     TAKES_MINIMUM(0x0A, 0, LQ_DROPPED_BAD),
@@ -407,7 +489,7 @@ static const struct worked_case cases[] = {
        would make 0, stay */
     CASE("rejected keeps",
          WORDS({0x42, 0x0002}, {0x44, 0x80}, {0x46, 0x000A}, {0x48, 0x0680}, {0x82, 0x8002}, {0x86, 0x000C},
-               {0x88, 0x0E00}, DESCRIPTORS, BUFFER_AT(0xA0, 0xAA, 0xC0, 46), BOARD),
+               {0x88, 0x4600}, DESCRIPTORS, BUFFER_AT(0xA0, 0xAA, 0xC0, 46), BOARD),
          INITIALISED,
          COMMANDING,
          TURNED(NOTHING),
@@ -559,6 +641,71 @@ static const struct worked_case cases[] = {
          TURNED(WORDS({0x60, 0x4000})),
          TURNED(WORDS({0xA0, 0x4014})),
          SETTLING(WORDS({0x60, 0x8280}, {0x30, 0x5020}, COUNTERS(0, 0, 0, 0)))),
+    PACKED_SENT(0x02, 8, {0, 0x1211}, {2, 0x0302}, {4, 0x1413}, {6, 0x2221}, {8, 0}),
+    PACKED_SENT(0x00, 4, {0, 0x1211}, {2, 0x2221}, {4, 0}),
+    PACKED_SENT(0x0A, 2, {0, 0x2221}, {2, 0}),
+    NO_BYTES_SENT(0, 0xA000),
+    NO_BYTES_SENT(0x0020, 0x8020),
+    PACKED_STORED(0x02, {0x68, 0xFFFF}, {0x6A, 0x0302}, {0x6C, 0x0504}, {0x6E, 0x7777}, {0xA0, 0xC036},
+                  {0xC0, 0x0706}),
+    PACKED_STORED(0x0A, {0x68, 0x7777}, {0x6A, 0x7777}, {0x6C, 0x7777}, {0xA0, 0xC03C}, {0xC0, 0xFFFF},
+                  {0xC2, 0x0302}, {0xFA, 0x3B3A}),
+    HELD_ACROSS(0x06, 0x0A, {0x88, 0xFFFF}, {0x8E, 0x0302}, {0x94, 0x0008}, {0xAA, 0xC02E}, {0x100, 0x0201}),
+    HELD_ACROSS(0x0A, 0x06, {0x88, 0}, {0x8E, 0}, {0xAA, 0xC03C}, {0x100, 0xFFFF}, {0x106, 0x0302}),
+    HELD_ACROSS(0x02, 0x06, {0x8C, 0xFFFF}, {0x8E, 0}, {0xAA, 0xC036}, {0x100, 0x0302}),
+    SHORTEST(0x02, 5, SETTLING(WORDS({0x60, 0xA000}, {0x66, 0xFFFF}))),
+    SHORTEST(0x0A, 5, TURNED(WORDS({0xA0, 0xC006}))),
+    SHORTEST(0x08, 1, TURNED(WORDS({0xA0, 0xC002}))),
+
+    /* the own address is compared by its first two bytes */
+    CASE("own by two",
+         WORDS({0x42, 0x0001}, {0x44, 0x80}, {0x46, 0x0302}, {0x48, 0x0504}, {0x4A, 0x0706}, {0x82, 0x8002},
+               {0x86, 0x0004}, {0x88, 0x0200}, DESCRIPTORS, BOARD),
+         BOTH_DONE,
+         RECEIVING,
+         DROPPED(LQ_DROPPED_NO_MATCH, TO(2, 4, 4, 5, 6, 7), GOOD, NOTHING),
+         TURNED(WORDS({0x60, 0})),
+         CAME(TO(2, 3, 9, 9, 9, 9), GOOD, NOTHING),
+         TURNED(WORDS({0x60, 0x4000}))),
+
+    /* "MC-Setup's addresses have that length": of five bytes two addresses of two, 03-02 and 05-02, and 07-03 is none
+       of them */
+    CASE("listed by two",
+         WORDS({0x42, 0x0002}, {0x44, 0x80}, {0x46, 0x0004}, {0x48, 0x0200}, {0x82, 0x8003}, {0x86, 5},
+               {0x88, 0x0203}, {0x8A, 0x0205}, {0x8C, 0x0307}, DESCRIPTORS, BOARD),
+         BOTH_DONE,
+         RECEIVING,
+         DROPPED(LQ_DROPPED_NO_MATCH, TO(7, 3, 0, 0, 0, 0), GOOD, NOTHING),
+         TURNED(WORDS({0x60, 0})),
+         CAME(TO(5, 2, 9, 9, 9, 9), GOOD, NOTHING),
+         TURNED(WORDS({0x60, 0x4000}))),
+
+    /* a filter outlives the length it was made by: 01-22 falls on the bit of 03-02-00-00-00-00, and 03-02 does not */
+    CASE("bits outlive",
+         WORDS({0x42, 0x0003}, {0x44, 0x80}, {0x46, 6}, {0x48, 0x0203}, {0x82, 0x8002}, {0x86, 0x0004},
+               {0x88, 0x0200}, DESCRIPTORS, BOARD),
+         BOTH_DONE,
+         RECEIVING,
+         DROPPED(LQ_DROPPED_NO_MATCH, TO(3, 2, 0, 0, 0, 0), GOOD, NOTHING),
+         TURNED(WORDS({0x60, 0})),
+         CAME(TO(1, 0x22, 0, 0, 0, 0), GOOD, NOTHING),
+         TURNED(WORDS({0x60, 0x4000}))),
+
+    /* at length 0 "only promiscuous mode receives": all FFh is neither everyone's nor the own address, which is six
+       FFh; received, its header is two bytes of type */
+    CASE("nobodys",
+         WORDS({0x42, 0x8002}, {0x46, 0x0004}, {0x52, 0x8002}, {0x56, 0x0009}, {0x5E, 1}, {0x6A, 0x7777}, DESCRIPTORS,
+               BUFFER_AT(0xA0, 0xAA, 0xC0, 60), BOARD),
+         CONFIGURED,
+         RECEIVING,
+         DROPPED(LQ_DROPPED_NO_MATCH, BROADCAST(46), GOOD, NOTHING),
+         STEP(WORDS({0x32, 0x0100}, {0x34, 0x50}), ATTENTION, QUIET, WORDS({0x30, 0x0240}), LOW),
+         TURNED(WORDS({0x60, 0})),
+         SETTLING(WORDS({0x50, 0xA000})),
+         CAME(BROADCAST(46), GOOD, NOTHING),
+         TURNED(NOTHING),
+         TURNED(WORDS({0xA0, 0xC03A}, {0xC0, 0xFFFF}, {0xC4, 0x0302})),
+         SETTLING(WORDS({0x60, 0xA000}, {0x68, 0xFFFF}, {0x6A, 0x7777}))),
 };
 
 void edges(void)

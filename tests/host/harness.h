@@ -117,10 +117,13 @@ struct word {
 #define WORDS(...) ((const struct word[]){__VA_ARGS__, {NO_PLACE, 0}})
 #define NOTHING ((const struct word *)0)
 
+/* the header of a frame as long as no Configure has set another length: 14 bytes */
+enum { HEADER_AFTER_RESET = LQ_FRAME_HEADER(LQ_ADDRESS_LENGTH_AFTER_RESET) };
+
 /* A frame: the bytes of its head, then n bytes that begin with `from` and grow by `step`. */
 struct frame_form {
     size_t head_len;
-    uint8_t head[LQ_FRAME_HEADER];
+    uint8_t head[HEADER_AFTER_RESET];
     unsigned from, step;
     size_t n;
 };
@@ -174,6 +177,8 @@ void commands(void);
 void hashes(uint64_t seed);
 void receiving(void);
 void reasons(void);
+void headers(void);
+void addresses(void);
 void copies(void);
 void shapes(void);
 void random_calls(unsigned long calls, uint64_t seed);

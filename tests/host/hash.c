@@ -22,23 +22,29 @@ static uint64_t filter_after(struct chip *chip, const uint8_t addresses[][6], un
     return filter_of(chip);
 }
 
-/* the one bit that the archive sets for an address; a filter of none or several is no answer */
-static unsigned archive_hash(struct chip *chip, const uint8_t *address)
+/* the one bit that the archive sets for an address of the length that is configured; a filter of none or several is no
+   answer */
+static unsigned archive_hash(struct chip *chip, unsigned length, const uint8_t *address)
 {
-    uint8_t list[1][6];
-    memcpy(list[0], address, 6);
-    uint64_t filter = filter_after(chip, list, 1);
+    put_bytes(chip, BLOCK + LQ_MC_ADDRESSES, address, length);
+    run_mc_setup_of(chip, length, BLOCK, length);
+    uint64_t filter = filter_of(chip);
     unsigned bit = 0;
     while (bit < 63 && !(filter >> bit & 1)) bit++;
     CHECK(filter == (uint64_t)1 << bit, "one address makes the filter %016lX", (unsigned long)filter);
     return bit;
 }
 
+static void check_hash_of(struct chip *chip, unsigned length, const uint8_t *address)
+{
+    unsigned found = archive_hash(chip, length, address), expected = hash_of_first(address, length);
+    CHECK(found == expected, "of %02X-%02X-%02X-%02X-%02X-%02X the first %u bytes fall on %u, by the paper on %u",
+          address[0], address[1], address[2], address[3], address[4], address[5], length, found, expected);
+}
+
 static void check_hash(struct chip *chip, const uint8_t *address)
 {
-    unsigned found = archive_hash(chip, address), expected = hash_of(address);
-    CHECK(found == expected, "%02X-%02X-%02X-%02X-%02X-%02X falls on %u, by the paper on %u", address[0], address[1],
-          address[2], address[3], address[4], address[5], found, expected);
+    check_hash_of(chip, 6, address);
 }
 
 /* ---- values that were computed from the paper beforehand ---- */
@@ -54,7 +60,7 @@ static void known_values(struct chip *chip)
         {{0x01, 0x00, 0x00, 0x00, 0x00, 0x00}, 5},  {{0xCF, 0x00, 0x00, 0x00, 0x00, 0x00}, 43}};
     for (size_t i = 0; i < COUNT_OF(known); i++) {
         begin_case("a known value");
-        unsigned paper = hash_of(known[i].address), found = archive_hash(chip, known[i].address);
+        unsigned paper = hash_of(known[i].address), found = archive_hash(chip, 6, known[i].address);
         CHECK(paper == known[i].bit, "the paper's function gives %u, expected %u", paper, known[i].bit);
         CHECK(found == known[i].bit, "the archive gives %u, expected %u", found, known[i].bit);
     }
@@ -122,6 +128,43 @@ static void unions(struct chip *chip)
     }
 }
 
+/* ---- shorter addresses: the same fold of fewer bytes ---- */
+
+/* of FF-FF-.., 01-00-.. and CF-00-.., so many bytes of each: computed beforehand as the values above */
+static const unsigned SHORT_VALUES[ADDRESS_LENGTHS][3] = {
+    [1] = {0, 50, 11}, [2] = {0, 15, 26}, [3] = {0, 4, 50}, [4] = {0, 11, 24}, [5] = {45, 1, 18}, [6] = {59, 5, 43}};
+
+static void known_short_values(struct chip *chip, unsigned length)
+{
+    static const uint8_t addresses[3][6] = {{0xFF, 0xFF, 0xFF, 0xFF, 0xFF, 0xFF}, {0x01}, {0xCF}};
+    begin_case("known values of shorter addresses");
+    for (unsigned i = 0; i < 3; i++) {
+        unsigned paper = hash_of_first(addresses[i], length), found = archive_hash(chip, length, addresses[i]);
+        CHECK(paper == SHORT_VALUES[length][i], "length %u: the paper's function gives %u", length, paper);
+        CHECK(found == SHORT_VALUES[length][i], "length %u: the archive gives %u", length, found);
+    }
+}
+
+/* known ones, each bit alone, the 64 groups, random ones */
+static void short_addresses(struct chip *chip, unsigned length)
+{
+    enum { RANDOM = 1000 };
+    configure(chip, (struct addressing){.length = (uint8_t)length}, 0);
+    known_short_values(chip, length);
+    begin_case("shorter addresses");
+    for (unsigned bit = 0; bit < 8 * length; bit++) {
+        uint8_t address[6] = {0};
+        address[bit / 8] = (uint8_t)(1 << bit % 8);
+        check_hash_of(chip, length, address);
+    }
+    for (unsigned i = 0; i < 64 + RANDOM; i++) {
+        uint8_t address[6];
+        if (i < 64) group_of(length, i, address);
+        else random_address(address);
+        check_hash_of(chip, length, address);
+    }
+}
+
 /* ---- the other way: a record with one bit of the filter lets one of the 64 groups in ---- */
 
 static void bits_of_records(void)
@@ -145,6 +188,7 @@ void hashes(uint64_t seed)
     single_bits(&chip);
     random_addresses(&chip);
     unions(&chip);
+    for (unsigned length = 1; length < ADDRESS_LENGTHS; length++) short_addresses(&chip, length);
     chip_free(&chip);
     bits_of_records();
 }

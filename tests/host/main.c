@@ -56,6 +56,8 @@ int main(int argc, char **argv)
     subject("hash", hash_subject);
     subject("receiving", receiving);
     subject("reasons", reasons);
+    subject("headers", headers);
+    subject("addresses", addresses);
     subject("copies", copies);
     subject("shapes", shapes);
     subject("random", random_subject);

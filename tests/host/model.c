@@ -11,7 +11,7 @@ enum {
     EL = 0x8000, S = 0x4000, I = 0x2000,
     EOF_BIT = 0x8000, F = 0x4000, LOW_14 = 0x3FFF,
     NONE = 0xFFFF,
-    LONGEST = 2048, HEADER = 14, MOST_BUFFERS = 64
+    LONGEST = 2048, MOST_BUFFERS = 64, MOST_ADDRESS = 6
 };
 
 /* ---- "Calls, lent areas, refusals" ---- */
@@ -84,6 +84,20 @@ static uint32_t at(const struct model *chip, uint16_t offset)
     return chip->base + offset;
 }
 
+/* ---- headers ---- */
+
+/* "The header has twice the length plus two bytes" */
+static unsigned header_of(struct addressing addressing)
+{
+    return 2u * addressing.length + 2u;
+}
+
+/* the bytes of a frame that are not in buffers: its header, and none where "the whole frame goes through buffers" */
+static unsigned outside_buffers(struct addressing addressing)
+{
+    return addressing.in_buffers ? 0 : header_of(addressing);
+}
+
 /* ---- reset ---- */
 
 struct answer model_reset(struct model *chip)
@@ -91,6 +105,7 @@ struct answer model_reset(struct model *chip)
     memset(chip, 0, sizeof *chip);
     memset(chip->own, 0xFF, sizeof chip->own);
     chip->settings.minimum = 64;
+    chip->settings.addressing.length = MOST_ADDRESS;
     chip->served = UNIT_CU; /* "after reset RU first" */
     return nothing();
 }
@@ -240,18 +255,24 @@ struct answer model_attention(struct model *chip, struct lent l)
 
 enum cmd { NOP, IA_SETUP, CONFIGURE, MC_SETUP, TRANSMIT, TDR, DUMP, DIAGNOSE };
 
-/* "The header goes to the outgoing area at begin" */
+/* "Block and descriptor fields are packed": destination, own address, type */
+static void put_header(const struct model *chip, struct lent l, uint32_t block)
+{
+    unsigned length = chip->settings.addressing.length;
+    for (unsigned i = 0; i < length; i++) {
+        l.outgoing[i] = byte_at(l, block + 8 + i);
+        l.outgoing[length + i] = chip->own[i];
+    }
+    for (unsigned i = 0; i < 2; i++) l.outgoing[2 * length + i] = byte_at(l, block + 8 + length + i);
+}
+
+/* "The header goes to the outgoing area at begin"; with location 1 "the chip inserts no source address" */
 static void begin_transmit(struct model *chip, struct lent l)
 {
     struct command_unit *cu = &chip->cu;
     uint32_t block = at(chip, cu->block);
-    for (unsigned i = 0; i < 6; i++) {
-        l.outgoing[i] = byte_at(l, block + 8 + i);
-        l.outgoing[6 + i] = chip->own[i];
-    }
-    l.outgoing[12] = byte_at(l, block + 14);
-    l.outgoing[13] = byte_at(l, block + 15);
-    cu->filled = HEADER;
+    if (!chip->settings.addressing.in_buffers) put_header(chip, l, block);
+    cu->filled = (uint16_t)outside_buffers(chip->settings.addressing);
     uint16_t first = word_at(l, block + 6);
     if (first == NONE) return;
     cu->phase = COMMAND_BUFFERS;
@@ -307,12 +328,14 @@ static void transmit_buffer(struct model *chip, struct lent l)
 
 /* the actions: each answers the status */
 
+/* "six bytes at +6", whatever the address length */
 static unsigned ia_setup(struct model *chip, struct lent l, uint32_t block)
 {
     for (unsigned i = 0; i < 6; i++) chip->own[i] = byte_at(l, block + 6 + i);
     return C | OK;
 }
 
+/* "7 and loopback still give 8000h": byte 3 is taken by every count */
 static unsigned configure(struct model *chip, struct lent l, uint32_t block)
 {
     uint32_t bytes = block + 6;
@@ -320,7 +343,8 @@ static unsigned configure(struct model *chip, struct lent l, uint32_t block)
     if (taken < 4) taken = 4;
     if (taken > 12) taken = 12;
     unsigned third = byte_at(l, bytes + 3);
-    if ((third & 7) != 6 || (third & 0x08) || (third & 0xC0)) return C;
+    if ((third & 7) > MOST_ADDRESS || (third & 0xC0)) return C;
+    chip->settings.addressing = (struct addressing){.length = third & 7, .in_buffers = third >> 3 & 1};
     chip->settings.save_bad = byte_at(l, bytes + 2) >> 7;
     if (taken > 8) {
         unsigned eighth = byte_at(l, bytes + 8);
@@ -331,15 +355,17 @@ static unsigned configure(struct model *chip, struct lent l, uint32_t block)
     return C | OK;
 }
 
-/* "low 14 bits at +6 count bytes, addresses from +8, a remainder ignored"; the filter is made anew */
+/* "low 14 bits at +6 count bytes, addresses from +8, a remainder ignored"; "MC-Setup's addresses have that length; at 0
+   it empties the filter". The filter is made anew */
 static unsigned mc_setup(struct model *chip, struct lent l, uint32_t block)
 {
-    unsigned addresses = (word_at(l, block + 6) & LOW_14) / 6;
+    unsigned length = chip->settings.addressing.length;
+    unsigned addresses = length == 0 ? 0 : (word_at(l, block + 6) & LOW_14) / length;
     chip->filter = 0;
     for (unsigned a = 0; a < addresses; a++) {
-        uint8_t address[6];
-        for (unsigned i = 0; i < 6; i++) address[i] = byte_at(l, block + 8 + 6 * a + i);
-        chip->filter |= bit_of(address);
+        uint8_t address[MOST_ADDRESS];
+        for (unsigned i = 0; i < length; i++) address[i] = byte_at(l, block + 8 + length * a + i);
+        chip->filter |= bit_of_first(address, length);
     }
     return C | OK;
 }
@@ -401,19 +427,22 @@ static struct answer serve_cu(struct model *chip, struct lent l, uint16_t report
 
 /* ---- "Arrival and storing" ---- */
 
-static bool all_ones(const uint8_t *address)
+static bool all_ones(const uint8_t *address, unsigned length)
 {
-    for (unsigned i = 0; i < 6; i++)
+    for (unsigned i = 0; i < length; i++)
         if (address[i] != 0xFF) return false;
     return true;
 }
 
+/* "at 0 ... only promiscuous mode receives": an address of no bytes is nobody's, though it equals every other */
 static bool match(const struct model *chip, const uint8_t *destination)
 {
+    unsigned length = chip->settings.addressing.length;
     if (chip->settings.promiscuous) return true;
-    if (all_ones(destination)) return !chip->settings.broadcast_disabled;
-    if (memcmp(destination, chip->own, 6) == 0) return true;
-    return (destination[0] & 1) && (chip->filter & bit_of(destination)) != 0;
+    if (length == 0) return false;
+    if (all_ones(destination, length)) return !chip->settings.broadcast_disabled;
+    if (memcmp(destination, chip->own, length) == 0) return true;
+    return (destination[0] & 1) && (chip->filter & bit_of_first(destination, length)) != 0;
 }
 
 static enum verdict verdict_of(uint32_t verdict)
@@ -430,12 +459,13 @@ static void hold(struct model *chip, struct lent l, const uint8_t *frame, size_t
     chip->ru.verdict = verdict;
     chip->ru.is_short = is_short;
     chip->ru.save_bad = chip->settings.save_bad;
+    chip->ru.under = chip->settings.addressing;
 }
 
 /* "In order": the first sentence that applies is the frame's fate, and the reason if that is to be dropped */
 struct answer model_arrival(struct model *chip, struct lent l, const uint8_t *frame, size_t length, uint32_t number)
 {
-    if (length < HEADER) return dropped(TOO_FEW_BYTES);
+    if (length < header_of(chip->settings.addressing)) return dropped(TOO_FEW_BYTES);
     if (!match(chip, frame)) return dropped(NO_MATCH);
     if (chip->ru.state == RU_IDLE) return dropped(UNIT_IDLE);
     if (chip->ru.state == RU_SUSPENDED) return dropped(UNIT_SUSPENDED);
@@ -479,14 +509,15 @@ static void begin_frame(struct model *chip, struct lent l)
     put_word(l, descriptor, B);
     ru->el = (command & EL) != 0;
     ru->s = (command & S) != 0;
-    if (ru->length == HEADER) {
+    unsigned outside = outside_buffers(ru->under);
+    if (ru->length == outside) {
         frame_is_stored(ru, first, false);
     } else if (first == NONE) {
         out_of_buffers(ru);
     } else {
         ru->phase = FRAME_BUFFERS;
         ru->next = first;
-        ru->done = HEADER;
+        ru->done = (uint16_t)outside;
     }
 }
 
@@ -529,9 +560,10 @@ static unsigned frame_status(const struct receive_unit *ru)
 
 static void store_descriptor(const struct receive_unit *ru, struct lent l, uint32_t descriptor)
 {
-    for (unsigned i = 0; i < HEADER; i++) put_byte(l, descriptor + 8 + i, l.holding[i]);
+    unsigned outside = outside_buffers(ru->under);
+    for (unsigned i = 0; i < outside; i++) put_byte(l, descriptor + 8 + i, l.holding[i]);
     put_word(l, descriptor, frame_status(ru));
-    if (ru->length == HEADER) put_word(l, descriptor + 6, NONE);
+    if (ru->length == outside) put_word(l, descriptor + 6, NONE);
 }
 
 static struct answer end_frame(struct model *chip, struct lent l)

@@ -17,6 +17,12 @@ enum ru_state { RU_IDLE = 0, RU_SUSPENDED = 1, RU_NO_RESOURCES = 2, RU_READY = 4
 enum unit { UNIT_CU, UNIT_RU };
 enum verdict { VERDICT_GOOD, VERDICT_CRC, VERDICT_MISALIGNED };
 
+/* how many bytes an address has, 0 to 6, and where headers are: in block and descriptor or, location 1, in buffers */
+struct addressing {
+    uint8_t length;
+    bool in_buffers;
+};
+
 /* how far a begun command is; only a Transmit has buffers */
 enum command_phase { COMMAND_NOT_BEGUN, COMMAND_BUFFERS, COMMAND_END, COMMAND_END_FAILED };
 
@@ -42,16 +48,18 @@ struct receive_unit {
     bool el, s; /* of the frame descriptor, read at begin */
     enum verdict verdict;
     bool is_short, save_bad; /* judged at arrival */
+    struct addressing under; /* as it was at arrival: "whatever Configure has said since" */
     uint16_t length;
     uint16_t next; /* buffers: the next descriptor; end: the next free one */
     uint16_t used; /* buffers: descriptors used */
-    uint16_t done; /* buffers: bytes of the frame that are stored, the header counted */
+    uint16_t done; /* buffers: bytes of the frame that are stored, a header outside the buffers counted */
     bool last_el;  /* end: EL stood in the last buffer descriptor used */
 };
 
 struct settings {
     bool save_bad, promiscuous, broadcast_disabled;
     uint8_t minimum;
+    struct addressing addressing;
 };
 
 struct model {

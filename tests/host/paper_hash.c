@@ -59,15 +59,25 @@ unsigned paper_hash(unsigned al, const bool *x)
 
 /* The program reads an address's digits from the most significant on and puts bit l of digit k at 4 * k + l, so the
    byte that is sent first is the last pair of digits typed, and its bits are x[0] to x[7]. */
-unsigned hash_of(const uint8_t *address)
+unsigned hash_of_first(const uint8_t *address, unsigned bytes)
 {
     bool x[48];
-    for (unsigned byte = 0; byte < 6; byte++)
+    for (unsigned byte = 0; byte < bytes; byte++)
         for (unsigned bit = 0; bit < 8; bit++) x[8 * byte + bit] = address[byte] >> bit & 1;
-    return paper_hash(6, x);
+    return paper_hash(bytes, x);
+}
+
+unsigned hash_of(const uint8_t *address)
+{
+    return hash_of_first(address, 6);
+}
+
+uint64_t bit_of_first(const uint8_t *address, unsigned bytes)
+{
+    return (uint64_t)1 << hash_of_first(address, bytes);
 }
 
 uint64_t bit_of(const uint8_t *address)
 {
-    return (uint64_t)1 << hash_of(address);
+    return bit_of_first(address, 6);
 }

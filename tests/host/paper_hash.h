@@ -12,10 +12,12 @@
    first. Answers 0 to 63. */
 unsigned paper_hash(unsigned al, const bool *x);
 
-/* The same of six bytes as they stand in memory, the first to be sent first. */
+/* The same of so many bytes as they stand in memory, the first to be sent first; and of six. */
+unsigned hash_of_first(const uint8_t *address, unsigned bytes);
 unsigned hash_of(const uint8_t *address);
 
 /* The filter with this bit alone. */
+uint64_t bit_of_first(const uint8_t *address, unsigned bytes);
 uint64_t bit_of(const uint8_t *address);
 
 #endif

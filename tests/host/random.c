@@ -3,7 +3,7 @@
  * that the units get somewhere: structures of each kind stand at a few spots, which may lie over each other, and point
  * to each other.
  * From the same seed come the same calls, with every compiler: no expression draws two numbers whose order is open. At
- * the end every kind of turn, and every reason, must have happened often enough.
+ * the end every kind of turn, every reason, every address length and both locations must have happened often enough.
  */
 #include "setup.h"
 
@@ -101,13 +101,40 @@ static unsigned with(unsigned word, unsigned bits, unsigned n)
     return one_in(n) ? word | bits : word;
 }
 
+/* the address length and location that are set now */
+static struct addressing addressing_now(const struct board *board)
+{
+    return board->chip.model.settings.addressing;
+}
+
+/* GROUP, or one of 64 groups with addresses of the length that is set now, which fall on as many bits */
+static void draw_group(const struct board *board, uint8_t *address)
+{
+    unsigned length = addressing_now(board).length, number = below(64);
+    if (length == 0 || one_in(3)) memcpy(address, GROUP, 6);
+    else group_of(length, number, address);
+}
+
 /* ---- what the host writes ---- */
 
-/* GROUP, or one of 64 groups that fall on as many bits */
-static void put_group(struct chip *chip, uint32_t at)
+/* Configure's byte 3: as after reset, anything, but mostly any length but 7 and either location */
+static unsigned random_third(void)
 {
-    const uint8_t one[6] = {1, 0, 0, 0, 0, (uint8_t)below(64)};
-    put_bytes(chip, at, one_in(3) ? GROUP : one, 6);
+    if (one_in(4)) return LQ_ADDRESS_LENGTH_AFTER_RESET;
+    if (one_in(8)) return below(256);
+    unsigned length = below(ADDRESS_LENGTHS);
+    return with(length, LQ_ADDRESS_LOCATION, 2);
+}
+
+/* a few groups in a row */
+static void write_groups(struct board *board, uint32_t at)
+{
+    unsigned length = addressing_now(board).length;
+    for (uint32_t a = below(4); a-- > 0;) {
+        uint8_t group[6];
+        draw_group(board, group);
+        put_bytes(&board->chip, at + length * a, group, length);
+    }
 }
 
 static void write_parameters(struct board *board, uint32_t at, unsigned cmd)
@@ -120,16 +147,16 @@ static void write_parameters(struct board *board, uint32_t at, unsigned cmd)
     case LQ_CMD_CONFIGURE:
         put_byte(chip, at + 6, below(256));
         put_byte(chip, at + 8, one_in(4) ? 0 : LQ_SAVE_BAD);
-        put_byte(chip, at + 9, one_in(5) ? below(256) : LQ_ADDRESS_LENGTH);
+        put_byte(chip, at + 9, random_third());
         put_byte(chip, at + 14, below(4));
         put_byte(chip, at + 16, one_in(2) ? below(256) : 64);
         break;
     case LQ_CMD_MC_SETUP:
         put_word(chip, at + LQ_MC_COUNT, random_list_count());
-        for (uint32_t a = below(4); a-- > 0;) put_group(chip, at + LQ_MC_ADDRESSES + 6 * a);
+        write_groups(board, at + LQ_MC_ADDRESSES);
         break;
     case LQ_CMD_TRANSMIT:
-        put_word(chip, at + LQ_TRANSMIT_BUFFER, offset_or_none(board, TBD));
+        put_word(chip, at + LQ_TRANSMIT_BUFFER, one_in(4) ? LQ_NONE : offset_or_none(board, TBD));
         break;
     default: break;
     }
@@ -227,8 +254,22 @@ static struct answer random_attention(struct board *board)
     return call(&board->chip, ATTENTION_CALL);
 }
 
-static size_t random_length(void)
+/* The host starts a Configure. */
+static struct answer configuring_attention(struct board *board)
 {
+    uint32_t scb = board->base + board->scb;
+    unsigned offset = random_offset(board, BLOCK), link = random_offset(board, BLOCK);
+    put_block(&board->chip, board->base + offset, with(LQ_CMD_CONFIGURE, LQ_EL, 2), link);
+    write_parameters(board, board->base + offset, LQ_CMD_CONFIGURE);
+    put_word(&board->chip, scb + LQ_SCB_CBL, offset);
+    put_word(&board->chip, scb + LQ_SCB_COMMAND, LQ_EVENTS | LQ_CUC(LQ_START));
+    return call(&board->chip, ATTENTION_CALL);
+}
+
+/* at times about as long as a header is now */
+static size_t random_length(const struct board *board)
+{
+    if (one_in(5)) return LQ_FRAME_HEADER(addressing_now(board).length) - 1u + below(3);
     if (one_in(12)) return below(15);
     if (one_in(8)) return below(LQ_FRAME_MAX + 1);
     return 14 + below(one_in(3) ? 50 : 120);
@@ -238,15 +279,34 @@ static size_t random_length(void)
 static uint8_t frame[LQ_FRAME_MAX];
 static size_t frame_length;
 
+/* To everyone, to the own address, to a group, to anyone; what stands behind a short address is any, or as if it had six
+   bytes. */
 static struct answer random_arrival(struct board *board)
 {
-    const uint8_t one[6] = {1, 0, 0, 0, 0, (uint8_t)below(64)};
-    frame_length = random_length();
+    uint8_t group[6];
+    draw_group(board, group);
+    size_t bytes = one_in(2) ? 6 : addressing_now(board).length;
+    frame_length = random_length(board);
     for (size_t i = 0; i < frame_length; i++) frame[i] = (uint8_t)random_bits();
-    const uint8_t *destination = one_in(2) ? EVERYONE : one_in(3) ? OWN : one_in(3) ? GROUP : one_in(2) ? one : frame;
-    for (size_t i = 0; i < 6 && i < frame_length; i++) frame[i] = destination[i];
+    const uint8_t *destination = one_in(2) ? EVERYONE : one_in(3) ? OWN : one_in(3) ? GROUP : one_in(2) ? group : frame;
+    for (size_t i = 0; i < bytes && i < frame_length; i++) frame[i] = destination[i];
     uint32_t verdict = one_in(2) ? 0 : one_in(8) ? (uint32_t)random_bits() : below(3);
     return call(&board->chip, ARRIVAL_CALL(frame, frame_length, verdict));
+}
+
+/* a Configure is begun, and a frame that comes now is held across it */
+static bool may_hold_across(const struct model *model)
+{
+    bool configuring = model->cu.phase == COMMAND_END && model->cu.cmd == LQ_CMD_CONFIGURE;
+    return configuring && model->ru.state == RU_READY && model->ru.phase == FRAME_NONE;
+}
+
+/* A good frame to everyone, never short. */
+static struct answer welcome_arrival(struct board *board)
+{
+    frame_length = 256 + below(64);
+    for (size_t i = 0; i < frame_length; i++) frame[i] = i < 6 ? 0xFF : (uint8_t)random_bits();
+    return call(&board->chip, ARRIVAL_CALL(frame, frame_length, LQ_VERDICT_GOOD));
 }
 
 static struct answer random_turn(struct board *board)
@@ -308,7 +368,8 @@ static uint64_t hash_state(const struct model *m)
         m->initialised, m->base, m->scb, m->events, m->served, m->settings.save_bad, m->settings.promiscuous,
         m->settings.broadcast_disabled, m->settings.minimum, cu->state, cu->block, cu->phase, cu->el, cu->s, cu->i,
         cu->waiting, cu->cmd, cu->next, cu->used, cu->filled, ru->state, ru->descriptor, ru->phase, ru->waiting, ru->el,
-        ru->s, ru->verdict, ru->is_short, ru->save_bad, ru->length, ru->next, ru->used, ru->done, ru->last_el};
+        ru->s, ru->verdict, ru->is_short, ru->save_bad, ru->length, ru->next, ru->used, ru->done, ru->last_el,
+        m->settings.addressing.length, m->settings.addressing.in_buffers, ru->under.length, ru->under.in_buffers};
     uint64_t hash = 1;
     for (size_t i = 0; i < COUNT_OF(fields); i++) hash = mix(hash, fields[i]);
     hash = hash_bytes(hash, m->own, sizeof m->own);
@@ -344,7 +405,8 @@ enum event {
     CU_BEGIN, CU_BUFFER, CU_END, CU_END_FAILED, CU_WAITING, RU_BEGIN, RU_BUFFER, RU_END, RU_END_OUT, RU_WAITING,
     BOTH_WORK, NO_WORK, SENT, HELD_BAD, ABORTED_COMMAND, ABORTED_FRAME, RESETTING, OVERRUN, LIST_OVER_BLOCK,
     GROUP_PASSES, GROUP_DROPPED, FOR_TOO_FEW, FOR_NO_MATCH, FOR_IDLE, FOR_SUSPENDED, FOR_BAD, NOT_INITIALISED, LOST,
-    SAVING_LOST, EVENT_KINDS
+    SAVING_LOST, WHOLE_IN_BUFFERS, NO_BYTES, HELD_IN_BUFFERS, HEADER_LESS_ONE, HEADER_ALONE, HEADER_AND_ONE,
+    OTHER_LENGTH, OTHER_LOCATION, BEGUN_UNDER_OTHER, HELD_UNDER, EVENT_KINDS = HELD_UNDER + ADDRESS_LENGTHS
 };
 
 static const char *const EVENT_NAMES[EVENT_KINDS] = {
@@ -355,7 +417,12 @@ static const char *const EVENT_NAMES[EVENT_KINDS] = {
     "groups held by their bit", "groups dropped by a clear bit, others set", "frames dropped for too few bytes",
     "frames dropped for no match", "frames dropped in Idle", "frames dropped in Suspended", "bad frames dropped",
     "frames for a chip that is not initialised", "good frames in No Resources",
-    "bad frames in No Resources with save-bad set"};
+    "bad frames in No Resources with save-bad set", "transmits with their header in buffers", "transmits of no bytes",
+    "frames held with location 1", "frames a byte short of a header in Ready", "headers held", "headers and a byte held",
+    "frames ended under another length than is set", "frames ended under another location than is set",
+    "frames begun under another length or location than is set", "frames held under length 0",
+    "frames held under length 1", "frames held under length 2", "frames held under length 3",
+    "frames held under length 4", "frames held under length 5", "frames held under length 6"};
 
 static unsigned long happened[EVENT_KINDS];
 
@@ -364,7 +431,30 @@ static bool is_over_its_block(const struct chip *chip, const struct model *befor
 {
     if (before->cu.phase != COMMAND_END || before->cu.cmd != LQ_CMD_MC_SETUP) return false;
     unsigned count = word_of(chip, before->base + before->cu.block + LQ_MC_COUNT) & LQ_COUNT;
-    return LQ_MC_ADDRESSES + count / 6 * 6 > chip->lent.memory.length;
+    unsigned length = before->settings.addressing.length;
+    return length > 0 && LQ_MC_ADDRESSES + count / length * length > chip->lent.memory.length;
+}
+
+static void note_command(const struct chip *chip, const struct model *before)
+{
+    bool whole = before->cu.phase == COMMAND_END && before->cu.cmd == LQ_CMD_TRANSMIT;
+    happened[CU_BEGIN + before->cu.phase]++;
+    happened[CU_WAITING] += before->cu.waiting;
+    happened[LIST_OVER_BLOCK] += is_over_its_block(chip, before);
+    happened[WHOLE_IN_BUFFERS] += whole && before->settings.addressing.in_buffers && before->cu.filled > 0;
+    happened[NO_BYTES] += whole && before->cu.filled == 0;
+}
+
+static void note_frame(const struct model *before)
+{
+    struct addressing under = before->ru.under, set = before->settings.addressing;
+    bool ends = before->ru.phase == FRAME_END || before->ru.phase == FRAME_END_OUT_OF_BUFFERS;
+    bool other = under.length != set.length || under.in_buffers != set.in_buffers;
+    happened[RU_BEGIN + before->ru.phase - FRAME_HELD]++;
+    happened[RU_WAITING] += before->ru.waiting;
+    happened[OTHER_LENGTH] += ends && under.length != set.length;
+    happened[OTHER_LOCATION] += ends && under.in_buffers != set.in_buffers;
+    happened[BEGUN_UNDER_OTHER] += before->ru.phase == FRAME_HELD && other;
 }
 
 static void note_turn(const struct chip *chip, const struct model *before, const struct answer *answer)
@@ -374,14 +464,8 @@ static void note_turn(const struct chip *chip, const struct model *before, const
     happened[BOTH_WORK] += cu_work && ru_work;
     happened[NO_WORK] += !cu_work && !ru_work;
     happened[SENT] += answer->length > 0;
-    if (cu) {
-        happened[CU_BEGIN + before->cu.phase]++;
-        happened[CU_WAITING] += before->cu.waiting;
-        happened[LIST_OVER_BLOCK] += is_over_its_block(chip, before);
-    } else if (ru_work) {
-        happened[RU_BEGIN + before->ru.phase - FRAME_HELD]++;
-        happened[RU_WAITING] += before->ru.waiting;
-    }
+    if (cu) note_command(chip, before);
+    else if (ru_work) note_frame(before);
 }
 
 static void note_attention(const struct model *before, const struct model *after)
@@ -402,13 +486,29 @@ static void note_reason(const struct model *before, unsigned reason)
     happened[SAVING_LOST] += lacks && before->settings.save_bad && reason == LQ_DROPPED_BAD;
 }
 
+/* how long it is beside a header, and under what it is held */
+static void note_length(const struct model *before, bool held)
+{
+    struct addressing set = before->settings.addressing;
+    size_t header = LQ_FRAME_HEADER(set.length);
+    happened[HEADER_LESS_ONE] += before->ru.state == RU_READY && frame_length + 1 == header;
+    if (!held) return;
+    happened[HEADER_ALONE] += frame_length == header;
+    happened[HEADER_AND_ONE] += frame_length == header + 1;
+    happened[HELD_IN_BUFFERS] += set.in_buffers;
+    happened[HELD_UNDER + set.length]++;
+}
+
 static void note_arrival(const struct model *before, const struct model *after)
 {
+    unsigned length = before->settings.addressing.length;
     bool held = before->ru.phase == FRAME_NONE && after->ru.phase == FRAME_HELD;
+    note_length(before, held);
     happened[HELD_BAD] += held && (after->ru.is_short || after->ru.verdict != VERDICT_GOOD);
-    bool group = frame_length >= LQ_FRAME_HEADER && (frame[0] & 1) && memcmp(frame, EVERYONE, 6) != 0;
-    if (!group || before->settings.promiscuous || memcmp(frame, before->own, 6) == 0) return;
-    bool set = (before->filter & bit_of(frame)) != 0;
+    if (length == 0 || frame_length < LQ_FRAME_HEADER(length)) return;
+    bool group = (frame[0] & 1) && memcmp(frame, EVERYONE, length) != 0;
+    if (!group || before->settings.promiscuous || memcmp(frame, before->own, length) == 0) return;
+    bool set = (before->filter & bit_of_first(frame, length)) != 0;
     happened[GROUP_PASSES] += set && held;
     happened[GROUP_DROPPED] += !set && before->filter != 0 && before->ru.state == RU_READY;
 }
@@ -427,17 +527,27 @@ static enum call_kind random_kind(const struct model *model)
     return kind < 10 ? CALL_ATTENTION : kind < 24 ? CALL_ARRIVAL : one_in(5) ? CALL_RUN : CALL_TURN;
 }
 
+/* Is it time for a Configure? Before the end of a frame, so that the next frame may come before the Configure's end; and
+   now and then while a frame is held. */
+static bool may_configure(const struct model *model)
+{
+    if (model->cu.state == CU_ACTIVE || model->ru.phase == FRAME_NONE) return false;
+    return model->ru.phase == FRAME_END ? !one_in(4) : one_in(8);
+}
+
 static void random_call(struct board *board)
 {
     struct model before = board->chip.model;
-    enum call_kind kind = random_kind(&before);
+    bool welcome = may_hold_across(&before) && !one_in(4), configuring = may_configure(&before);
+    enum call_kind kind = welcome ? CALL_ARRIVAL : configuring ? CALL_ATTENTION : random_kind(&before);
     if (one_in(4)) host_writes(board);
     if (one_in(64)) with_a_bit_changed(board);
     if (kind == CALL_ATTENTION) {
-        random_attention(board);
+        if (configuring) configuring_attention(board);
+        else random_attention(board);
         note_attention(&before, &board->chip.model);
     } else if (kind == CALL_ARRIVAL) {
-        note_reason(&before, random_arrival(board).reason);
+        note_reason(&before, (welcome ? welcome_arrival(board) : random_arrival(board)).reason);
         note_arrival(&before, &board->chip.model);
     } else if (kind == CALL_RUN) {
         random_run(board);

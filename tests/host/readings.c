@@ -201,10 +201,10 @@ static const struct worked_case cases[] = {
          CAME(TO(4, 0, 0, 0, 0, 0), GOOD, NOTHING),
          TURNED(WORDS({0x60, 0x4000}))),
 
-    /* count 10 takes byte 8, here broadcast disabled; a length of 5 is rejected and changes nothing of it */
+    /* count 10 takes byte 8, here broadcast disabled; a length of 7 is rejected and changes nothing of it */
     CASE("configure keeps",
          WORDS({0x42, 0x0002}, {0x44, 0x80}, {0x46, 0x000A}, {0x48, 0x0680}, {0x4E, 0x0002}, {0x82, 0x8002},
-               {0x86, 0x000C}, {0x88, 0x0500}, {0x90, 0x00FF}, {0x8E, 0x0001}, DESCRIPTORS, BOARD),
+               {0x86, 0x000C}, {0x88, 0x0700}, {0x90, 0x00FF}, {0x8E, 0x0001}, DESCRIPTORS, BOARD),
          INITIALISED,
          COMMANDING,
          TURNED(NOTHING),

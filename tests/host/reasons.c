@@ -84,7 +84,7 @@ static const struct address ADDRESSES[] = {
 
 /* ---- an arrival, and the answer that is expected ---- */
 
-static const size_t LENGTHS[] = {0, 13, LQ_FRAME_HEADER, WHOLE - 1, WHOLE, LQ_FRAME_MAX};
+static const size_t LENGTHS[] = {0, 13, HEADER_AFTER_RESET, WHOLE - 1, WHOLE, LQ_FRAME_MAX};
 static const uint32_t VERDICTS[] = {0, 1, 2, 7, 0xFFFFFFFF};
 
 struct line {
@@ -104,7 +104,7 @@ static struct call arrival_of(const struct address *to, size_t length, uint32_t 
 
 static enum sort sort_of(const struct line *line)
 {
-    if (line->length < LQ_FRAME_HEADER) return HEADLESS;
+    if (line->length < HEADER_AFTER_RESET) return HEADLESS;
     if (!line->to->ours) return NOT_OURS;
     if (line->length >= WHOLE && line->verdict == LQ_VERDICT_GOOD) return OURS;
     return line->saving ? BAD_SAVING : BAD;
@@ -132,7 +132,7 @@ static void put_settings(struct chip *chip, unsigned filter, bool saving)
     run_mc_setup(chip, BLOCK, 6);
     put_byte(chip, BLOCK + LQ_CB_DATA + LQ_CONFIGURE_COUNT, 9);
     put_byte(chip, BLOCK + LQ_CB_DATA + LQ_CONFIGURE_SAVE, saving ? LQ_SAVE_BAD : 0);
-    put_byte(chip, BLOCK + LQ_CB_DATA + LQ_CONFIGURE_ADDRESS, LQ_ADDRESS_LENGTH);
+    put_byte(chip, BLOCK + LQ_CB_DATA + LQ_CONFIGURE_ADDRESS, LQ_ADDRESS_LENGTH_AFTER_RESET);
     put_byte(chip, BLOCK + LQ_CB_DATA + LQ_CONFIGURE_FILTER, filter);
     run_command(chip, LQ_CMD_CONFIGURE);
 }
@@ -262,7 +262,7 @@ static void check_fresh(const char *name, struct chip fresh)
             for (size_t v = 0; v < COUNT_OF(VERDICTS); v++) {
                 struct chip chip = copy_of(&fresh);
                 bool everyone = memcmp(ADDRESSES[a].to, EVERYONE, 6) == 0;
-                unsigned reason = LENGTHS[l] < LQ_FRAME_HEADER ? LQ_DROPPED_TOO_FEW
+                unsigned reason = LENGTHS[l] < HEADER_AFTER_RESET ? LQ_DROPPED_TOO_FEW
                                 : !everyone                    ? LQ_DROPPED_NO_MATCH
                                                                : LQ_DROPPED_IDLE;
                 begin_case(name);
@@ -305,7 +305,7 @@ static void said_once(void)
     for (size_t s = 0; s < COUNT_OF(SITUATIONS); s++) {
         struct chip chip = chip_in(&SITUATIONS[s], 0, false);
         for (size_t a = 0; a < COUNT_OF(ADDRESSES); a++) {
-            check_said_once(&chip, &ADDRESSES[a], LQ_FRAME_HEADER - 1);
+            check_said_once(&chip, &ADDRESSES[a], HEADER_AFTER_RESET - 1);
             check_said_once(&chip, &ADDRESSES[a], WHOLE);
         }
         chip_free(&chip);

@@ -32,7 +32,7 @@ static void put_settings(struct chip *chip, const struct line *line)
     run_command(chip, LQ_CMD_MC_SETUP);
     put_byte(chip, BLOCK + 6, 11);
     put_byte(chip, BLOCK + 8, line->save_bad ? LQ_SAVE_BAD : 0);
-    put_byte(chip, BLOCK + 9, LQ_ADDRESS_LENGTH);
+    put_byte(chip, BLOCK + 9, LQ_ADDRESS_LENGTH_AFTER_RESET);
     put_byte(chip, BLOCK + 14,
              (line->promiscuous ? LQ_PROMISCUOUS : 0u) | (line->broadcast_disabled ? LQ_BROADCAST_DISABLED : 0u));
     put_byte(chip, BLOCK + 16, 64);

@@ -370,7 +370,7 @@ static void order_of(const struct areas *right)
             size_t length = wrong & WRONG_FRAME ? LQ_FRAME_MAX + 1 : 60;
             for (size_t k = 0; k < COUNT_OF(KINDS); k++) check_order(right, wrong, way, call_with(KINDS[k], length));
             if (wrong & WRONG_FRAME) continue;
-            check_order(right, wrong, way, call_with(CALL_ARRIVAL, LQ_FRAME_HEADER - 1));
+            check_order(right, wrong, way, call_with(CALL_ARRIVAL, HEADER_AFTER_RESET - 1));
             check_order(right, wrong, way, ARRIVAL_CALL(NULL, 0, LQ_VERDICT_CRC));
         }
 }

@@ -40,7 +40,7 @@ void put_transmit(struct chip *chip, uint32_t place, unsigned flags, unsigned li
     put_block(chip, place, flags | LQ_CMD_TRANSMIT, link);
     put_word(chip, place + LQ_TRANSMIT_BUFFER, buffer);
     put_bytes(chip, place + LQ_TRANSMIT_DESTINATION, destination, 6);
-    put_word(chip, place + LQ_TRANSMIT_TYPE, 0x0008);
+    put_word(chip, place + LQ_TRANSMIT_TYPE(LQ_ADDRESS_LENGTH_AFTER_RESET), 0x0008);
 }
 
 void put_tbd(struct chip *chip, uint32_t place, unsigned count, unsigned next, uint32_t buffer)
@@ -129,29 +129,59 @@ unsigned run_command(struct chip *chip, unsigned command)
     return word_of(chip, 0x200);
 }
 
-/* the bits of so many addresses from a place of memory on */
-static uint64_t fold_of(const struct chip *chip, uint32_t place, unsigned addresses)
+struct addressing addressing_of(unsigned number)
+{
+    return (struct addressing){.length = (uint8_t)(number % ADDRESS_LENGTHS), .in_buffers = number >= ADDRESS_LENGTHS};
+}
+
+void put_addressing(struct chip *chip, struct addressing way, unsigned save, unsigned filter, unsigned minimum)
+{
+    enum { BYTES = 0x200 + LQ_CB_DATA, COUNT = 11 };
+    for (uint32_t i = 0; i < COUNT; i++) put_byte(chip, BYTES + i, 0);
+    put_byte(chip, BYTES + LQ_CONFIGURE_COUNT, COUNT);
+    put_byte(chip, BYTES + LQ_CONFIGURE_SAVE, save);
+    put_byte(chip, BYTES + LQ_CONFIGURE_ADDRESS, way.length | (way.in_buffers ? LQ_ADDRESS_LOCATION : 0u));
+    put_byte(chip, BYTES + LQ_CONFIGURE_FILTER, filter);
+    put_byte(chip, BYTES + LQ_CONFIGURE_MINIMUM, minimum);
+}
+
+void configure(struct chip *chip, struct addressing way, unsigned filter)
+{
+    put_addressing(chip, way, 0, filter, 0);
+    unsigned found = run_command(chip, LQ_CMD_CONFIGURE);
+    CHECK(found == (LQ_C | LQ_OK), "length %u, location %d: Configure's status is %04Xh", way.length, way.in_buffers,
+          found);
+}
+
+/* the bits of so many addresses of a length from a place of memory on */
+static uint64_t fold_of(const struct chip *chip, unsigned length, uint32_t place, unsigned addresses)
 {
     uint64_t bits = 0;
     for (unsigned a = 0; a < addresses; a++) {
         uint8_t address[6];
-        for (uint32_t i = 0; i < 6; i++) address[i] = (uint8_t)byte_of(chip, place + 6 * a + i);
-        bits |= bit_of(address);
+        for (uint32_t i = 0; i < length; i++) address[i] = (uint8_t)byte_of(chip, place + length * a + i);
+        bits |= bit_of_first(address, length);
     }
     return bits;
 }
 
-uint64_t run_mc_setup(struct chip *chip, uint32_t place, unsigned count)
+uint64_t run_mc_setup_of(struct chip *chip, unsigned length, uint32_t place, unsigned count)
 {
+    unsigned addresses = length == 0 ? 0 : (count & LQ_COUNT) / length;
     put_block(chip, place, LQ_CMD_MC_SETUP | LQ_EL, 0xABCD);
     put_word(chip, place + LQ_MC_COUNT, count);
     start_cu(chip, place);
     turn(chip);
     check_word(chip, place, LQ_B);
-    uint64_t bits = fold_of(chip, place + LQ_MC_ADDRESSES, (count & LQ_COUNT) / 6);
+    uint64_t bits = fold_of(chip, length, place + LQ_MC_ADDRESSES, addresses);
     check_answer(turn(chip), LQ_ACCEPTED, 0, true);
     check_word(chip, place, LQ_C | LQ_OK);
     return bits;
+}
+
+uint64_t run_mc_setup(struct chip *chip, uint32_t place, unsigned count)
+{
+    return run_mc_setup_of(chip, 6, place, count);
 }
 
 bool is_received(struct chip *chip, const uint8_t *destination)
@@ -166,14 +196,29 @@ bool is_received(struct chip *chip, const uint8_t *destination)
     return held;
 }
 
-void check_filter(struct chip *chip, uint64_t bits)
+/* A group's first byte is odd. With one byte it is all there is, and at most 127, so never the address of everyone. */
+void group_of(unsigned length, unsigned number, uint8_t *address)
+{
+    memset(address, 0, 6);
+    address[length - 1] = (uint8_t)number;
+    address[0] = (uint8_t)(length == 1 ? 2 * number + 1 : 1);
+}
+
+void check_filter_of(struct chip *chip, unsigned length, uint64_t bits)
 {
     uint64_t shown = 0;
-    for (unsigned last = 0; last < 64; last++) {
-        const uint8_t group[6] = {1, 0, 0, 0, 0, (uint8_t)last};
-        bool received = is_received(chip, group), expected = (bits & bit_of(group)) != 0;
-        CHECK(received == expected, "bit %u of the filter is %d", hash_of(group), received);
-        shown |= bit_of(group);
+    for (unsigned number = 0; number < 64; number++) {
+        uint8_t group[6];
+        group_of(length, number, group);
+        uint64_t bit = bit_of_first(group, length);
+        bool received = is_received(chip, group);
+        CHECK(received == ((bits & bit) != 0), "bit %u of the filter is %d", hash_of_first(group, length), received);
+        shown |= bit;
     }
     CHECK(shown == ~(uint64_t)0, "the 64 groups do not fall on 64 bits");
+}
+
+void check_filter(struct chip *chip, uint64_t bits)
+{
+    check_filter_of(chip, 6, bits);
 }

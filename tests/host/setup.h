@@ -48,18 +48,37 @@ unsigned status(const struct chip *chip);
 /* One command with EL at block 200h, run to its end; answers its status. Parameters stand there already. */
 unsigned run_command(struct chip *chip, unsigned command);
 
+/* ---- every address length and location ---- */
+
+enum { ADDRESS_LENGTHS = 7, ADDRESSINGS = 2 * ADDRESS_LENGTHS };
+
+/* One of them, by its number. */
+struct addressing addressing_of(unsigned number);
+
+/* A Configure's bytes at block 200h: way, bits of LQ_CONFIGURE_SAVE and of LQ_CONFIGURE_FILTER, minimum. */
+void put_addressing(struct chip *chip, struct addressing way, unsigned save, unsigned filter, unsigned minimum);
+
+/* The same, run to its end, which must be A000h: bad frames are not saved, and no frame is short. */
+void configure(struct chip *chip, struct addressing way, unsigned filter);
+
 /* ---- the filter, as MC-Setup makes it and frames show it ---- */
 
-/* An MC-Setup with EL at a place, with a count, run to its end, which must be A000h. The addresses stand there already;
-   answers the bits that they set, as they are read from memory before the end turn. */
+/* An MC-Setup with EL at a place, with a count, run to its end, which must be A000h. The addresses stand there already,
+   of so many bytes each, or of six; answers the bits that they set, as they are read from memory before the end turn. */
+uint64_t run_mc_setup_of(struct chip *chip, unsigned length, uint32_t place, unsigned count);
 uint64_t run_mc_setup(struct chip *chip, uint32_t place, unsigned count);
 
 /* Is a good frame of 60 bytes to this address held? With the command unit not Active and the receive unit Idle, which
-   is started for it at the descriptor F00h and aborted after it. */
+   is started for it at the descriptor F00h and aborted after it. Of six bytes, of which a shorter address is the first
+   ones. */
 bool is_received(struct chip *chip, const uint8_t *destination);
 
-/* Of 64 groups, one for each bit, those are received whose bit is set here, and no other. So it is shown which filter
-   a chip has, without a look into its record. */
+/* One of 64 groups with addresses of so many bytes, 1 to 6, that fall on 64 bits. The bytes behind are 0. */
+void group_of(unsigned length, unsigned number, uint8_t *address);
+
+/* Of these groups, those are received whose bit is set here, and no other. So it is shown which filter a chip has,
+   without a look into its record. With the length that is configured, or six. */
+void check_filter_of(struct chip *chip, unsigned length, uint64_t bits);
 void check_filter(struct chip *chip, uint64_t bits);
 
 #endif

@@ -1,7 +1,7 @@
 //! The model's own tests: document 01's cases at the edges, what its points come to in small cases, and the list's forms.
 //! Each case is a function that ends with the first thing that is not so.
 
-use crate::chip::{hash, Answer, Chip, Reason, Ru, NONE};
+use crate::chip::{hash, Answer, Chip, Header, Reason, Ru, AREA, NONE};
 use crate::list;
 use std::io::{self, Write};
 
@@ -35,12 +35,15 @@ const CASES: &[(&str, Case)] = cases! {
     run_refused run_of_nothing run_to_its_budget run_to_no_work run_to_a_frame run_to_an_edge run_stores run_as_turns
     begin_keeps link_before_status link_ffff failures_end_normally el_wins
     ia_setup configure_bytes configure_counts configure_rejects
-    hash_values hash_shared mc_setup mc_setup_replaces mc_setup_at_the_end mc_setup_around
+    hash_values hash_shared hash_of_short_addresses mc_setup mc_setup_replaces mc_setup_at_the_end mc_setup_around
     transmit_tests transmit_next_kept reports tdr_dump_diagnose
     arrival_order arrival_minimum match_rules match_by_the_bit settings_at_arrival
     reason_by_the_order reason_by_the_match reason_beside_a_counter reason_told_once
     storing_reads_whole storing_size_zero storing_exact_ends storing_no_data storing_status_bits storing_not_kept storing_rscerrs_follows
     storing_suspends storing_status_last storing_descriptor_kept
+    header_sent_packed header_sent header_limits header_no_bytes header_no_bytes_in_a_run
+    header_stored header_too_few header_no_data header_held_through_configure
+    header_own header_broadcast header_groups header_length_0 header_kept header_minimum header_reset
     list_example list_forms list_reasons list_bad_input
 };
 
@@ -1215,11 +1218,20 @@ fn configure_counts() -> Result<(), String> {
 }
 
 fn configure_rejects() -> Result<(), String> {
+    let before = Header { address: 3, in_buffers: true };
     for byte in 0..=255 {
         let mut rig = Rig::new();
-        let taken = byte & 7 == 6 && byte & 8 == 0 && byte & 0xC0 == 0;
+        rig.chip.device.header = before;
+        let taken = byte & 7 != 7 && byte & 0xC0 == 0;
         same!(rig.configure(&[12, 0, 0x80, byte, 0, 0, 0, 0, 3, 0, 0]), if taken { 0xA000 } else { 0x8000 });
         same!(settings(&rig), if taken { (true, true, true, 0) } else { (false, false, false, 64) });
+        same!(rig.chip.device.header, if taken { Header { address: byte & 7, in_buffers: byte & 8 != 0 } } else { before });
+    }
+    // Byte 3 is taken by every count.
+    for count in 0..16 {
+        let mut rig = Rig::new();
+        same!(rig.configure(&[count, 0, 0, 0x0A]), 0xA000);
+        same!(rig.chip.device.header, Header { address: 2, in_buffers: true });
     }
     Ok(())
 }
@@ -1239,18 +1251,37 @@ fn hash_values() -> Result<(), String> {
         ([0x01, 0x00, 0x00, 0x00, 0x00, 0x00], 5),
         ([0xCF, 0x00, 0x00, 0x00, 0x00, 0x00], 43),
     ] {
+        same!((address, hash(&address)), (address, value));
+    }
+    Ok(())
+}
+
+/// The same program, asked for other address lengths.
+fn hash_of_short_addresses() -> Result<(), String> {
+    for (address, value) in [
+        (&[0x01][..], 50),
+        (&[0x15], 0),
+        (&[0xFF], 0),
+        (&[0x01, 0x02], 36),
+        (&[0x01, 0x03], 59),
+        (&[0xFF, 0xFF], 0),
+        (&[0x01, 0x02, 0x03], 42),
+        (&[0x01, 0x02, 0x03, 0x04], 36),
+        (&[0x01, 0x02, 0x03, 0x04, 0x05], 56),
+        (&[0xFF, 0xFF, 0xFF, 0xFF, 0xFF], 45),
+    ] {
         same!((address, hash(address)), (address, value));
     }
     Ok(())
 }
 
 fn hash_shared() -> Result<(), String> {
-    let bits = (0..64).fold(0u64, |bits, which| bits | 1 << hash(group(which)));
+    let bits = (0..64).fold(0u64, |bits, which| bits | 1 << hash(&group(which)));
     same!(bits, u64::MAX);
     // What follows it falls on bits that are taken.
-    same!(hash(group(0x40)), hash(group(0x3F)));
+    same!(hash(&group(0x40)), hash(&group(0x3F)));
     // Bit 59 is that of all FFh: a group has it too.
-    same!(hash(group(0x20)), hash([0xFF; 6]));
+    same!(hash(&group(0x20)), hash(&[0xFF; 6]));
     Ok(())
 }
 
@@ -1260,7 +1291,7 @@ fn mc_setup() -> Result<(), String> {
         let mut bytes = count.to_le_bytes().to_vec();
         bytes.extend((0..64).flat_map(group));
         same!(rig.one(0x200, 3, &bytes), 0xA000);
-        same!(rig.chip.device.filter, (0..listed).fold(0, |filter, which| filter | 1 << hash(group(which))));
+        same!(rig.chip.device.filter, (0..listed).fold(0, |filter, which| filter | 1 << hash(&group(which))));
         same!(rig.chip.device.filter.count_ones(), u32::from(listed));
     }
     Ok(())
@@ -1276,7 +1307,7 @@ fn mc_setup_replaces() -> Result<(), String> {
     };
     for addresses in [&[group(1), group(2)][..], &[group(3)], &[], &[group(4), group(4)], &[[0xFF; 6]], &[[2, 0, 0, 0, 0, 0]]] {
         same!(rig.one(0x200, 3, &list(addresses, 5)), 0xA000);
-        same!(rig.chip.device.filter, addresses.iter().fold(0, |filter, address| filter | 1 << hash(*address)));
+        same!(rig.chip.device.filter, addresses.iter().fold(0, |filter, address| filter | 1 << hash(address)));
     }
     // Both resets empty it.
     rig.command(0x0080);
@@ -1298,7 +1329,7 @@ fn mc_setup_at_the_end() -> Result<(), String> {
     rig.bytes(0x208, &group(3));
     same!(rig.chip.device.filter, 0);
     rig.turns(1);
-    same!(rig.chip.device.filter, 1 << hash(group(3)));
+    same!(rig.chip.device.filter, 1 << hash(&group(3)));
     Ok(())
 }
 
@@ -1316,7 +1347,7 @@ fn mc_setup_around() -> Result<(), String> {
             let addresses: Vec<[u8; 6]> = bytes.chunks_exact(6).map(|six| std::array::from_fn(|i| six[i])).collect();
             addresses
         };
-        let filter = |addresses: &[[u8; 6]]| addresses.iter().fold(0, |filter, address| filter | 1 << hash(*address));
+        let filter = |addresses: &[[u8; 6]]| addresses.iter().fold(0, |filter, address| filter | 1 << hash(address));
         let (right, late) = (list([0x00, 0x40]), list([0x00, 0xA0]));
         let (right_filter, late_filter) = (filter(&right), filter(&late));
         same!(right.iter().zip(&late).filter(|(one, other)| one != other).count(), met);
@@ -1445,7 +1476,7 @@ fn match_rules() -> Result<(), String> {
     same!(rig.held(), false);
     // An own address with its low bit set matches though its bit is clear.
     rig.one(0x200, 1, &[1, 2, 3, 4, 5, 7]);
-    same!(rig.chip.device.filter >> hash([1, 2, 3, 4, 5, 7]) & 1, 0);
+    same!(rig.chip.device.filter >> hash(&[1, 2, 3, 4, 5, 7]) & 1, 0);
     rig.hear(&to([1, 2, 3, 4, 5, 7]), 0);
     same!(rig.held(), true);
     // Listed: only with the low bit set; another group of another bit is not.
@@ -1480,7 +1511,7 @@ fn match_by_the_bit() -> Result<(), String> {
             let mut heard = frame(46);
             heard[..6].copy_from_slice(&group(which));
             rig.hear(&heard, 0);
-            same!((which, rig.held()), (which, hash(group(which)) == hash(listed)));
+            same!((which, rig.held()), (which, hash(&group(which)) == hash(&listed)));
             passed += u32::from(rig.held());
         }
         same!(passed, 2);
@@ -1832,6 +1863,351 @@ fn storing_descriptor_kept() -> Result<(), String> {
     rig.words(0x302, &[0xC000, 0x340, NONE]);
     rig.rest();
     same!((rig.scb(), rig.word(0x346), rig.word(0x326), rig.word(0x306)), (0x4040, 0x410, 0, NONE));
+    Ok(())
+}
+
+// ---- Lengths and locations ----
+
+/// Every length with both locations.
+fn headers() -> impl Iterator<Item = Header> {
+    (0..7).flat_map(|address| [false, true].map(|in_buffers| Header { address, in_buffers }))
+}
+
+/// Byte 3 of a Configure.
+fn byte3(header: Header) -> u8 {
+    header.address + if header.in_buffers { 8 } else { 0 }
+}
+
+const OWN: [u8; 6] = [0x20, 0x21, 0x22, 0x23, 0x24, 0x25];
+
+/// The bytes of a Transmit block from +8 on, as six bytes and two.
+const BLOCK: [u8; 8] = [0x10, 0x11, 0x12, 0x13, 0x14, 0x15, 0x16, 0x17];
+
+impl Rig {
+    /// Initialised, with this own address, then this length and location; promiscuous with length 0, as nothing is received otherwise.
+    fn with(header: Header) -> Rig {
+        let mut rig = Rig::new();
+        rig.one(0x200, 1, &OWN);
+        rig.configure(&[12, 0, 0, byte3(header), 0, 0, 0, 0, u8::from(header.address == 0), 0, 0]);
+        rig
+    }
+
+    /// The same, Ready at a descriptor at 0300h that has old bytes from +8 on, with buffers of these sizes at 0800h, 0900h and so on.
+    fn storing(header: Header, sizes: &[u16]) -> Rig {
+        let mut rig = Rig::with(header);
+        for (i, size) in sizes.iter().enumerate() {
+            let at = 0x400 + 16 * i;
+            rig.rbd(at, if i + 1 == sizes.len() { NONE } else { at as u16 + 16 }, 0x800 + 0x100 * i as u16, *size);
+        }
+        rig.fd(0x300, 0, 0x340, 0x400);
+        rig.bytes(0x308, &[OLD; 24]);
+        rig.words(SCB + 6, &[0x300]);
+        rig.command(0x0010);
+        rig
+    }
+
+    /// Begins a Transmit at 0200h with these descriptors at 0400h, EOF in the last; the data is at 1000h.
+    fn send(&mut self, bits: u16, counts: &[u16]) {
+        self.words(0x200, &[0, bits | 4, 0x0200, if counts.is_empty() { NONE } else { 0x400 }]);
+        self.bytes(0x208, &BLOCK);
+        let mut data = 0x1000;
+        for (i, count) in counts.iter().enumerate() {
+            let (at, last) = (0x400 + 8 * i, i + 1 == counts.len());
+            self.tbd(at, *count | if last { 0x8000 } else { 0 }, at as u16 + 8, data);
+            data += count;
+        }
+        self.chip.outgoing.fill(OLD);
+        self.start(0x200);
+    }
+}
+
+/// A frame of so many bytes that count up, to the own address.
+fn to_own(length: usize) -> Vec<u8> {
+    (0..length).map(|i| OWN[0].wrapping_add(i as u8)).collect()
+}
+
+fn header_sent_packed() -> Result<(), String> {
+    // By hand: destination, own address, type, data.
+    for (address, sent) in [
+        (0, &[0x10, 0x11, 0xD0, 0xD1][..]),
+        (1, &[0x10, 0x20, 0x11, 0x12, 0xD0, 0xD1]),
+        (2, &[0x10, 0x11, 0x20, 0x21, 0x12, 0x13, 0xD0, 0xD1]),
+        (6, &[0x10, 0x11, 0x12, 0x13, 0x14, 0x15, 0x20, 0x21, 0x22, 0x23, 0x24, 0x25, 0x16, 0x17, 0xD0, 0xD1]),
+    ] {
+        let mut rig = Rig::with(Header { address, in_buffers: false });
+        rig.bytes(0x1000, &[0xD0, 0xD1]);
+        rig.send(0x8000, &[2]);
+        same!(rig.turns(3), Answer { length: sent.len() as u16, ..EDGE });
+        same!(rig.chip.outgoing[..sent.len()].to_vec(), sent.to_vec());
+    }
+    Ok(())
+}
+
+fn header_sent() -> Result<(), String> {
+    let data: Vec<u8> = (0xA0..0xA7).collect();
+    for header in headers() {
+        let length = usize::from(header.address);
+        let before = match header.in_buffers {
+            false => [&BLOCK[..length], &OWN[..length], &BLOCK[length..length + 2]].concat(),
+            true => Vec::new(),
+        };
+        for counts in [&[][..], &[7], &[3, 4], &[0, 1, 6]] {
+            let mut rig = Rig::with(header);
+            rig.bytes(0x1000, &data);
+            rig.send(0x8000, counts);
+            let sent = [&before[..], if counts.is_empty() { &[] } else { &data }].concat();
+            same!((rig.rest(), rig.word(0x200)), (2 + counts.len(), 0xA000));
+            same!(rig.chip.outgoing[sent.len()..].iter().all(|byte| *byte == OLD), true);
+            same!(rig.chip.outgoing[..sent.len()].to_vec(), sent);
+        }
+    }
+    Ok(())
+}
+
+fn header_limits() -> Result<(), String> {
+    for header in headers() {
+        let most = AREA as u16 - header.apart();
+        for (counts, sent) in [(&[most][..], true), (&[most + 1], false), (&[1, most - 1], true), (&[1, most], false), (&[most, 0], true)] {
+            let mut rig = Rig::with(header);
+            rig.chip.memory[0x1000..0x1900].fill(0x77);
+            rig.send(0x8000, counts);
+            same!(rig.turns(2 + counts.len()), Answer { length: if sent { 2048 } else { 0 }, ..EDGE });
+            same!((rig.word(0x200), rig.chip.outgoing[AREA - 1]), if sent { (0xA000, 0x77) } else { (0x8100, OLD) });
+        }
+    }
+    Ok(())
+}
+
+fn header_no_bytes() -> Result<(), String> {
+    let header = Header { address: 2, in_buffers: true };
+    for counts in [&[][..], &[0], &[0, 0]] {
+        for (report, status) in [(0, 0xA000), (0x00CF, 0xA0CF), (0x0020, 0x8020)] {
+            let mut rig = Rig::with(header);
+            rig.send(0x8000, counts);
+            rig.turns(1 + counts.len());
+            same!((rig.chip.turn(report), rig.word(0x200)), (EDGE, status));
+            same!(rig.chip.outgoing.iter().all(|byte| *byte == OLD), true);
+        }
+    }
+    Ok(())
+}
+
+fn header_no_bytes_in_a_run() -> Result<(), String> {
+    // A Transmit that raises nothing, linked to itself: of no bytes it ends no run, of one byte it does.
+    let header = Header { address: 6, in_buffers: true };
+    for (counts, answer) in [(&[][..], (QUIET, 20)), (&[0], (QUIET, 20)), (&[1], (Answer { length: 1, ..QUIET }, 3))] {
+        let mut rig = Rig::with(header);
+        rig.send(0, counts);
+        same!(rig.chip.run(20, 0), answer);
+    }
+    // With I it ends one by its edge.
+    let mut rig = Rig::with(header);
+    rig.send(0x2000, &[]);
+    same!(rig.chip.run(20, 0), (EDGE, 2));
+    Ok(())
+}
+
+fn header_stored() -> Result<(), String> {
+    for header in headers() {
+        let apart = usize::from(header.apart());
+        let heard = to_own(usize::from(header.bytes()) + 9);
+        let data = &heard[apart..];
+        for sizes in [&[100][..], &[3, 100], &[1, 0, 2, 100]] {
+            let mut rig = Rig::storing(header, sizes);
+            same!((rig.hear(&heard, 0), rig.rest()), (QUIET, 2 + sizes.len()));
+            same!((rig.word(0x300), rig.word(0x306), rig.word(0x346), rig.scb()), (0xA000, 0x400, NONE, 0x4040));
+            same!(rig.chip.memory[0x308..0x308 + apart].to_vec(), heard[..apart].to_vec());
+            same!(rig.chip.memory[0x308 + apart..0x320].iter().all(|byte| *byte == OLD), true);
+            let mut done = 0;
+            for (i, size) in sizes.iter().enumerate() {
+                let count = usize::from(*size).min(data.len() - done);
+                let end = if i + 1 == sizes.len() { 0xC000 } else { 0x4000 };
+                same!(rig.word(0x400 + 16 * i), end | count as u16);
+                same!(rig.chip.memory[0x800 + 0x100 * i..][..count].to_vec(), data[done..done + count].to_vec());
+                same!(rig.chip.memory[0x800 + 0x100 * i + count], 0);
+                done += count;
+            }
+            same!(done, data.len());
+        }
+    }
+    Ok(())
+}
+
+fn header_too_few() -> Result<(), String> {
+    for header in headers() {
+        let bytes = usize::from(header.bytes());
+        let mut rig = Rig::storing(header, &[100]);
+        for length in 0..bytes {
+            same!((header, length, rig.hear(&to_own(length), 0)), (header, length, dropped(Reason::TooFew)));
+        }
+        for length in [bytes, bytes + 1] {
+            let mut rig = Rig::storing(header, &[100]);
+            same!((rig.hear(&to_own(length), 0), rig.held()), (QUIET, true));
+        }
+    }
+    Ok(())
+}
+
+fn header_no_data() -> Result<(), String> {
+    for header in headers() {
+        let bytes = header.bytes();
+        let mut rig = Rig::storing(header, &[100]);
+        rig.hear(&to_own(bytes.into()), 0);
+        let turns = rig.rest();
+        if header.in_buffers {
+            same!((turns, rig.word(0x306), rig.word(0x346), rig.word(0x400)), (3, 0x400, NONE, 0xC000 | bytes));
+        } else {
+            same!((turns, rig.word(0x306), rig.word(0x346), rig.word(0x400)), (2, NONE, 0x400, 0));
+        }
+    }
+    Ok(())
+}
+
+/// A frame of this length, stored through three buffers in at most five turns, with another header from this turn on.
+fn stored_with(header: Header, length: usize, other: Header, turn: usize) -> Rig {
+    let mut rig = Rig::storing(header, &[2, 1, 100]);
+    rig.hear(&to_own(length), 0);
+    for i in 0..5 {
+        if i == turn {
+            rig.chip.device.header = other;
+        }
+        rig.turns(1);
+    }
+    rig.chip.device.header = header;
+    rig
+}
+
+fn header_held_through_configure() -> Result<(), String> {
+    for header in headers() {
+        for other in headers() {
+            // Some data; no data by its own header; no data by the other.
+            for length in [header.bytes() + 9, header.bytes(), other.bytes().max(header.bytes())].map(usize::from) {
+                let alone = stored_with(header, length, header, 0);
+                same!((alone.word(0x300), alone.held()), (0xA000, false));
+                for turn in 0..5 {
+                    let rig = stored_with(header, length, other, turn);
+                    same!((header, other, length, turn, rig.chip.memory == alone.chip.memory), (header, other, length, turn, true));
+                    same!(rig.chip.device == alone.chip.device, true);
+                }
+            }
+        }
+    }
+    // By a Configure itself, begun before the frame and ended behind its begin.
+    let (two, six) = (Header { address: 2, in_buffers: false }, Header { address: 6, in_buffers: true });
+    let mut rig = Rig::storing(two, &[100]);
+    rig.words(0x200, &[0, 0x8002, 0]);
+    rig.bytes(0x206, &[4, 0, 0, byte3(six)]);
+    rig.start(0x200);
+    rig.turns(1);
+    rig.hear(&to_own(9), 0);
+    rig.rest();
+    same!((rig.chip.device.header, rig.word(0x200), rig.word(0x300), rig.word(0x400)), (six, 0xA000, 0xA000, 0xC003));
+    same!(rig.chip.memory[0x308..0x310].to_vec(), vec![0x20, 0x21, 0x22, 0x23, 0x24, 0x25, OLD, OLD]);
+    same!(rig.chip.memory[0x800..0x804].to_vec(), vec![0x26, 0x27, 0x28, 0]);
+    Ok(())
+}
+
+fn header_own() -> Result<(), String> {
+    // Of the own address the bytes up to the length count, and all of those.
+    for header in headers().filter(|header| header.address > 0) {
+        for byte in 0..6 {
+            let mut rig = Rig::storing(header, &[100]);
+            let mut heard = to_own(14);
+            heard[byte] ^= 0x80;
+            let answer = if byte < usize::from(header.address) { dropped(Reason::NoMatch) } else { QUIET };
+            same!((header, byte, rig.hear(&heard, 0)), (header, byte, answer));
+        }
+    }
+    Ok(())
+}
+
+fn header_broadcast() -> Result<(), String> {
+    for header in headers().filter(|header| header.address > 0) {
+        let length = usize::from(header.address);
+        let heard = [&[0xFF; 6][..length], &[0; 14]].concat();
+        let nearly = [&[0xFF; 6][..length - 1], &[0xFE; 15]].concat();
+        let mut rig = Rig::storing(header, &[100]);
+        same!((rig.hear(&nearly, 0), rig.hear(&heard, 0)), (dropped(Reason::NoMatch), QUIET));
+        // Disabled, it is dropped, though the own address begins with as many FFh and the bit of all of them is set.
+        let mut rig = Rig::storing(header, &[100]);
+        rig.one(0x200, 1, &[0xFF, 0xFF, 0xFF, 0xFF, 0xFF, 0xFF]);
+        rig.one(0x200, 3, &[&[header.address, 0], &[0xFF; 6][..length]].concat());
+        rig.configure(&[9, 0, 0, byte3(header), 0, 0, 0, 0, 2]);
+        same!((rig.chip.device.filter, rig.hear(&heard, 0)), (1 << hash(&[0xFF; 6][..length]), dropped(Reason::NoMatch)));
+    }
+    Ok(())
+}
+
+fn header_groups() -> Result<(), String> {
+    let bytes: Vec<u8> = (0..60).map(|i| 7 * i + 1).collect();
+    for header in headers() {
+        let length = usize::from(header.address);
+        for count in [0, 1, 2, 5, 6, 7, 12, 30, 60] {
+            let mut rig = Rig::with(header);
+            rig.chip.device.filter = u64::MAX;
+            same!(rig.one(0x200, 3, &[&[count, 0], &bytes[..]].concat()), 0xA000);
+            let listed = bytes[..usize::from(count)].chunks_exact(length.max(1)).filter(|_| length > 0);
+            same!((length, count, rig.chip.device.filter), (length, count, listed.fold(0, |filter, one| filter | 1 << hash(one))));
+        }
+    }
+    // By hand: 01-02 falls on 36 and 01-03 on 59. What follows the address does not count.
+    for (heard, answer) in [([1, 2, 9, 9, 9, 9], QUIET), ([1, 3, 9, 9, 9, 9], dropped(Reason::NoMatch)), ([0, 2, 9, 9, 9, 9], dropped(Reason::NoMatch))] {
+        let mut rig = Rig::storing(Header { address: 2, in_buffers: true }, &[100]);
+        rig.one(0x200, 3, &[3, 0, 1, 2, 1]);
+        same!((rig.chip.device.filter, rig.hear(&heard, 0)), (1 << 36, answer));
+    }
+    Ok(())
+}
+
+fn header_length_0() -> Result<(), String> {
+    // Nothing is received but by promiscuous mode: no broadcast, no own address, no group.
+    for in_buffers in [false, true] {
+        let header = Header { address: 0, in_buffers };
+        for (byte8, answer) in [(0, dropped(Reason::NoMatch)), (2, dropped(Reason::NoMatch)), (1, QUIET), (3, QUIET)] {
+            for heard in [to_own(60), vec![0xFF; 60], vec![0x01; 60], vec![0; 2], vec![0xFF; 2048]] {
+                let mut rig = Rig::storing(header, &[100]);
+                rig.chip.device.filter = u64::MAX;
+                rig.configure(&[9, 0, 0, byte3(header), 0, 0, 0, 0, byte8]);
+                same!((byte8, rig.hear(&heard, 0)), (byte8, answer));
+            }
+        }
+    }
+    Ok(())
+}
+
+fn header_kept() -> Result<(), String> {
+    // The own address keeps six bytes and the filter its bits, whatever lengths come between.
+    for header in headers() {
+        let mut rig = Rig::with(header);
+        rig.one(0x200, 1, &[1, 2, 3, 4, 5, 6]);
+        rig.chip.device.filter = 0x8000_0000_0000_0021;
+        for byte in [0, 9, 2, 5, 6, 1, 0x0E] {
+            same!(rig.configure(&[4, 0, 0, byte]), 0xA000);
+            same!((rig.chip.device.own, rig.chip.device.filter), ([1, 2, 3, 4, 5, 6], 0x8000_0000_0000_0021));
+        }
+    }
+    Ok(())
+}
+
+fn header_minimum() -> Result<(), String> {
+    // Bytes plus four below the minimum, whatever the header.
+    for header in headers() {
+        for (length, answer) in [(59, dropped(Reason::Bad)), (60, QUIET)] {
+            let mut rig = Rig::storing(header, &[100]);
+            rig.chip.device.minimum = 64;
+            same!((header, length, rig.hear(&to_own(length), 0)), (header, length, answer));
+        }
+    }
+    Ok(())
+}
+
+fn header_reset() -> Result<(), String> {
+    let mut rig = Rig::with(Header { address: 0, in_buffers: true });
+    rig.command(0x0080);
+    same!(rig.chip.device.header, Header { address: 6, in_buffers: false });
+    let mut rig = Rig::with(Header { address: 3, in_buffers: true });
+    rig.chip.reset();
+    same!(rig.chip.device.header, Header { address: 6, in_buffers: false });
     Ok(())
 }
 

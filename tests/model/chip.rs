@@ -1,4 +1,4 @@
-//! The chip, as document 01 (`01-scope.md`, "the law") has it, mended by document 02's Wishes 1 and 3: where both speak, 02 is followed.
+//! The chip, as document 01 (`01-scope.md`, "the law") has it, mended by document 02's Wishes 1, 3 and 4: where both speak, 02 is followed.
 //! Names of sections and sentences in the comments are document 01's, unless 02 or the handbook, document 000, is named.
 //! An offset is a `u16`, a real address a `u32`: the only way from the one to the other is `at`.
 
@@ -78,6 +78,46 @@ enum Fate {
     Held { held: Held, counter: Option<u32> },
 }
 
+/// The longest address, which is that after reset too.
+const LONGEST: u8 = 6;
+
+/// The type's bytes, in a header.
+const TYPE: u16 = 2;
+
+/// 02: "Configure shall accept lengths 0 to 6 and address location 1."
+#[derive(Clone, Copy, PartialEq, Eq, Debug)]
+pub struct Header {
+    /// The address length.
+    pub address: u8,
+    /// Location 1: "with location 1 the whole frame goes through buffers both ways".
+    pub in_buffers: bool,
+}
+
+impl Header {
+    /// "Reset: 6 for address length", "those bits 0".
+    pub const AFTER_RESET: Header = Header { address: LONGEST, in_buffers: false };
+
+    /// 02: "The header has twice the length plus two bytes"
+    pub fn bytes(self) -> u16 {
+        2 * u16::from(self.address) + TYPE
+    }
+
+    /// How many of them a block or a frame descriptor has. All others of the frame go through buffers.
+    pub fn apart(self) -> u16 {
+        if self.in_buffers { 0 } else { self.bytes() }
+    }
+
+    /// 02: "Block and descriptor fields are packed": where the type of a Transmit block is.
+    fn type_field(self) -> u32 {
+        8 + u32::from(self.address)
+    }
+
+    /// Its name in what is met.
+    pub fn name(self) -> String {
+        format!("length {}, location {}", self.address, u8::from(self.in_buffers))
+    }
+}
+
 /// "0 good, 1 CRC, any other value misaligned"
 #[derive(Clone, Copy, PartialEq, Eq, Debug)]
 pub enum Verdict {
@@ -130,7 +170,16 @@ pub struct Held {
     pub verdict: Verdict,
     pub short: bool,
     pub save_bad: bool,
+    /// 02: "A held frame is stored by the length and location it arrived under, whatever Configure has said since."
+    pub header: Header,
     pub begun: Option<Storing>,
+}
+
+impl Held {
+    /// The bytes that go to buffers.
+    fn data(self) -> u16 {
+        self.length - self.header.apart()
+    }
 }
 
 /// What is kept of a frame descriptor from the begin turn on.
@@ -166,8 +215,9 @@ pub struct Scb {
 /// Where the filter came from. No rule reads it: the generator aims by it, and it tells apart what passes alike.
 #[derive(Clone, PartialEq, Eq, Debug, Default)]
 pub struct Listed {
-    /// The last MC-Setup's addresses.
-    pub addresses: Vec<[u8; 6]>,
+    /// The last MC-Setup's addresses, and how many bytes each had.
+    pub addresses: Vec<Vec<u8>>,
+    pub length: u8,
     /// What the filter would be by those of them with the low bit set; by a list read behind the status; by the list before alone.
     pub groups: u64,
     pub late: u64,
@@ -184,6 +234,8 @@ pub struct Device {
     /// The unit served at the last working turn was RU.
     pub ru_last: bool,
     pub own: [u8; 6],
+    /// The address length at the last IA-Setup. No rule reads it.
+    pub own_length: u8,
     /// Bit h is set if the hash of an address that the last MC-Setup had is h.
     pub filter: u64,
     pub listed: Listed,
@@ -191,6 +243,7 @@ pub struct Device {
     pub promiscuous: bool,
     pub no_broadcast: bool,
     pub minimum: u8,
+    pub header: Header,
 }
 
 impl Device {
@@ -203,13 +256,20 @@ impl Device {
             ru: Ru::Idle,
             ru_last: false,
             own: [0xFF; 6],
+            own_length: LONGEST,
             filter: 0,
             listed: Listed::default(),
             save_bad: false,
             promiscuous: false,
             no_broadcast: false,
             minimum: 64,
+            header: Header::AFTER_RESET,
         }
+    }
+
+    /// 02: "of the own address the first bytes, up to the length, count"
+    pub fn own_address(&self) -> &[u8] {
+        &self.own[..usize::from(self.header.address)]
     }
 
     /// "10-8 CUS (0 Idle, 1 Suspended, 2 Active); 6-4 RUS (0 Idle, 1 Suspended, 2 No Resources, 4 Ready)"
@@ -249,6 +309,11 @@ impl Device {
 
     pub fn cu_works(&self) -> bool {
         matches!(self.cu, Cu::Active { .. })
+    }
+
+    /// A Transmit of no bytes is at its end turn.
+    fn ends_empty(&self) -> bool {
+        matches!(self.begun(), Some(Begun { kind: 4, step: Send::End { failed: false, length: 0 }, .. }))
     }
 
     pub fn cu_name(&self) -> &'static str {
@@ -624,8 +689,11 @@ impl Chip {
         let (mut wrote, mut last, mut taken) = (Vec::new(), Answer::done(0, false), 0);
         while taken < budget {
             let works = self.device.ru_works() || self.device.cu_works();
+            let empty = self.device.ends_empty();
             last = self.turn(report);
             taken += 1;
+            let ended = empty && self.device.begun().is_none();
+            self.note_if(ended && !last.edge && taken < budget, "run goes on behind a Transmit of no bytes");
             wrote.append(&mut self.wrote);
             if !works || last.length != 0 || last.edge {
                 self.note_if(!works, "run ends: no work");
@@ -676,26 +744,37 @@ impl Chip {
         Begun { kind, el: word & 0x8000 != 0, s: word & 0x4000 != 0, i: word & 0x2000 != 0, suspend: false, step }
     }
 
-    /// "+6, read at begin, offset of a buffer descriptor, FFFFh none; destination +8; type +14. Frame: destination, own address, type,
-    /// data." "The header goes to the outgoing area at begin, data behind it."
+    /// "+6, read at begin, offset of a buffer descriptor, FFFFh none". "The header goes to the outgoing area at begin, data behind it." 02:
+    /// "with location 1 the whole frame goes through buffers both ways, and the chip inserts no source address."
     fn begin_transmit(&mut self, block: u16) -> Send {
         let descriptor = self.word(self.at(block, 6));
-        self.note_if(self.runs_over(self.at(block, 8), 8), "Transmit: a header over the end of memory");
-        self.note_if(self.runs_over(self.at(block, 14), 2), "Transmit: a type over the end of memory");
-        for i in 0..6 {
-            self.outgoing[i] = self.byte(self.at(block, 8 + i as u32));
-            self.outgoing[6 + i] = self.device.own[i];
+        let length = self.device.header.apart();
+        if !self.device.header.in_buffers {
+            self.send_header(block);
         }
-        for i in 0..2 {
-            self.outgoing[12 + i] = self.byte(self.at(block, 14 + i as u32));
-        }
-        self.wrote.push(Wrote::Outgoing(0, 14));
         if descriptor == NONE {
-            self.note("Transmit without a descriptor");
-            Send::End { failed: false, length: 14 }
+            self.note(if length == 0 { "Transmit without a descriptor, of no bytes" } else { "Transmit without a descriptor" });
+            Send::End { failed: false, length }
         } else {
-            Send::Buffer { descriptor, used: 0, length: 14 }
+            Send::Buffer { descriptor, used: 0, length }
         }
+    }
+
+    /// "Frame: destination, own address, type, data." 02: "Block and descriptor fields are packed; of the own address the first bytes, up to the
+    /// length, count."
+    fn send_header(&mut self, block: u16) {
+        let header = self.device.header;
+        let (destination, kind, length) = (self.at(block, 8), self.at(block, header.type_field()), usize::from(header.address));
+        self.note_if(self.runs_over(destination, u16::from(header.address) + TYPE), "Transmit: a header over the end of memory");
+        self.note_if(self.runs_over(kind, TYPE), "Transmit: a type over the end of memory");
+        for i in 0..length {
+            self.outgoing[i] = self.byte(destination + i as u32);
+            self.outgoing[length + i] = self.device.own[i];
+        }
+        for i in 0..usize::from(TYPE) {
+            self.outgoing[2 * length + i] = self.byte(kind + i as u32);
+        }
+        self.wrote.push(Wrote::Outgoing(0, usize::from(header.bytes())));
     }
 
     /// "Descriptor: +0 15 EOF, 13-0 count; +2 next offset; +4 real address; one buffer turn each." "At a buffer that would pass 2,048
@@ -709,7 +788,9 @@ impl Chip {
         let used = used + 1;
         if usize::from(length + count) > AREA {
             self.note(if eof { "Transmit fails: 2,048 passed, with EOF" } else { "Transmit fails: 2,048 passed" });
-            self.note_if(usize::from(length + count) == AREA + 1, "Transmit fails: 2,048 passed by one");
+            if usize::from(length + count) == AREA + 1 {
+                self.note(&format!("Transmit fails: 2,048 passed by one, {}", self.device.header.name()));
+            }
             return Send::End { failed: true, length };
         }
         self.note_if(count == 0, "Transmit: count 0");
@@ -723,7 +804,8 @@ impl Chip {
         if eof {
             self.note_if(used == MOST, "Transmit: EOF in the 64th descriptor");
             self.note_if(next == NONE, "Transmit: EOF and next FFFFh");
-            self.note_if(used > 1, "Transmit: several descriptors");
+            self.note(&format!("Transmit: {}, {}", if used == 1 { "one descriptor" } else { "several descriptors" }, self.device.header.name()));
+            self.note_if(length == 0, "Transmit in descriptors, of no bytes");
             Send::End { failed: false, length }
         } else if next == NONE {
             self.note("Transmit fails: FFFFh before EOF");
@@ -799,31 +881,32 @@ impl Chip {
         sent
     }
 
-    /// "IA-Setup: six bytes at +6."
+    /// "IA-Setup: six bytes at +6.", whatever the address length is.
     fn ia_setup(&mut self, block: u16) -> u16 {
         self.note_if(self.runs_over(self.at(block, 6), 6), "IA-Setup: an address over the end of memory");
-        self.device.own = self.six(self.at(block, 6));
+        self.note(&format!("IA-Setup, length {}", self.device.header.address));
+        self.device.own = std::array::from_fn(|i| self.byte(self.at(block, 6 + i as u32)));
+        self.device.own_length = self.device.header.address;
         0xA000
     }
 
-    fn six(&self, address: u32) -> [u8; 6] {
-        std::array::from_fn(|i| self.byte(address + i as u32))
-    }
-
     /// "Configure: byte count, low 4 bits of +6, below 4 taken as 4, above 12 as 12; that many bytes are taken from +6 (byte 0), the
-    /// others kept." "If the result has a length other than 6, location 1 or loopback: status 8000h, nothing changed (ours)."
+    /// others kept." "Byte 3: bits 2-0 address length, 3 address location, 6 and 7 loopback." "status 8000h, nothing changed (ours)". 02: "7 and
+    /// loopback still give 8000h."
     fn configure(&mut self, block: u16) -> u16 {
         let byte = |n: u32| self.byte(self.at(block, 6 + n));
         self.note(&format!("Configure of count {}", byte(0) & 15));
         let count = (byte(0) & 15).clamp(4, 12);
         let (byte2, byte3, byte8, byte10) = (byte(2), byte(3), byte(8), byte(10));
-        if byte3 & 7 != 6 || byte3 & 0xC8 != 0 {
-            self.note_if(byte3 & 7 != 6 && byte3 & 0xC8 == 0, "Configure fails: length");
-            self.note_if(byte3 & 0xCF == 0x0E, "Configure fails: location");
-            self.note_if(byte3 & 0x8F == 0x06 && byte3 & 0x40 != 0, "Configure fails: loopback, bit 6");
-            self.note_if(byte3 & 0x4F == 0x06 && byte3 & 0x80 != 0, "Configure fails: loopback, bit 7");
+        let header = Header { address: byte3 & 7, in_buffers: byte3 & 0x08 != 0 };
+        if header.address > LONGEST || byte3 & 0xC0 != 0 {
+            self.note_if(byte3 & 0xC7 == 0x07, "Configure fails: length 7");
+            self.note_if(byte3 & 0xC0 == 0x40 && header.address <= LONGEST, "Configure fails: loopback, bit 6");
+            self.note_if(byte3 & 0xC0 == 0x80 && header.address <= LONGEST, "Configure fails: loopback, bit 7");
             return 0x8000;
         }
+        self.note_header(header);
+        self.device.header = header;
         self.device.save_bad = byte2 & 0x80 != 0;
         if count > 8 {
             self.device.promiscuous = byte8 & 1 != 0;
@@ -837,30 +920,57 @@ impl Chip {
         0xA000
     }
 
+    /// What another length meets in the settings.
+    fn note_header(&self, header: Header) {
+        let device = &self.device;
+        let (before, listed) = (device.header, device.filter != 0);
+        self.note(&format!("Configure: {}", header.name()));
+        self.note_if(header.address < before.address && listed, "Configure: a shorter length, the filter is not empty");
+        self.note_if(header.address > before.address && listed, "Configure: a greater length, the filter is not empty");
+        if let Some(held) = device.held() {
+            self.note_held(header, held);
+        }
+    }
+
+    /// What another length or location meets in a held frame.
+    fn note_held(&self, header: Header, held: Held) {
+        let phase = match held.begun.map(|begun| begun.step) {
+            None => "not begun",
+            Some(Store::Buffer { .. }) => "at its buffers",
+            Some(Store::End { .. }) => "at its end",
+        };
+        self.note_if(header.address < held.header.address, &format!("Configure: a length below that of a held frame, {phase}"));
+        self.note_if(header.address > held.header.address, &format!("Configure: a length above that of a held frame, {phase}"));
+        self.note_if(header.in_buffers && !held.header.in_buffers, &format!("Configure: location 1 under a held frame of 0, {phase}"));
+        self.note_if(!header.in_buffers && held.header.in_buffers, &format!("Configure: location 0 under a held frame of 1, {phase}"));
+    }
+
     /// "MC-Setup: low 14 bits at +6 count bytes, addresses from +8, a remainder ignored." 02: "the limit of 16 and the 8000h answer of
-    /// MC-Setup go; any count works, a count of 0 empties the filter." The list is read before the status is written ("do the action,
-    /// write status"): in a list that comes round to its own block the status is 4000h.
+    /// MC-Setup go; any count works, a count of 0 empties the filter." "MC-Setup's addresses have that length; at 0 it empties the filter". The
+    /// list is read before the status is written ("do the action, write status"): in a list that comes round to its own block the status is
+    /// 4000h.
     fn mc_setup(&mut self, block: u16) -> u16 {
         let word = self.word(self.at(block, 6));
-        let bytes = word & 0x3FFF;
-        let count = u32::from(bytes / 6);
+        let length = self.device.header.address;
+        let count = u32::from((word & 0x3FFF).checked_div(length.into()).unwrap_or(0));
         let addresses = self.listed(block, count);
         let filter = fold(&addresses);
         let before = std::mem::replace(&mut self.device.filter, filter);
-        let groups: Vec<[u8; 6]> = addresses.iter().copied().filter(|address| address[0] & 1 != 0).collect();
-        self.device.listed = Listed { groups: fold(&groups), late: self.late(block, count, filter), before, addresses };
+        let groups: Vec<Vec<u8>> = addresses.iter().filter(|address| address[0] & 1 != 0).cloned().collect();
+        self.device.listed = Listed { groups: fold(&groups), late: self.late(block, count, filter), before, addresses, length };
         self.note_setup(block, word, before);
         0xA000
     }
 
-    /// So many addresses from +8 on.
-    fn listed(&self, block: u16, count: u32) -> Vec<[u8; 6]> {
-        (0..count).map(|i| self.six(self.at(block, 8 + 6 * i))).collect()
+    /// So many addresses from +8 on, packed.
+    fn listed(&self, block: u16, count: u32) -> Vec<Vec<u8>> {
+        let length = u32::from(self.device.header.address);
+        (0..count).map(|i| (0..length).map(|j| self.byte(self.at(block, 8 + length * i + j))).collect()).collect()
     }
 
     /// The filter, had the list been read behind the status.
     fn late(&mut self, block: u16, count: u32, filter: u64) -> u64 {
-        if !self.reaches(self.at(block, 8), 6 * count, self.at(block, 0)) {
+        if !self.reaches(self.at(block, 8), u32::from(self.device.header.address) * count, self.at(block, 0)) {
             return filter;
         }
         let indices = [self.at(block, 0) as usize % self.n, self.at(block, 1) as usize % self.n];
@@ -873,28 +983,41 @@ impl Chip {
 
     fn note_setup(&self, block: u16, word: u16, before: u64) {
         let (bytes, device) = (word & 0x3FFF, &self.device);
-        let length = bytes - bytes % 6;
-        self.note_if(bytes % 6 != 0, "MC-Setup with a remainder");
+        let address = u16::from(device.header.address);
+        let count = bytes.checked_div(address).unwrap_or(0);
+        let length = count * address;
+        self.note_if(address > 1 && length != bytes, "MC-Setup with a remainder");
         self.note_if(word & 0xC000 != 0, "MC-Setup with bits above the count");
-        self.note(match bytes {
-            0 => "MC-Setup of count 0",
-            1..=5 => "MC-Setup of counts 1 to 5",
-            6..=11 => "MC-Setup of 1 address",
-            12..=101 => "MC-Setup of 2 to 16",
-            102..=107 => "MC-Setup of 17",
-            180..=185 => "MC-Setup of 30",
-            16_380.. => "MC-Setup of 2,730",
-            _ => "MC-Setup of others above 17",
-        });
+        self.note(self.setup_name(bytes, count));
+        if count > 0 {
+            self.note(&format!("MC-Setup of addresses, length {address}"));
+        }
         let list = self.at(block, 8);
         self.note_if(self.runs_over(list, length), "MC-Setup: a list over the end of memory");
         self.note_if(usize::from(length) > self.n, "MC-Setup: a list more than once around memory");
         self.note_if(self.reaches(list, length.into(), self.at(block, 0)), "MC-Setup: a list over its own status");
         self.note_if(device.listed.late != device.filter, "order: MC-Setup's own status in its list");
         self.note_if(before != 0 && device.filter == 0, "MC-Setup empties the filter");
+        self.note_if(before != 0 && address == 0 && bytes != 0, "MC-Setup empties the filter by length 0 alone");
         self.note_if(before & !device.filter != 0 && device.filter != 0, "MC-Setup clears bits and sets others");
         self.note_if(device.filter == u64::MAX, "MC-Setup sets all bits");
         self.note_if(device.listed.groups != device.filter, "MC-Setup: a bit by an address without its low bit alone");
+    }
+
+    /// What an MC-Setup is called by how many it lists.
+    fn setup_name(&self, bytes: u16, count: u16) -> &'static str {
+        let address = u16::from(self.device.header.address);
+        match count {
+            0 if bytes == 0 => "MC-Setup of count 0",
+            0 if address == 0 => "MC-Setup of length 0",
+            0 => "MC-Setup of less than an address",
+            1 => "MC-Setup of 1 address",
+            2..=16 => "MC-Setup of 2 to 16",
+            17 => "MC-Setup of 17",
+            30 => "MC-Setup of 30",
+            _ if (count + 1) * address > 0x3FFF => "MC-Setup of as many as there can be",
+            _ => "MC-Setup of others above 17",
+        }
     }
 
     /// "8100h, nothing sent (ours). Otherwise bits 10, 9, 7, 6, 5, 3-0 of the line report given with the end turn are set with C; OK, and
@@ -914,9 +1037,18 @@ impl Chip {
             return (status, 0);
         }
         self.note(if report == 0 { "Transmit: sent" } else { "Transmit: sent, with a report" });
-        self.note_if(length == 14, "Transmit: 14 bytes sent");
-        self.note_if(usize::from(length) == AREA, "Transmit: 2,048 bytes sent");
+        self.note_sent(length);
         (status | 0x2000, length)
+    }
+
+    fn note_sent(&self, length: u16) {
+        let name = self.device.header.name();
+        self.note(&match usize::from(length) {
+            0 => "Transmit: no bytes, OK".to_string(),
+            AREA => format!("Transmit: 2,048 bytes sent, {name}"),
+            _ if length == self.device.header.apart() => format!("Transmit: a header alone sent, {name}"),
+            _ => format!("Transmit: others sent, {name}"),
+        });
     }
 
     /// "TDR: word +6 becomes 8000h, status A000h."
@@ -955,13 +1087,15 @@ impl Chip {
     /// "In order: under 14 bytes, dropped. No match, dropped. RU Idle or Suspended, dropped. A frame already held: OVRNERRS. Short (bytes
     /// plus 4 below the minimum): bad, no counter whatever the verdict. Misaligned verdict: bad, ALNERRS. CRC verdict: bad, CRCERRS. Any
     /// other of 14 bytes or more is good. A bad frame is held only in Ready with save-bad set; a good one is held in Ready, else RSCERRS."
-    /// 02: "Each reason is given exactly when document 01's order reaches it."
+    /// 02: "Each reason is given exactly when document 01's order reaches it." "Document 01's 14-byte tests read "shorter than the header", and
+    /// the header is still compared with location 1."
     fn fate(&self, frame: &[u8], verdict: u32) -> Fate {
         let dropped = |why| Fate::Dropped { why, counter: None };
-        if frame.len() < 14 {
+        let header = self.device.header;
+        if frame.len() < usize::from(header.bytes()) {
             return dropped(Reason::TooFew);
         }
-        if !self.matches(destination(frame)) {
+        if !self.matches(self.destination(frame)) {
             return dropped(Reason::NoMatch);
         }
         let ready = match self.device.ru {
@@ -980,7 +1114,7 @@ impl Chip {
         };
         let good = !short && verdict == Verdict::Good;
         if ready && (good || save_bad) {
-            Fate::Held { held: Held { length: frame.len() as u16, verdict, short, save_bad, begun: None }, counter }
+            Fate::Held { held: Held { length: frame.len() as u16, verdict, short, save_bad, header, begun: None }, counter }
         } else if good {
             Fate::Lost { counter: RSCERRS }
         } else {
@@ -1000,36 +1134,63 @@ impl Chip {
         self.wrote.push(Wrote::Holding(0, frame.len()));
     }
 
+    /// A frame's destination, or what there is of it.
+    fn destination<'a>(&self, frame: &'a [u8]) -> &'a [u8] {
+        &frame[..frame.len().min(self.device.header.address.into())]
+    }
+
     /// "Match: promiscuous; or all FFh with broadcast enabled; or not all FFh and either own address or, with the low bit of the first
     /// byte set, a listed address." 02: "Broadcast, own address and promiscuous mode keep their rules."
-    fn matches(&self, to: [u8; 6]) -> bool {
+    fn matches(&self, to: &[u8]) -> bool {
         self.device.promiscuous || self.passes(to)
     }
 
-    /// The match without promiscuous mode.
-    fn passes(&self, to: [u8; 6]) -> bool {
-        if to == [0xFF; 6] { !self.device.no_broadcast } else { to == self.device.own || to[0] & 1 != 0 && self.bit_set(to) }
+    /// The match without promiscuous mode. 02, of length 0: "only promiscuous mode receives".
+    fn passes(&self, to: &[u8]) -> bool {
+        if to.is_empty() {
+            false
+        } else if all_ones(to) {
+            !self.device.no_broadcast
+        } else {
+            to == self.device.own_address() || to[0] & 1 != 0 && self.bit_set(to)
+        }
     }
 
     /// 02: "a multicast frame passes when its bit is set, listed or not"
-    fn bit_set(&self, to: [u8; 6]) -> bool {
+    fn bit_set(&self, to: &[u8]) -> bool {
         self.device.filter >> hash(to) & 1 != 0
     }
 
     fn note_arrival(&self, frame: &[u8], verdict: u32, fate: Fate) {
+        let header = usize::from(self.device.header.bytes());
         self.note(&format!("arrival of verdict {}", verdict.min(3)));
-        for special in [0, 13, 14, 2048] {
+        for special in [0, 1, 2048] {
             self.note_if(frame.len() == special, &format!("arrival of {special} bytes"));
         }
-        if frame.len() >= 14 {
-            self.note_match(destination(frame));
+        if frame.len() >= header {
+            self.note_match(self.destination(frame), frame);
+        }
+        for (length, how) in [(header - 1, "one byte below its header"), (header, "its header alone"), (header + 1, "one byte above its header")] {
+            if frame.len() == length && self.takes(frame, verdict) {
+                self.note(&format!("arrival of {how}, {}", self.device.header.name()));
+            }
         }
         self.note_fate(frame, Verdict::of(verdict), fate);
     }
 
-    fn note_match(&self, to: [u8; 6]) {
-        let (all, own, group, set) = (to == [0xFF; 6], to == self.device.own, to[0] & 1 != 0, self.bit_set(to));
-        let listed = self.device.listed.addresses.contains(&to);
+    /// All but the header's length lets the frame in.
+    fn takes(&self, frame: &[u8], verdict: u32) -> bool {
+        let good = !self.short(frame) && Verdict::of(verdict) == Verdict::Good;
+        let ready = matches!(self.device.ru, Ru::Ready { held: None, .. });
+        ready && (good || self.device.save_bad) && self.matches(self.destination(frame))
+    }
+
+    fn note_match(&self, to: &[u8], frame: &[u8]) {
+        let (all, own, group) = (all_ones(to), to == self.device.own_address(), to.first().map_or(false, |first| first & 1 != 0));
+        if to.is_empty() {
+            return self.note_empty();
+        }
+        let (listed, set) = (self.device.listed.addresses.iter().any(|one| one == to), self.bit_set(to));
         if self.device.promiscuous {
             self.note_if(!self.passes(to), "match: promiscuous alone");
         } else if self.passes(to) {
@@ -1052,18 +1213,57 @@ impl Chip {
                 (false, false) => "dropped: another's",
             });
         }
-        if group && !all && !own && !self.device.promiscuous {
-            self.note_group(hash(to), set);
+        if !self.device.promiscuous {
+            self.note_by_length(to, frame);
+            if group && !all && !own {
+                self.note_group(hash(to), set);
+            }
         }
+    }
+
+    /// With length 0 everything would match that is asked for all of its bytes.
+    fn note_empty(&self) {
+        let device = &self.device;
+        if device.promiscuous {
+            return self.note("match: promiscuous alone, length 0");
+        }
+        self.note_if(!device.no_broadcast, "dropped: length 0, broadcast enabled");
+        self.note_if(device.no_broadcast, "dropped: length 0, broadcast disabled");
+        self.note_if(device.filter != 0, "dropped: length 0, the filter is not empty");
+    }
+
+    /// What a frame that is judged by its address meets at this address length, and which bytes behind the address tell another length.
+    fn note_by_length(&self, to: &[u8], frame: &[u8]) {
+        let device = &self.device;
+        let (passes, all, own) = (self.passes(to), all_ones(to), device.own_address());
+        let kind = match (passes, all, to == own) {
+            (true, true, _) => "match: broadcast",
+            (true, false, true) => "match: own",
+            (true, false, false) => "match: by its bit",
+            (false, true, _) => "dropped: broadcast disabled",
+            (false, false, _) if to[0] & 1 != 0 => "dropped: a group",
+            (false, false, _) => "dropped: another's",
+        };
+        self.note(&format!("{kind}, length {}", to.len()));
+        let whole = &frame[..frame.len().min(LONGEST.into())];
+        let differs = whole.len() == device.own.len() && to.len() < whole.len();
+        self.note_if(differs && kind == "match: own" && whole != device.own, "match: own, by its first bytes alone");
+        self.note_if(differs && kind == "match: broadcast" && !all_ones(whole), "match: broadcast, by its first bytes alone");
+        self.note_if(kind == "match: own" && device.own_length < device.header.address, "match: own, set under a shorter length");
+        let last = to.len() - 1;
+        let nearly = !passes && to[..last] == own[..last] && last > 0;
+        self.note_if(nearly, &format!("dropped: own but for its last byte, length {}", to.len()));
     }
 
     /// A group that only its bit decides.
     fn note_group(&self, bit: u8, set: bool) {
         let by = |filter: u64| filter >> bit & 1 != 0;
-        let Listed { groups, late, before, .. } = self.device.listed;
+        let Listed { groups, late, before, length, .. } = self.device.listed;
         self.note(&format!("bit {bit} {}", if set { "passes a group" } else { "drops a group" }));
         self.note_if(set && !by(groups), "match: by the bit of addresses without their low bit");
+        self.note_if(set && length != self.device.header.address, "match: by a bit set under another length");
         self.note_if(!set && by(before), "dropped: by a bit that the list before had set");
+        self.note_if(!set && by(before) && length == 0, "dropped: by a bit that MC-Setup at length 0 has cleared");
         self.note_if(by(late) != set, "order: a group by MC-Setup's own status in its list");
     }
 
@@ -1105,9 +1305,9 @@ impl Chip {
         self.note(&format!("reason: {name}"));
         self.note_if(state != name, &format!("reason: {name}, {state}"));
         self.note_if(bad && why != Reason::Bad, &format!("reason: {name}, bad too"));
-        // Of six bytes or more a match could be asked.
-        if frame.len() >= 6 {
-            let to = destination(frame);
+        // Of a whole address a match could be asked.
+        if frame.len() >= usize::from(self.device.header.address) {
+            let to = self.destination(frame);
             self.note_if(why == Reason::TooFew && !self.matches(to), "reason: too few bytes, no match too");
             self.note_if(self.device.promiscuous && !self.passes(to), &format!("reason: {name}, promiscuous alone"));
         }
@@ -1129,10 +1329,10 @@ impl Chip {
             _ => return,
         };
         let begun = match held.begun {
-            None => self.begin_frame(descriptor, held.length),
+            None => self.begin_frame(descriptor, held),
             Some(storing) => match storing.step {
                 Store::Buffer { descriptor, used, stored } => {
-                    let step = self.store_buffer(descriptor, used, stored, held.length - 14);
+                    let step = self.store_buffer(descriptor, used, stored, held);
                     Storing { step, ..storing }
                 }
                 Store::End { out, free, last_el } => {
@@ -1145,12 +1345,12 @@ impl Chip {
     }
 
     /// "Begin: read +2 and +6, write 4000h." "Data left ... at FFFFh: out of buffers."
-    fn begin_frame(&mut self, descriptor: u16, length: u16) -> Storing {
+    fn begin_frame(&mut self, descriptor: u16, held: Held) -> Storing {
         let word = self.word(self.at(descriptor, 2));
         let first = self.word(self.at(descriptor, 6));
         self.set_field(self.at(descriptor, 0), 0x4000);
-        let step = if length == 14 {
-            self.note("frame: no data");
+        let step = if held.data() == 0 {
+            self.note(&format!("frame: no data, length {}", held.header.address));
             Store::End { out: false, free: first, last_el: false }
         } else if first == NONE {
             self.note("out of buffers: first FFFFh");
@@ -1162,20 +1362,20 @@ impl Chip {
     }
 
     /// "Each buffer turn reads one descriptor whole, fills its buffer (size 0 too), then writes F, count, and EOF if the data ends there.
-    /// Data left after EL, after 64, or at FFFFh: out of buffers."
-    fn store_buffer(&mut self, descriptor: u16, used: u8, stored: u16, data: u16) -> Store {
+    /// Data left after EL, after 64, or at FFFFh: out of buffers." The data stands behind the header, or with location 1 from the first byte on.
+    fn store_buffer(&mut self, descriptor: u16, used: u8, stored: u16, held: Held) -> Store {
         let next = self.word(self.at(descriptor, 2));
         let address = self.real(self.at(descriptor, 4));
         let word = self.word(self.at(descriptor, 8));
         let el = word & 0x8000 != 0;
-        let left = data - stored;
+        let left = held.data() - stored;
         let count = left.min(word & 0x3FFF);
         let used = used + 1;
         self.note_if(word & 0x3FFF == 0, "frame: a buffer of size 0");
         self.note_buffer("frame", address, count);
         self.note_if(count > 0 && self.over_scb(address, u32::from(count)), "frame: a buffer over the SCB");
         for i in 0..count {
-            self.set_byte(address + u32::from(i), self.holding[usize::from(14 + stored + i)]);
+            self.set_byte(address + u32::from(i), self.holding[usize::from(held.header.apart() + stored + i)]);
         }
         let over = self.word(self.at(descriptor, 2)) != next || self.word(self.at(descriptor, 8)) != word;
         self.note_if(over, "order: a buffer lies over its own descriptor");
@@ -1186,6 +1386,7 @@ impl Chip {
             self.note_if(used == MOST, "frame: data ends in the 64th buffer");
             self.note_if(next == NONE, "frame: data ends, next FFFFh");
             self.note_if(count == word & 0x3FFF, "frame: data fills its last buffer");
+            self.note(&format!("frame: {}, {}", if used == 1 { "one buffer" } else { "several buffers" }, held.header.name()));
             Store::End { out: false, free: next, last_el: el }
         } else if el || used == MOST || next == NONE {
             self.note(match (el, used == MOST) {
@@ -1199,22 +1400,25 @@ impl Chip {
         }
     }
 
-    /// "End, if stored: fourteen header bytes, status, FFFFh at +6 if no data; raise FR." "Out of buffers: kept with bit 9 if save-bad was
-    /// set at arrival; else status 0000h, no FR. Either way RSCERRS follows if otherwise good, and No Resources. Descriptor EL, or EL on
-    /// the last buffer used, also gives No Resources, which wins over Suspended. Otherwise +6 of the next frame descriptor (link read now)
-    /// gets the next free offset (with no data, the +6 read at begin), and S or a waiting SUSPEND suspends."
+    /// "End, if stored: fourteen header bytes, status, FFFFh at +6 if no data; raise FR." They are as many as the frame's own length has, and
+    /// none with location 1. "Out of buffers: kept with bit 9 if save-bad was set at arrival; else status 0000h, no FR. Either way RSCERRS
+    /// follows if otherwise good, and No Resources. Descriptor EL, or EL on the last buffer used, also gives No Resources, which wins over
+    /// Suspended. Otherwise +6 of the next frame descriptor (link read now) gets the next free offset (with no data, the +6 read at begin), and
+    /// S or a waiting SUSPEND suspends."
     #[allow(clippy::too_many_arguments)]
     fn end_frame(&mut self, descriptor: u16, suspend: bool, held: Held, storing: Storing, out: bool, free: u16, last_el: bool) {
+        let header = held.header.apart();
         self.note_if(held.save_bad != self.device.save_bad, "frame ends under another save-bad than at arrival");
         if !out || held.save_bad {
-            self.note_if(self.runs_over(self.at(descriptor, 8), 14), "frame: a header over the end of memory");
-            for i in 0..14 {
-                self.set_byte(self.at(descriptor, 8 + i as u32), self.holding[i]);
+            self.note_stored(held);
+            self.note_if(self.runs_over(self.at(descriptor, 8), header), "frame: a header over the end of memory");
+            for i in 0..header {
+                self.set_byte(self.at(descriptor, 8 + u32::from(i)), self.holding[usize::from(i)]);
             }
             let status = self.frame_status(held, out);
             self.note(&format!("stored {status:04X}"));
             self.set_field(self.at(descriptor, 0), status);
-            if held.length == 14 {
+            if held.data() == 0 {
                 self.set_field(self.at(descriptor, 6), NONE);
             }
             self.raise(FR);
@@ -1224,7 +1428,7 @@ impl Chip {
         }
         if out && !held.short && held.verdict == Verdict::Good {
             let from = (self.scb(RSCERRS) + (self.n as u32) - self.at(descriptor, 0) % self.n as u32) % self.n as u32;
-            self.note_if(from == 0 || held.save_bad && from < 22, "order: RSCERRS lies in the frame descriptor");
+            self.note_if(from == 0 || held.save_bad && from < 8 + u32::from(header), "order: RSCERRS lies in the frame descriptor");
             self.count(RSCERRS);
         }
         self.device.ru = if out || storing.el || last_el {
@@ -1260,6 +1464,15 @@ impl Chip {
         };
     }
 
+    /// What is stored by other settings than those of the moment.
+    fn note_stored(&self, held: Held) {
+        let (now, then) = (self.device.header, held.header);
+        let name = then.name();
+        self.note_if(held.length as usize == AREA, &format!("frame: 2,048 bytes stored, {name}"));
+        self.note_if(now.address != then.address, &format!("frame ends under another length, {name}"));
+        self.note_if(now.in_buffers != then.in_buffers, &format!("frame ends under another location, {name}"));
+    }
+
     /// "+0 status (C, B, OK; 11 CRC, 10 alignment, 9 out of buffers, 7 short)". "All bits that apply are set, 10 excluding 11. OK only with
     /// no error bit."
     fn frame_status(&self, held: Held, out: bool) -> u16 {
@@ -1279,9 +1492,9 @@ impl Chip {
     }
 }
 
-/// A frame's first six bytes.
-fn destination(frame: &[u8]) -> [u8; 6] {
-    std::array::from_fn(|i| frame[i])
+/// "all FFh", of any length.
+fn all_ones(address: &[u8]) -> bool {
+    address.iter().all(|byte| *byte == 0xFF)
 }
 
 // ---- The fold ----
@@ -1292,9 +1505,9 @@ const FED: [usize; 13] = [26, 23, 22, 16, 12, 11, 10, 8, 7, 5, 4, 2, 1];
 /// The flags that make the value, the lowest bit first.
 const TAKEN: [usize; 6] = [5, 6, 7, 2, 3, 4];
 
-/// The function HASH there, for six bytes and CRC-32: FB, A and Y are its names. Its vector begins with the low bit of the byte that is
-/// sent first: that bit it calls the multicast bit.
-pub fn hash(address: [u8; 6]) -> u8 {
+/// The function HASH there, for CRC-32 and any address length: FB, A and Y are its names. Its vector begins with the low bit of the byte that
+/// is sent first: that bit it calls the multicast bit.
+pub fn hash(address: &[u8]) -> u8 {
     let mut a = [true; 32];
     for byte in address {
         for bit in 0..8 {
@@ -1310,6 +1523,6 @@ pub fn hash(address: [u8; 6]) -> u8 {
 }
 
 /// 02: "it folds each address through the CRC into a 64-bit filter", whatever the address's low bit is.
-fn fold(addresses: &[[u8; 6]]) -> u64 {
-    addresses.iter().fold(0, |filter, address| filter | 1 << hash(*address))
+fn fold(addresses: &[Vec<u8>]) -> u64 {
+    addresses.iter().fold(0, |filter, address| filter | 1 << hash(address))
 }

@@ -8,7 +8,7 @@ use std::io::{self, Write};
 pub const PORTION: u64 = 2_500;
 
 /// Met less often than this in 50,000 calls is rare.
-const RARE: u64 = 15;
+const RARE: u64 = 10;
 
 pub fn coverage(seed: u64, calls: u64, out: &mut dyn Write) -> io::Result<bool> {
     let mut met: BTreeMap<String, u64> = points().into_iter().map(|point| (point, 0)).collect();
@@ -90,7 +90,7 @@ fn points() -> Vec<String> {
     for verdict in 0..4 {
         add(format!("arrival of verdict {verdict}"));
     }
-    for length in [0, 13, 14, 2048] {
+    for length in [0, 1, 2048] {
         add(format!("arrival of {length} bytes"));
     }
     for kind in ["Good", "Crc", "Misaligned", "short Good", "short Crc", "short Misaligned"] {
@@ -114,11 +114,71 @@ fn points() -> Vec<String> {
     for reason in ["too few bytes", "Idle", "Suspended", "bad"] {
         add(format!("reason: {reason}, promiscuous alone"));
     }
+    for point in lengths() {
+        add(point);
+    }
     for status in ["A000", "8080", "8800", "8880", "8400", "8480", "8200", "8280", "8A00", "8A80", "8600", "8680"] {
         add(format!("stored {status}"));
     }
     all
 }
+
+/// What must be met with each address length and each location.
+fn lengths() -> Vec<String> {
+    let mut all = Vec::new();
+    for length in 0..7 {
+        all.push(format!("IA-Setup, length {length}"));
+        all.push(format!("frame: no data, length {length}"));
+        all.push(format!("Transmit: a header alone sent, length {length}, location 0"));
+        for location in 0..2 {
+            all.push(format!("Configure: length {length}, location {location}"));
+            all.extend(HEADERS.iter().map(|what| format!("{what}, length {length}, location {location}")));
+        }
+    }
+    for length in 1..7 {
+        all.extend(ADDRESSES.iter().map(|what| format!("{what}, length {length}")));
+    }
+    for length in 2..7 {
+        all.push(format!("dropped: own but for its last byte, length {length}"));
+    }
+    for phase in ["not begun", "at its buffers", "at its end"] {
+        for change in ["a length below that of a held frame", "a length above that of a held frame"] {
+            all.push(format!("Configure: {change}, {phase}"));
+        }
+        for change in ["location 1 under a held frame of 0", "location 0 under a held frame of 1"] {
+            all.push(format!("Configure: {change}, {phase}"));
+        }
+    }
+    all
+}
+
+/// By length and location.
+const HEADERS: [&str; 13] = [
+    "Transmit: one descriptor",
+    "Transmit: several descriptors",
+    "Transmit: others sent",
+    "Transmit: 2,048 bytes sent",
+    "Transmit fails: 2,048 passed by one",
+    "arrival of one byte below its header",
+    "arrival of its header alone",
+    "arrival of one byte above its header",
+    "frame: one buffer",
+    "frame: several buffers",
+    "frame: 2,048 bytes stored",
+    "frame ends under another length",
+    "frame ends under another location",
+];
+
+/// By length, where the address is judged.
+const ADDRESSES: [&str; 7] = [
+    "match: broadcast",
+    "match: own",
+    "match: by its bit",
+    "dropped: broadcast disabled",
+    "dropped: a group",
+    "dropped: another's",
+    "MC-Setup of addresses",
+];
 
 const POINTS: &str = "
     reset
@@ -163,6 +223,7 @@ const POINTS: &str = "
     run ends: budget
     run ends: budget, with a frame sent or an edge
     run ends: before its budget
+    run goes on behind a Transmit of no bytes
     end with I
     end with EL
     end with EL and S
@@ -174,37 +235,40 @@ const POINTS: &str = "
     a command's link is FFFFh
     a command's link is its own block
     IA-Setup: an address over the end of memory
-    Configure fails: length
-    Configure fails: location
+    Configure: a shorter length, the filter is not empty
+    Configure: a greater length, the filter is not empty
+    Configure fails: length 7
     Configure fails: loopback, bit 6
     Configure fails: loopback, bit 7
     Configure alters save-bad under a held frame
     MC-Setup with a remainder
     MC-Setup with bits above the count
     MC-Setup of count 0
-    MC-Setup of counts 1 to 5
+    MC-Setup of length 0
+    MC-Setup of less than an address
     MC-Setup of 1 address
     MC-Setup of 2 to 16
     MC-Setup of 17
     MC-Setup of 30
     MC-Setup of others above 17
-    MC-Setup of 2,730
+    MC-Setup of as many as there can be
     MC-Setup: a list over the end of memory
     MC-Setup: a list more than once around memory
     MC-Setup: a list over its own status
     MC-Setup: a bit by an address without its low bit alone
     MC-Setup empties the filter
+    MC-Setup empties the filter by length 0 alone
     MC-Setup clears bits and sets others
     MC-Setup sets all bits
     Transmit without a descriptor
-    Transmit: several descriptors
+    Transmit without a descriptor, of no bytes
+    Transmit in descriptors, of no bytes
     Transmit: count 0
     Transmit: count 0 at 2,048
     Transmit: a type over the end of memory
     Transmit: EOF in the 64th descriptor
     Transmit: EOF and next FFFFh
     Transmit fails: 2,048 passed
-    Transmit fails: 2,048 passed by one
     Transmit fails: 2,048 passed, with EOF
     Transmit fails: FFFFh before EOF
     Transmit fails: no EOF in 64 descriptors
@@ -212,8 +276,7 @@ const POINTS: &str = "
     Transmit: not sent
     Transmit: sent
     Transmit: sent, with a report
-    Transmit: 14 bytes sent
-    Transmit: 2,048 bytes sent
+    Transmit: no bytes, OK
     lost in No Resources, save-bad set
     lost in No Resources, save-bad clear
     overrun: bad, save-bad set
@@ -230,6 +293,7 @@ const POINTS: &str = "
     dropped: a group whose bit is clear
     dropped: a group, the filter is empty
     dropped: by a bit that the list before had set
+    dropped: by a bit that MC-Setup at length 0 has cleared
     dropped: listed without its low bit
     dropped: another's
     dropped: another's, its bit set
@@ -240,9 +304,16 @@ const POINTS: &str = "
     match: a listed group
     match: a group not listed, by a bit of another's
     match: by the bit of addresses without their low bit
+    match: by a bit set under another length
+    match: own, by its first bytes alone
+    match: own, set under a shorter length
+    match: broadcast, by its first bytes alone
+    match: promiscuous alone, length 0
+    dropped: length 0, broadcast enabled
+    dropped: length 0, broadcast disabled
+    dropped: length 0, the filter is not empty
     arrival one byte below the minimum
     arrival of just the minimum
-    frame: no data
     frame: a buffer of size 0
     frame: a buffer over the SCB
     frame: data ends in the EL buffer

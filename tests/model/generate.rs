@@ -1,7 +1,7 @@
 //! Makes random lists of lines and what must be printed for them. A list is made while the model runs it, so that the lines can aim at the
 //! chip's present state. Everything follows from the seed and the number of calls.
 
-use crate::chip::{hash, Cu, Device, Ru, Send, Store, Wrote, NONE};
+use crate::chip::{hash, Cu, Device, Header, Ru, Send, Store, Wrote, AREA, NONE};
 use crate::list::{Replay, MEMORY};
 use std::io::{self, Write};
 
@@ -51,6 +51,27 @@ struct Scene {
     pieces: Vec<usize>,
     /// Working turns since a list or a receive area was started.
     stale: usize,
+}
+
+/// What a Configure says of all that the chip keeps.
+#[derive(Clone, Copy)]
+struct Settings {
+    save_bad: bool,
+    header: Header,
+    byte8: u8,
+    minimum: u8,
+}
+
+impl Settings {
+    /// The block's bytes from +6 on.
+    fn bytes(self) -> [u8; 12] {
+        [12, 0, if self.save_bad { 0x80 } else { 0 }, byte3(self.header), 0, 0, 0, 0, self.byte8, 0, self.minimum, 0]
+    }
+}
+
+/// "Byte 3: bits 2-0 address length, 3 address location"
+fn byte3(header: Header) -> u8 {
+    header.address | if header.in_buffers { 0x08 } else { 0 }
 }
 
 pub struct Generator<'a> {
@@ -179,6 +200,19 @@ impl Generator<'_> {
 
     fn n(&self) -> usize {
         self.replay.chip.n
+    }
+
+    /// The address length in force, the header's bytes, and those of them that no buffer has.
+    fn address_length(&self) -> usize {
+        self.device().header.address.into()
+    }
+
+    fn header(&self) -> usize {
+        self.device().header.bytes().into()
+    }
+
+    fn apart(&self) -> usize {
+        self.device().header.apart().into()
     }
 
     /// A number in one of its forms.
@@ -420,17 +454,19 @@ impl Generator<'_> {
             self.note("size altered under a running chip");
             self.allowed_size()?;
         }
-        match self.random.below(270) {
+        match self.random.below(290) {
             0 => return self.long_send(),
             1 => return self.long_store(),
             2..=8 => return self.small_store(),
             9..=18 => return self.small_send(),
             19..=21 => return self.over_scb(),
-            22..=26 => return self.crossing(),
-            27..=31 => return self.filtering(),
-            32..=34 => return self.end_send(),
-            35..=37 => return self.end_store(),
-            38 => return self.dropping(),
+            22..=27 => return self.crossing(),
+            28..=33 => return self.filtering(),
+            34..=37 => return self.end_send(),
+            38..=40 => return self.end_store(),
+            41 => return self.dropping(),
+            42..=50 => return self.headers_sent(),
+            51..=63 => return self.headers_held(),
             _ => {}
         }
         let device = self.device();
@@ -465,25 +501,46 @@ impl Generator<'_> {
 
     // ---- One frame, closely watched ----
 
-    /// Starts a list of one Configure, with this byte 8.
-    fn start_configure(&mut self, save_bad: bool, byte8: u8, minimum: u8) -> io::Result<()> {
+    /// Lays a list of one Configure.
+    fn lay_configure(&mut self, settings: Settings) -> io::Result<()> {
         let block = self.piece(24);
         let offset = self.offset(block);
-        self.put(block, &[0, 0, 2, 0x80, 0, 0, 12, 0, if save_bad { 0x80 } else { 0 }, 6, 0, 0, 0, 0, byte8, 0, minimum, 0])?;
-        self.put_words(self.scb(4), &[offset])?;
+        self.put_words(block, &[0, 0x8002, 0])?;
+        self.put(block + 6, &settings.bytes())?;
+        self.put_words(self.scb(4), &[offset])
+    }
+
+    /// Starts one.
+    fn start_configure(&mut self, settings: Settings) -> io::Result<()> {
+        self.lay_configure(settings)?;
         self.command(0x0100)
+    }
+
+    /// A length and a location: mostly those after reset.
+    fn some_header(&mut self) -> Header {
+        Header { address: self.random.pick(&[6, 6, 6, 6, 2, 2, 0, 1, 3, 4, 5]), in_buffers: self.random.chance(35) }
+    }
+
+    /// Any length and location, each as often as the others.
+    fn any_header(&mut self) -> Header {
+        Header { address: self.random.below(7) as u8, in_buffers: self.random.chance(50) }
+    }
+
+    /// Byte 8 of a Configure: with length 0 mostly promiscuous, since nothing else is received.
+    fn byte8(&mut self, header: Header, byte: u8) -> u8 {
+        if header.address == 0 && self.random.chance(70) { byte | 1 } else { byte }
     }
 
     /// A frame, good or bad, into few buffers, with SUSPEND, S and other settings on its way.
     fn small_store(&mut self) -> io::Result<()> {
         self.command(0xF440)?;
-        let save_bad = self.random.chance(85);
-        let minimum = self.random.pick(&[64, 64, 64, 40, 18]);
-        self.start_configure(save_bad, 0, minimum)?;
+        let (save_bad, header, minimum) = (self.random.chance(85), self.some_header(), self.random.pick(&[64, 64, 64, 40, 18]));
+        let settings = Settings { save_bad, header, byte8: self.byte8(header, 0), minimum };
+        self.start_configure(settings)?;
         self.line("turn 2".into())?;
         let descriptors = [self.piece(22), self.piece(22), self.piece(10), self.piece(10)];
         let offsets = descriptors.map(|at| self.offset(at));
-        let bits = self.random.pick(&[0, 0, 0x4000, 0x4000, 0x8000, 0xC000]);
+        let bits = self.random.pick(&[0, 0x4000, 0x4000, 0x4000, 0x8000, 0xC000]);
         let first = if self.random.chance(25) { NONE } else { offsets[2] };
         self.put_words(descriptors[0], &[0, bits, offsets[1], first])?;
         for (i, next) in [(2, offsets[3]), (3, NONE)] {
@@ -495,14 +552,14 @@ impl Generator<'_> {
         }
         self.put_words(self.scb(6), &[offsets[0]])?;
         self.command(0x0010)?;
-        let length = 14 + self.random.below(60);
+        let length = self.header() + self.random.below(60);
         let to = self.sure();
         self.frame(to, length)?;
         for _ in 0..9 {
-            match self.random.below(14) {
-                0 | 1 => self.command(0x0030)?,
-                2 => self.attention()?,
-                3 | 4 if !self.device().cu_works() => self.start_configure(!save_bad, 0, minimum)?,
+            match self.random.below(15) {
+                0..=2 => self.command(0x0030)?,
+                14 => self.attention()?,
+                3 | 4 if !self.device().cu_works() => self.start_configure(Settings { save_bad: !save_bad, ..settings })?,
                 5..=7 if self.device().ru_name().contains("waits") => self.attention()?,
                 _ if self.device().ru_works() => self.turn()?,
                 _ => break,
@@ -600,22 +657,29 @@ impl Generator<'_> {
                 (self.plain_transmit(block, first)?, length)
             }
             3..=5 => {
-                let block = if self.random.chance(50) { self.end_place(8) - 8 } else { self.end_place(2) - 14 };
-                (self.plain_transmit(block, NONE)?, 14)
+                let address = self.address_length();
+                let block = if self.random.chance(35) { self.end_place(address + 2) - 8 } else { self.end_place(2) - 8 - address };
+                (self.plain_transmit(block, NONE)?, self.apart())
             }
-            _ => {
-                let (block, setup) = (self.piece(16), self.end_place(6) - 6);
-                let (link, own) = (self.plain_transmit(block, NONE)?, self.any_bytes(6));
-                self.put_words(setup, &[0, 1, link])?;
-                self.put(setup + 6, &own)?;
-                (self.offset(setup), 14)
-            }
+            _ => (self.end_own()?, usize::from(Header::AFTER_RESET.bytes())),
         };
         self.put_words(self.scb(4), &[begins])?;
         self.command(0x0100)?;
         self.end_turns()?;
         self.show_scb()?;
-        self.line(format!("show outgoing 0 {}", (length + 2).min(2048)))
+        self.line(format!("show outgoing 0 {}", (length + 2).min(AREA)))
+    }
+
+    /// Lays an IA-Setup, and behind it a Configure and a Transmit that show all of the address; the offset of the first comes back.
+    fn end_own(&mut self) -> io::Result<u16> {
+        let (block, configure, setup) = (self.piece(16), self.piece(24), self.end_place(6) - 6);
+        let (transmit, own, save_bad) = (self.plain_transmit(block, NONE)?, self.any_bytes(6), self.random.pick(&[0, 0x80]));
+        self.put_words(configure, &[0, 2, transmit])?;
+        self.put(configure + 6, &[4, 0, save_bad, byte3(Header::AFTER_RESET)])?;
+        let link = self.offset(configure);
+        self.put_words(setup, &[0, 1, link])?;
+        self.put(setup + 6, &own)?;
+        Ok(self.offset(setup))
     }
 
     /// Lays a Transmit with EL and any header; its offset comes back.
@@ -628,12 +692,13 @@ impl Generator<'_> {
 
     /// Lays one to four descriptors with buffers at the end of memory; the offset of the first and the frame's length come back.
     fn end_chain(&mut self) -> io::Result<(u16, usize)> {
-        // From the last to the first: none behind 2,034 bytes or one too many, or a few.
+        // From the last to the first: none behind as many bytes as there may be or one more, or a few.
+        let apart = self.apart();
         let sizes: Vec<usize> = match self.random.below(6) {
-            0 => vec![0, 2034 + self.random.below(2)],
+            0 => vec![0, AREA - apart + self.random.below(2)],
             _ => (0..1 + self.random.below(4)).map(|_| self.end_length()).collect(),
         };
-        let (mut next, mut eof, mut length) = (NONE, 0x8000, 14);
+        let (mut next, mut eof, mut length) = (NONE, 0x8000, apart);
         for size in sizes {
             let data = self.end_buffer(size.max(2))?;
             let (descriptor, real) = (self.piece(8), self.real_bytes(data));
@@ -649,21 +714,23 @@ impl Generator<'_> {
         if self.device().cu_works() || matches!(self.device().ru, Ru::Ready { .. }) {
             self.command(0xF440)?;
         }
-        let size = self.end_length();
-        let rest = usize::from(self.device().minimum).saturating_sub(18 + size) + self.random.below(3);
+        let (size, header, apart) = (self.end_length(), self.header(), self.apart());
+        let least = usize::from(self.device().minimum).saturating_sub(4).max(header);
+        let rest = least.saturating_sub(apart + size) + self.random.below(3);
         let other = self.piece(rest);
         let (descriptor, data) = if self.random.chance(70) {
             (self.piece(22), self.end_buffer(size)?)
         } else {
-            (self.end_place(14) - 8, self.piece(size))
+            (self.end_place(header) - 8, self.piece(size))
         };
         let first = self.end_buffers((data, size), (other, rest))?;
         let (offset, bits) = (self.offset(descriptor), self.random.pick(&[0, 0, 0x4000, 0x8000]));
         self.put_words(descriptor, &[0, bits, offset, first])?;
         self.put_words(self.scb(6), &[offset])?;
         self.command(0x0010)?;
-        let (to, behind) = (self.sure(), self.any_bytes(8 + size + rest));
-        self.line(format!("arrival 0 {} {}", hex(&to), hex(&behind)))?;
+        let address = self.address_length();
+        let (to, behind) = (self.sure(), self.any_bytes(apart + size + rest - address));
+        self.line(format!("arrival 0 {} {}", hex(&to[..address]), hex(&behind)))?;
         self.end_turns()?;
         self.show_scb()?;
         self.show(data + self.n() - 2, size + 4)?;
@@ -691,11 +758,61 @@ impl Generator<'_> {
     /// An MC-Setup of any count, and groups behind it: the first that passes is held, and the SCB counts all others that do.
     fn filtering(&mut self) -> io::Result<()> {
         self.command(0xF440)?;
-        let n = self.n();
+        let mut header = self.some_header();
+        // A filter that is emptied by the length alone.
+        if self.device().filter != 0 && self.random.chance(6) {
+            header.address = 0;
+        }
+        let count = self.filter_count(header.address.into())?;
+        let (first, block, descriptor) = (self.piece(24), self.piece(188), self.piece(22));
+        let offsets = [first, block, descriptor].map(|at| self.offset(at));
+        let broadcasts = self.random.pick(&[0, 0, 2]);
+        let settings = Settings { save_bad: self.random.chance(66), header, byte8: broadcasts, minimum: 18 };
+        self.put_words(first, &[0, 2, offsets[1]])?;
+        self.put(first + 6, &settings.bytes())?;
+        let (link, high) = (self.random.word(), self.random.pick(&[0, 0, 0, 0x8000, 0xC000]));
+        self.put_words(block, &[self.calls as u16, 0x8003, link, count as u16 | high])?;
+        let list = self.filter_list(count, header.address.into(), broadcasts != 0);
+        if !list.is_empty() && (count < 1_000 || self.random.chance(50)) {
+            self.put(block + 8, &list)?;
+        }
+        self.put_words(self.scb(4), &[offsets[0]])?;
+        self.command(0x0100)?;
+        self.line("turn 4".into())?;
+        self.show(block, 8)?;
+        // That length 0 has emptied the filter shows under another length; under this one no frame matches.
+        if header.address == 0 {
+            self.frame([0xFF; 6], 20)?;
+            let header = Header { address: 1 + self.random.below(6) as u8, ..header };
+            self.start_configure(Settings { header, ..settings })?;
+            self.line("run 2".into())?;
+        }
+        self.put_words(descriptor, &[0, 0, offsets[2], NONE])?;
+        self.put_words(self.scb(6), &[offsets[2]])?;
+        self.command(0x0010)?;
+        // The fewer bits are set, the sooner all is known of them.
+        for _ in 0..4 + 2 * self.device().filter.count_ones().min(8) {
+            let (to, length) = (self.candidate(), self.header() + self.random.below(40));
+            self.frame(to, length)?;
+        }
+        self.show_scb()
+    }
+
+    /// How many bytes an MC-Setup shall have, for addresses of this length.
+    fn filter_count(&mut self, length: usize) -> io::Result<usize> {
+        let (n, unit) = (self.n(), length.max(1));
         let (around, any) = (8_184 + self.random.below(8_200), self.random.below(16_384));
-        let few = 6 + self.random.below(36);
-        let many = 6 + self.random.below(378);
-        let mut count = self.random.pick(&[0, 5, 6, few, few, 102, 180, 180, many, many, many, any, 16_383, around, around, around]);
+        let few = unit + self.random.below(6 * unit);
+        let many = unit + self.random.below(63 * unit);
+        let fixed = [0, unit - 1, unit, 17 * unit, 30 * unit, 30 * unit];
+        let mut count = match self.random.below(16) {
+            which @ 0..=5 => fixed[which],
+            6 => few,
+            7..=10 => many,
+            11 => any,
+            12 => 16_383,
+            _ => around,
+        };
         if count > 1_000 || self.random.chance(10) {
             // Little else in memory: few bits are set by what a long list meets there.
             let byte = self.random.byte();
@@ -704,72 +821,244 @@ impl Generator<'_> {
                 count = 16_380 + self.random.below(4);
             }
         }
-        let (first, block, descriptor) = (self.piece(24), self.piece(188), self.piece(22));
-        let offsets = [first, block, descriptor].map(|at| self.offset(at));
-        let broadcasts = self.random.pick(&[0, 0, 2]);
-        let save_bad = self.random.pick(&[0x80, 0x80, 0]);
-        self.put_words(first, &[0, 2, offsets[1]])?;
-        self.put(first + 6, &[12, 0, save_bad, 6, 0, 0, 0, 0, broadcasts, 0, 18, 0])?;
-        let (link, high) = (self.random.word(), self.random.pick(&[0, 0, 0, 0x8000, 0xC000]));
-        self.put_words(block, &[self.calls as u16, 0x8003, link, count as u16 | high])?;
+        Ok(count)
+    }
+
+    /// At most thirty addresses of this length, packed. If broadcasts are disabled, the bit of all FFh is mostly set by another.
+    fn filter_list(&mut self, count: usize, length: usize, disabled: bool) -> Vec<u8> {
+        let ones = [0xFF; 6];
         let mut listed: Vec<[u8; 6]> = Vec::new();
-        for _ in 0..(count / 6).min(30) {
+        for _ in 0..(count / length.max(1)).min(30) {
             let any = std::array::from_fn(|_| self.random.byte());
             listed.push(if self.random.chance(60) { any } else { self.address() });
         }
-        // The bit of all FFh, by another address.
-        if broadcasts != 0 {
-            let other = self.falling(1 << hash([0xFF; 6]), 1);
+        if disabled && self.random.chance(50) {
+            let other = self.falling_of(length, 1 << hash(&ones[..length]), 1);
             for (i, address) in listed.iter_mut().enumerate() {
-                if i == 0 || *address == [0xFF; 6] {
+                if i == 0 || address[..length] == ones[..length] {
                     *address = other;
                 }
             }
         }
-        if !listed.is_empty() && (count < 1_000 || self.random.chance(50)) {
-            self.put(block + 8, &listed.concat())?;
-        }
-        self.put_words(self.scb(4), &[offsets[0]])?;
-        self.command(0x0100)?;
-        self.line("turn 4".into())?;
-        self.show(block, 8)?;
-        self.put_words(descriptor, &[0, 0, offsets[2], NONE])?;
-        self.put_words(self.scb(6), &[offsets[2]])?;
-        self.command(0x0010)?;
-        for _ in 0..if self.device().filter == 0 { 4 } else { 20 } {
-            let (to, length) = (self.candidate(), 14 + self.random.below(40));
-            self.frame(to, length)?;
-        }
-        self.show_scb()
+        listed.iter().flat_map(|address| address[..length].to_vec()).collect()
     }
 
     /// An address that the filter decides on, or seems to.
     fn candidate(&mut self) -> [u8; 6] {
         let Device { filter, ref listed, .. } = *self.device();
         let (late, earlier, by_others) = (filter ^ listed.late, listed.before & !filter, filter & !listed.groups);
+        let ones = 1 << hash(&[0xFF; 6][..self.address_length()]);
         match self.random.below(20) {
+            0..=8 if filter == 0 => self.falling(earlier, 1),
             0..=8 => self.falling(filter, 1),
             9..=12 => self.falling(!filter, 1),
             13 | 14 => self.falling(late, 1),
             15 => self.falling(earlier, 1),
             16 if self.random.chance(50) => self.falling(by_others, 1),
             // The bit of all FFh, which few lists leave clear.
-            16 => self.falling(1 << hash([0xFF; 6]), 1),
+            16 => self.falling(ones, 1),
             17 => self.falling(filter, 0),
             18 => [0xFF; 6],
             _ => self.address(),
         }
     }
 
-    /// Any address with this low bit that falls on one of these bits of the filter; on any bit, if there are none.
+    /// Any address with this low bit that falls on one of these bits of the filter, by the length in force.
     fn falling(&mut self, bits: u64, low: u8) -> [u8; 6] {
-        loop {
-            let mut address: [u8; 6] = std::array::from_fn(|_| self.random.byte());
+        self.falling_of(self.address_length(), bits, low)
+    }
+
+    /// The same by this length; on any bit, if there are none. Short addresses do not fall on every bit: then any is taken in the end.
+    fn falling_of(&mut self, length: usize, bits: u64, low: u8) -> [u8; 6] {
+        let mut address = [0; 6];
+        for _ in 0..1_000 {
+            address = std::array::from_fn(|_| self.random.byte());
             address[0] = address[0] & 0xFE | low;
-            if bits == 0 || bits >> hash(address) & 1 != 0 {
-                return address;
+            if bits == 0 || bits >> hash(&address[..length]) & 1 != 0 {
+                break;
             }
         }
+        address
+    }
+
+    // ---- Lengths and locations, closely watched ----
+
+    /// A Configure, and behind it four Transmits by what it says.
+    fn headers_sent(&mut self) -> io::Result<()> {
+        self.command(0xF440)?;
+        let settings = self.taking();
+        let mut link = self.random.word();
+        // From the last to the first.
+        for i in 0..4 {
+            let (chain, block) = (self.chain_for(settings.header)?, self.piece(16));
+            let (end, interrupt) = (if i == 0 { 0x8000 } else { 0 }, self.random.pick(&[0, 0, 0x2000]));
+            let header = self.any_bytes(8);
+            self.put_words(block, &[0, 4 | end | interrupt, link, chain])?;
+            self.put(block + 8, &header)?;
+            link = self.offset(block);
+        }
+        let first = self.piece(24);
+        self.put_words(first, &[0, 2, link])?;
+        self.put(first + 6, &settings.bytes())?;
+        let offset = self.offset(first);
+        self.put_words(self.scb(4), &[offset])?;
+        self.command(0x0100)?;
+        for _ in 0..9 {
+            if self.device().cu_works() {
+                self.sending_turns()?;
+            }
+        }
+        self.show_scb()
+    }
+
+    /// A run, or two turns, mostly with a report that sends.
+    fn sending_turns(&mut self) -> io::Result<()> {
+        let report = self.random.pick(&[0, 0, 0, 0, 0, 0x0003, 0x00C0, 0x0020]);
+        let how = self.random.pick(&["run 90", "run 90", "run 90", "turn 2"]);
+        self.line(format!("{how} {report}"))?;
+        self.observe()
+    }
+
+    /// Lays a chain for a Transmit with this header: none; or buffers of no byte, of a few, of as many as there may be, or of one more.
+    fn chain_for(&mut self, header: Header) -> io::Result<u16> {
+        let (few, most) = (1 + self.random.below(60), AREA - usize::from(header.apart()));
+        let total = match self.random.below(10) {
+            0 => return Ok(NONE),
+            1 => 0,
+            2 | 3 => few,
+            4..=6 => most,
+            _ => most + 1,
+        };
+        // Its first bytes tell one from another; what follows is whatever stands there.
+        let (mut data, bytes) = (self.piece(64), self.any_bytes(24));
+        self.put(data, &bytes)?;
+        let count = self.random.pick(&[1, 1, 2, 3]);
+        let parts = self.parts(total, count);
+        let places: Vec<usize> = parts.iter().map(|_| self.piece(8)).collect();
+        let offsets: Vec<u16> = places.iter().map(|at| self.offset(*at)).collect();
+        for (i, part) in parts.iter().enumerate() {
+            let last = i + 1 == parts.len();
+            let next = if last { self.random.pick(&[NONE, 0x1234]) } else { offsets[i + 1] };
+            self.put_words(places[i], &[*part as u16 | if last { 0x8000 } else { 0 }, next])?;
+            let real = self.real_bytes(data % self.n());
+            self.put(places[i] + 4, &real)?;
+            data += part;
+        }
+        Ok(offsets[0])
+    }
+
+    /// So many bytes in so many parts.
+    fn parts(&mut self, total: usize, count: usize) -> Vec<usize> {
+        let (mut parts, mut left) = (Vec::new(), total);
+        for _ in 1..count {
+            let part = self.random.below(left + 1);
+            parts.push(part);
+            left -= part;
+        }
+        parts.push(left);
+        parts
+    }
+
+    /// Settings of any length and location that let frames in: with length 0 that is promiscuous mode.
+    fn taking(&mut self) -> Settings {
+        let header = self.any_header();
+        let byte8 = if header.address == 0 { 1 } else { self.random.pick(&[0, 0, 0, 0, 0, 1, 2]) };
+        Settings { save_bad: self.random.chance(85), header, byte8, minimum: self.random.pick(&[0, 0, 6, 18, 64]) }
+    }
+
+    /// A frame that is held while a Configure says another length or location: before its begin, at its buffers or at its end.
+    fn headers_held(&mut self) -> io::Result<()> {
+        self.command(0xF440)?;
+        let (settings, mut other) = (self.taking(), self.taking());
+        if self.random.chance(50) {
+            other.header.in_buffers = !settings.header.in_buffers;
+        }
+        let (descriptors, data) = self.wide_area()?;
+        self.lay_configure(settings)?;
+        self.command(0x0110)?;
+        self.line("run 2".into())?;
+        if self.random.chance(60) {
+            let (to, few) = (self.sure(), self.header() - 1);
+            self.frame(to, few)?;
+        }
+        self.near_frame()?;
+        if self.random.chance(35) {
+            self.hold_behind(other)?;
+        } else {
+            for _ in 0..self.random.below(3) {
+                self.turn_line(1)?;
+            }
+            self.start_configure(other)?;
+        }
+        self.held_turns()?;
+        for at in descriptors {
+            self.show(at, 22)?;
+        }
+        self.show(data, 40)?;
+        // The next frame is stored by what the Configure has said.
+        self.near_frame()?;
+        self.held_turns()
+    }
+
+    /// Turns and runs, until nothing is left to do.
+    fn held_turns(&mut self) -> io::Result<()> {
+        for _ in 0..10 {
+            if self.device().ru_works() || self.device().cu_works() {
+                let how = self.random.pick(&["turn", "run 9", "run 9", "run 9"]);
+                self.line(how.into())?;
+                self.observe()?;
+            }
+        }
+        Ok(())
+    }
+
+    /// Brings the held frame to its end, between a Configure's begin and its end; the next frame is held then and not begun.
+    fn hold_behind(&mut self, other: Settings) -> io::Result<()> {
+        for _ in 0..6 {
+            if self.device().held().map_or(false, |held| !matches!(held.begun.map(|begun| begun.step), Some(Store::End { .. }))) {
+                self.turn_line(1)?;
+            }
+        }
+        self.start_configure(other)?;
+        self.line("turn 2".into())?;
+        self.near_frame()?;
+        self.turn_line(1)?;
+        self.observe()
+    }
+
+    /// A frame that begins as the chip takes it: of its header alone, of a byte more, of a few, or as long as may be.
+    fn near_frame(&mut self) -> io::Result<()> {
+        let header = self.header();
+        let few = header + 2 + self.random.below(40);
+        let length = self.random.pick(&[header, header, header + 1, header + 1, few, AREA, AREA, AREA]);
+        let to = if self.random.chance(70) { self.sure() } else { self.device().own };
+        self.frame(to, length)
+    }
+
+    /// Two frame descriptors and a ring of buffers with room for the longest frame; where they lie comes back, and where the first buffer does.
+    fn wide_area(&mut self) -> io::Result<([usize; 2], usize)> {
+        let sizes = match self.random.below(5) {
+            0 | 1 => vec![AREA],
+            2 => vec![1, AREA],
+            3 => vec![5, 9, AREA],
+            _ => vec![700, 700, 700],
+        };
+        let descriptors = [self.piece(22), self.piece(22)];
+        let offsets = descriptors.map(|at| self.offset(at));
+        let data = self.piece(AREA + 60);
+        let places: Vec<usize> = sizes.iter().map(|_| self.piece(10)).collect();
+        let links: Vec<u16> = places.iter().map(|at| self.offset(*at)).collect();
+        let mut at = data;
+        for (i, size) in sizes.iter().enumerate() {
+            let real = self.real(at % self.n());
+            self.put_words(places[i], &[0, links[(i + 1) % links.len()], real as u16, (real >> 16) as u16, *size as u16])?;
+            at += size;
+        }
+        let bits = self.random.pick(&[0, 0, 0, 0x8000]);
+        self.put_words(descriptors[0], &[0, 0, offsets[1], links[0]])?;
+        self.put_words(descriptors[1], &[0, bits, offsets[0], links[0]])?;
+        self.put_words(self.scb(6), &[offsets[0]])?;
+        Ok((descriptors, data))
     }
 
     // ---- Why a frame is dropped, closely watched ----
@@ -777,9 +1066,9 @@ impl Generator<'_> {
     /// Frames of all kinds in every state of the RU: of several reasons the first is told.
     fn dropping(&mut self) -> io::Result<()> {
         self.command(0xF440)?;
-        let (save_bad, byte8) = (self.random.chance(50), self.random.pick(&[0, 0, 0, 1, 1, 1, 2]));
-        let minimum = self.random.pick(&[64, 64, 64, 64, 30, 30, 18, 255]);
-        self.start_configure(save_bad, byte8, minimum)?;
+        let (save_bad, header, byte8) = (self.random.chance(40), self.some_header(), self.random.pick(&[0, 0, 0, 1, 1, 1, 2, 2]));
+        let (byte8, minimum) = (self.byte8(header, byte8), self.random.pick(&[64, 64, 64, 64, 30, 30, 18, 255]));
+        self.start_configure(Settings { save_bad, header, byte8, minimum })?;
         self.line("turn 2".into())?;
         // Idle
         self.judged(4)?;
@@ -798,7 +1087,7 @@ impl Generator<'_> {
         let to = self.sure();
         self.line(format!("arrival 0 {} 255x00", hex(&to)))?;
         self.line("turn 2".into())?;
-        self.judged(7)?;
+        self.judged(9)?;
         // Before the first attention
         if self.random.chance(50) {
             self.command(0x0080)?;
@@ -807,7 +1096,7 @@ impl Generator<'_> {
         Ok(())
     }
 
-    /// So many frames, to the chip or to others, of lengths about fourteen and about the minimum.
+    /// So many frames, to the chip or to others, of lengths about the header's and about the minimum.
     fn judged(&mut self, count: usize) -> io::Result<()> {
         for _ in 0..count {
             let to = if self.random.chance(if self.device().promiscuous { 40 } else { 65 }) { self.sure() } else { self.stranger() };
@@ -818,14 +1107,21 @@ impl Generator<'_> {
     }
 
     fn judged_length(&mut self) -> usize {
-        let minimum = usize::from(self.device().minimum).max(18);
+        let (header, minimum) = (self.header(), usize::from(self.device().minimum));
         match self.random.below(8) {
-            0 => self.random.below(14),
-            1 => self.random.pick(&[12, 13, 13, 14]),
-            2..=4 => 14 + self.random.below(minimum - 17),
-            5 => minimum - 4,
-            _ => minimum + self.random.below(40),
+            0 => self.random.below(header),
+            1 => self.random.pick(&[header - 2, header - 1, header - 1, header]),
+            2..=4 => self.short_length(),
+            5 => minimum.saturating_sub(4).max(header),
+            _ => minimum.max(header) + self.random.below(40),
         }
+    }
+
+    /// A short frame's length, or just the header's if no frame is short.
+    fn short_length(&mut self) -> usize {
+        let header = self.header();
+        let least = usize::from(self.device().minimum).saturating_sub(4);
+        header + self.random.below(least.saturating_sub(header).max(1))
     }
 
     /// An address that the chip takes in promiscuous mode alone, or nearly always so: a group may fall on a bit that is set.
@@ -878,7 +1174,7 @@ impl Generator<'_> {
             // The attention wrote over what lay at the SCB's first words.
             self.put_words(at + 2, &[bits, link, first])?;
             self.show_scb()?;
-            let length = self.random.pick(&[14, 60, 61, 80]);
+            let length = self.random.pick(&[self.header(), 60, 61, 80]);
             let to = self.sure();
             self.frame(to, length)?;
         }
@@ -919,7 +1215,7 @@ impl Generator<'_> {
         let next = self.piece_offset();
         self.put_words(rbd, &[0, next, real as u16, (real >> 16) as u16, 70])?;
         let to = self.sure();
-        match self.random.below(6) {
+        match self.random.below(7) {
             // A begun block's status over the RFA offset: abort, and START of the RU.
             0 => {
                 let offset = self.offset((scb + 6) % n);
@@ -965,12 +1261,12 @@ impl Generator<'_> {
             }
             // RSCERRS in the descriptor of a frame that runs out of buffers.
             _ => {
-                let at = (scb + n + 12 - 2 * self.random.pick(&[0, 0, 4, 5, 6, 7, 8, 9, 10])) % n;
+                let at = (scb + n + 12 - 2 * self.random.pick(&[0, 0, 0, 4, 4, 5, 6, 7, 8, 9, 10])) % n;
                 let offset = self.offset(at);
                 self.put_words(scb + 6, &[offset])?;
                 self.command(0x0010)?;
                 self.put_words(at + 2, &[0, 0, NONE])?;
-                let length = usize::from(self.device().minimum).max(15);
+                let length = usize::from(self.device().minimum).max(self.header() + 1);
                 self.frame(to, length)?;
                 self.line("turn 2".into())?;
             }
@@ -1069,7 +1365,7 @@ impl Generator<'_> {
         self.put_words(self.scb(2), &[0x0010])?;
         self.line("attention".into())?;
         self.observe()?;
-        let length = 14 + self.random.pick(&[63, 64, 64, 64, 64, 65, 65]);
+        let length = self.apart() + self.random.pick(&[63, 64, 64, 64, 64, 65, 65]);
         let to = self.sure();
         self.frame(to, length)?;
         self.bundles()?;
@@ -1093,7 +1389,7 @@ impl Generator<'_> {
             if units == 0 {
                 break;
             }
-            if self.random.chance(15) {
+            if self.random.chance(50) {
                 self.run_line()?;
             } else {
                 self.turn_line((ahead * 3 / 4).max(1))?;
@@ -1150,7 +1446,9 @@ impl Generator<'_> {
 
     /// Settings other than a reset's, mostly such that frames come in.
     fn settle(&mut self) -> io::Result<()> {
-        let kinds = [1, 3, 2];
+        // The addresses before the length is told, or behind it.
+        let kinds = self.random.pick(&[[1, 3, 2], [2, 1, 3]]);
+        let header = self.some_header();
         let places: Vec<usize> = kinds.iter().map(|kind| self.piece(if *kind == 3 { 188 } else { 24 })).collect();
         let offsets: Vec<u16> = places.iter().map(|at| self.offset(*at)).collect();
         for (i, kind) in kinds.iter().enumerate() {
@@ -1158,15 +1456,11 @@ impl Generator<'_> {
             for word in [0, kind | if i == 2 { 0x8000 } else { 0 }, offsets[(i + 1) % 3]] {
                 block.extend(word.to_le_bytes());
             }
-            let mut parameters = self.parameters(*kind)?;
-            if *kind == 2 {
-                parameters[0] |= if self.random.chance(45) { 0x0C } else { 0 };
-                parameters[2] |= if self.random.chance(50) { 0x80 } else { 0 };
-                parameters[3] = 0x26;
-            }
-            if *kind == 1 && parameters[..6] == [0xFF; 6] && !self.random.chance(10) {
-                parameters[0] = 0x02;
-            }
+            let parameters = match kind {
+                1 => self.settled_own().to_vec(),
+                2 => self.settled_bytes(header),
+                _ => self.list_bytes(if kinds[0] == 2 { header.address.into() } else { 6 }),
+            };
             block.extend(parameters);
             self.put(places[i], &block)?;
         }
@@ -1175,6 +1469,25 @@ impl Generator<'_> {
         self.line("attention".into())?;
         self.line("turn 6".into())?;
         self.observe()
+    }
+
+    /// An own address, seldom all FFh.
+    fn settled_own(&mut self) -> [u8; 6] {
+        let mut own = self.address();
+        if own == [0xFF; 6] && !self.random.chance(10) {
+            own[0] = 0x02;
+        }
+        own
+    }
+
+    /// A Configure that is not rejected.
+    fn settled_bytes(&mut self, header: Header) -> Vec<u8> {
+        let mut bytes = self.configure_bytes();
+        bytes[0] |= if self.random.chance(35) { 0x0C } else { 0 };
+        bytes[2] |= if self.random.chance(50) { 0x80 } else { 0 };
+        bytes[3] = 0x20 | byte3(header);
+        self.receive_by(header, &mut bytes);
+        bytes
     }
 
     // ---- Attentions ----
@@ -1189,8 +1502,8 @@ impl Generator<'_> {
         };
         let (mut cuc, mut ruc) = (self.random.below(8), self.random.below(8));
         let (cu, ru) = (self.device().cu_name(), self.device().ru_name());
-        let begun = ru == "Ready, begun" && self.random.chance(25);
-        let seldom = begun || cu.contains("waits") || ru.contains("waits") || ru == "Ready, held" || ru == "Suspended";
+        let begun = ru == "Ready, begun" && self.random.chance(35);
+        let seldom = begun || cu.contains("waits") || ru.contains("waits") || ru == "Ready, held" || ru == "Suspended" || cu == "Suspended";
         if self.scene.stale > 60 && self.random.chance(60) {
             // Lists and areas that lead nowhere are left.
             self.scene.stale = 0;
@@ -1211,7 +1524,7 @@ impl Generator<'_> {
                 Ru::Ready { .. } => self.random.pick(&[0, 0, 0, 0, 0, 0, 3, 4]),
             };
         }
-        if fails(self.device()) && self.random.chance(50) {
+        if fails(self.device()) && self.random.chance(65) {
             cuc = 4;
         }
         if out(self.device()) && self.random.chance(25) {
@@ -1296,19 +1609,7 @@ impl Generator<'_> {
         Ok(match kind {
             1 => self.address().to_vec(),
             2 => self.configure_bytes(),
-            3 => {
-                let odd = self.random.below(6);
-                let any = self.random.word();
-                let most = self.random.pick(&[any, any, 0x3FFF, 0x3FFC]);
-                let count = self.random.pick(&[0, 6, 12, 18, 36, 96, 101, 102, 102 + odd, 180, 180 + odd, 384, 5, odd, 30 + odd]);
-                let count = if self.random.chance(8) { most } else { count as u16 };
-                let high = if self.random.chance(15) { self.random.word() & 0xC000 } else { 0 };
-                let mut bytes = (count | high).to_le_bytes().to_vec();
-                for _ in 0..(count & 0x3FFF).min(180) / 6 {
-                    bytes.extend(self.address());
-                }
-                bytes
-            }
+            3 => self.list_bytes(self.address_length()),
             4 => {
                 let first = self.transmit_chain()?;
                 let mut bytes = first.to_le_bytes().to_vec();
@@ -1320,22 +1621,47 @@ impl Generator<'_> {
         })
     }
 
+    /// An MC-Setup's count and its list, of at most thirty addresses of this length.
+    fn list_bytes(&mut self, length: usize) -> Vec<u8> {
+        let (unit, any) = (length.max(1), self.random.word());
+        let most = self.random.pick(&[any, any, 0x3FFF, 0x3FFC]);
+        let odd = if self.random.chance(40) { self.random.below(unit) } else { 0 };
+        let count = unit * self.random.pick(&[0, 0, 1, 2, 3, 5, 6, 16, 16, 17, 17, 30, 30, 64]) + odd;
+        let count = if self.random.chance(8) { most } else { count as u16 };
+        let high = if self.random.chance(15) { self.random.word() & 0xC000 } else { 0 };
+        let mut bytes = (count | high).to_le_bytes().to_vec();
+        for _ in 0..(usize::from(count & 0x3FFF) / unit).min(30) {
+            bytes.extend(&self.address()[..length]);
+        }
+        bytes
+    }
+
+    /// With length 0 nothing but promiscuous mode receives: a Configure says it then, mostly.
+    fn receive_by(&mut self, header: Header, bytes: &mut [u8]) {
+        if header.address == 0 && self.random.chance(75) {
+            bytes[0] |= 0x0C;
+            bytes[8] |= 1;
+        }
+    }
+
     fn configure_bytes(&mut self) -> Vec<u8> {
         let count = self.random.below(16) as u8 | if self.random.chance(20) { self.random.byte() & 0xF0 } else { 0 };
-        let count = if self.random.chance(15) { self.random.pick(&[11, 12, 10, 9, 8]) } else { count };
+        let count = if self.random.chance(8) { self.random.pick(&[11, 12, 10, 9, 8]) } else { count };
         let mut bytes: Vec<u8> = (0..14).map(|_| self.random.byte()).collect();
         bytes[0] = count;
-        bytes[3] = match self.random.below(18) {
-            0 => self.random.byte(),
-            1 | 2 => 0x26 ^ 1 << self.random.below(3),
-            3 | 4 => 0x2E,
-            5 | 6 => 0x66,
-            7 | 8 => 0xA6,
-            _ => 0x06 | self.random.byte() & 0x30,
-        };
+        let header = self.some_header();
+        bytes[3] = byte3(header) | self.random.byte() & 0x30;
+        match self.random.below(18) {
+            0 => bytes[3] = self.random.byte(),
+            1 | 2 => bytes[3] |= 0x07,
+            3 | 4 => bytes[3] |= 0x40,
+            5 | 6 => bytes[3] |= 0x80,
+            _ => {}
+        }
         bytes[2] |= if self.random.chance(50) { 0x80 } else { 0 };
         bytes[8] = bytes[8] & 0xFC | self.random.pick(&[0, 0, 0, 1, 2, 2, 3]);
         bytes[10] = self.random.pick(&[64, 64, 64, 0, 18, 19, 20, 30, 255, bytes[10]]);
+        self.receive_by(header, &mut bytes);
         bytes
     }
 
@@ -1345,10 +1671,7 @@ impl Generator<'_> {
         let mut address = match self.random.below(16) {
             0 | 1 => [0xFF; 6],
             2..=5 => self.device().own,
-            6..=8 if !self.device().listed.addresses.is_empty() => {
-                let which = self.random.below(self.device().listed.addresses.len());
-                self.device().listed.addresses[which]
-            }
+            6..=8 if !self.device().listed.addresses.is_empty() => self.listed(),
             9..=11 => self.random.pick(&few),
             _ => {
                 let mut bytes = [0; 6];
@@ -1364,6 +1687,24 @@ impl Generator<'_> {
         address
     }
 
+    /// One of the last MC-Setup's addresses, with anything behind it.
+    fn listed(&mut self) -> [u8; 6] {
+        let mut address: [u8; 6] = std::array::from_fn(|_| self.random.byte());
+        let which = self.random.below(self.device().listed.addresses.len());
+        let listed = &self.replay.chip.device.listed.addresses[which];
+        address[..listed.len()].copy_from_slice(listed);
+        address
+    }
+
+    /// The own address but for the last byte that counts.
+    fn nearly_own(&mut self) -> [u8; 6] {
+        let mut address = self.device().own;
+        if let Some(last) = self.address_length().checked_sub(1) {
+            address[last] ^= 2 << self.random.below(7);
+        }
+        address
+    }
+
     /// Lays a Transmit's descriptors; the offset of the first comes back.
     fn transmit_chain(&mut self) -> io::Result<u16> {
         let some = self.random.below(200);
@@ -1371,7 +1712,8 @@ impl Generator<'_> {
             0..=2 | 20..=24 => return Ok(NONE),
             // About 2,048 bytes.
             3..=9 => {
-                let total = self.random.pick(&[2033, 2034, 2034, 2034, 2034, 2035, 2035]);
+                let most = AREA - self.apart();
+                let total = self.random.pick(&[most - 1, most, most, most, most, most + 1, most + 1]);
                 let parts = 1 + self.random.below(4);
                 let mut counts: Vec<usize> = (0..parts).map(|_| self.random.below(total / parts)).collect();
                 counts.push(total - counts.iter().sum::<usize>());
@@ -1468,10 +1810,10 @@ impl Generator<'_> {
         for i in 0..count {
             let last = i + 1 == count;
             let link = match self.random.below(20) {
-                0..=2 => 0xFFFF,
-                3 => offsets[i],
-                4 => self.random.word(),
-                5 if self.scene.overlap > 0 => offsets[i].wrapping_add(2 * self.random.below(22) as u16).wrapping_sub(22),
+                0..=4 => 0xFFFF,
+                5 => offsets[i],
+                6 => self.random.word(),
+                7 if self.scene.overlap > 0 => offsets[i].wrapping_add(2 * self.random.below(22) as u16).wrapping_sub(22),
                 _ if last => self.random.pick(&offsets),
                 _ => offsets[i + 1],
             };
@@ -1495,7 +1837,7 @@ impl Generator<'_> {
         let sizes: Vec<usize> = match self.random.below(32) {
             0..=2 => return Ok(NONE),
             3..=5 => vec![self.random.pick(&[0, 1, 1, 2, 16_383])],
-            6..=8 => vec![2034, self.random.below(300)],
+            6..=8 => vec![AREA, self.random.below(300)],
             9 => vec![self.random.below(16_384)],
             _ => {
                 let most = self.random.pick(&[2, 20, 46, 60, 60, 200, 200, 700]);
@@ -1512,7 +1854,7 @@ impl Generator<'_> {
             sizes.iter().map(|_| self.piece(10)).collect()
         };
         let offsets: Vec<u16> = places.iter().map(|at| self.offset(*at % self.n())).collect();
-        let total: usize = sizes.iter().map(|size| size.min(&2034)).sum();
+        let total: usize = sizes.iter().map(|size| size.min(&AREA)).sum();
         let mut data = self.piece(total.clamp(1, 2100));
         if self.random.chance(5) {
             data = self.n() - 1 - self.random.below(30);
@@ -1540,7 +1882,7 @@ impl Generator<'_> {
                 word |= 0x8000;
             }
             if self.random.chance(10) && !many {
-                data = self.piece(*size.min(&2034));
+                data = self.piece(*size.min(&AREA));
             }
             let mut bytes = Vec::new();
             let status = if many || self.random.chance(60) { 0 } else { self.random.word() };
@@ -1548,7 +1890,7 @@ impl Generator<'_> {
             bytes.extend(next.to_le_bytes());
             bytes.extend(self.real_bytes(data % self.n()));
             bytes.extend(word.to_le_bytes());
-            data += size.min(&2034);
+            data += size.min(&AREA);
             if many {
                 all.extend(bytes);
             } else {
@@ -1570,7 +1912,7 @@ impl Generator<'_> {
         };
         let mut next = chip.word(chip.at(descriptor, 6));
         let (mut room, mut used) = (0, 0);
-        while next != NONE && used < 64 && room < 2034 {
+        while next != NONE && used < 64 && room < AREA {
             let word = chip.word(chip.at(next, 8));
             room += usize::from(word & 0x3FFF);
             used += 1;
@@ -1587,19 +1929,19 @@ impl Generator<'_> {
         }
         let minimum = usize::from(self.device().minimum);
         let (room, used) = if self.allowed() && self.device().scb.is_some() { self.room() } else { (0, 0) };
-        let any = self.random.below(2049);
-        let small = 14 + self.random.below(100);
-        let short = 14 + self.random.below(minimum.max(19) - 18);
-        let fits = (13 + room + self.random.below(3)).min(2048);
-        let out = 15 + room;
+        let (header, apart) = (self.header(), self.apart());
+        let any = self.random.below(AREA + 1);
+        let (small, short) = (header + self.random.below(100), self.short_length());
+        let fits = (apart + room + self.random.below(3)).saturating_sub(1).min(AREA);
+        let out = (apart + room + 1).max(header);
         let length = match self.random.below(24) {
             8..=16 if self.device().save_bad && out + 4 < minimum => out + self.random.below(minimum - 4 - out),
-            0 => self.random.pick(&[0, 0, 1, 6, 12, 13, 13, 13]),
-            1 => 14,
-            2 => self.random.pick(&[13, 14, 15]),
-            3 | 4 => (minimum.max(6) - 6 + self.random.below(4)).min(2048),
+            0 => self.random.pick(&[0, 0, 1, header / 2, header - 2, header - 1, header - 1, header - 1]),
+            1 => header,
+            2 => self.random.pick(&[header - 1, header, header + 1]),
+            3 | 4 => (minimum.max(6) - 6 + self.random.below(4)).min(AREA),
             5 => 57 + self.random.below(5),
-            6 => self.random.pick(&[2048, 2047, 2048]),
+            6 => self.random.pick(&[AREA, AREA - 1, AREA]),
             7 => any,
             8..=11 => fits,
             12..=16 => short,
@@ -1622,6 +1964,12 @@ impl Generator<'_> {
         };
         let verdict = self.number(verdict);
         let mut frame = to.to_vec();
+        // Behind the address stands the source, whatever six bytes would have there.
+        if self.random.chance(60) {
+            for byte in frame.iter_mut().skip(self.replay.chip.device.header.address.into()) {
+                *byte = self.random.byte();
+            }
+        }
         for _ in 0..8 + self.random.below(40) {
             frame.push(self.random.byte());
         }
@@ -1658,14 +2006,12 @@ impl Generator<'_> {
     fn destination(&mut self) -> [u8; 6] {
         let device = self.device();
         let (own, all, any) = (device.own, [0xFF; 6], device.promiscuous);
-        match self.random.below(12) {
+        match self.random.below(13) {
             0..=2 => own,
             3..=6 => self.sure(),
             7 | 8 => all,
-            9 if !self.device().listed.addresses.is_empty() => {
-                let which = self.random.below(self.device().listed.addresses.len());
-                self.device().listed.addresses[which]
-            }
+            9 if !self.device().listed.addresses.is_empty() => self.listed(),
+            12 => self.nearly_own(),
             10 if any => std::array::from_fn(|_| self.random.byte()),
             10 => self.candidate(),
             _ => self.address(),
@@ -1870,12 +2216,12 @@ impl Generator<'_> {
         };
         if device.ru_works() && self.random.chance(25) {
             self.note("holding area altered while a frame is held");
-            let at = self.random.pick(&[0, 1, 6, 12, 13, 14, 20, 59, 200, 2046]);
+            let at = self.random.pick(&[0, 1, 2, 4, 5, 6, 12, 13, 14, 20, 59, 200, 2046]);
             return self.line(format!("words holding {at} {value}"));
         }
         if device.begun().map_or(false, |begun| begun.kind == 4) && self.random.chance(35) {
             self.note("outgoing area altered while a Transmit is begun");
-            let at = self.random.pick(&[0, 1, 6, 12, 13, 14, 20, 59, 200, 2046]);
+            let at = self.random.pick(&[0, 1, 2, 4, 5, 6, 12, 13, 14, 20, 59, 200, 2046]);
             return self.line(format!("bytes outgoing {at} {value:04x}"));
         }
         if device.scb.is_none() {

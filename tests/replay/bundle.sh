@@ -12,7 +12,7 @@ self=tests/replay/bundle.sh
 list=$1
 expected=$2
 shift 2
-[ $# -gt 0 ] || set -- calls papers control commands transmit arrival reasons filter storing addresses limits runs record
+[ $# -gt 0 ] || set -- calls papers control commands transmit arrival reasons filter storing addresses limits headers runs record
 
 for name in "$@"; do
     [ -f "$here/$name.list" ] || cannot "there is no $here/$name.list"

@@ -2,28 +2,35 @@
 use mathlib.Core.Path.{_≡_, refl}
 use mathlib.Core.Bool.{Bool, true, false, true≢false}
 use mathlib.Core.List.{List}
-use Prim.Native.Nat.{ℕ, _<_}
-use native.Mathlib.Omega.{arith}
+use Prim.Native.Nat.{ℕ, zero, suc, _<_}
+use native.Mathlib.Nat.{div-eq-of-lt}
 use Rattle.memory.specs.Address.{place}
 use Rattle.memory.specs.declared.Offset.{Offset}
 use Rattle.memory.specs.declared.RealAddress.{RealAddress}
 use Rattle.scb.specs.Words.{bit}
-use Rattle.device.specs.Limits.{addressLength}
 use Rattle.device.specs.declared.Action.{Action}
 use Rattle.device.specs.declared.Action.the-variants as action
-use Rattle.actions.specs.Actions.{Acted, setting, acceptable, byteOf, countOf, groups, filtering, act, done}
+use Rattle.actions.specs.Actions.{Acted, setting, acceptable, byteOf, countOf, groupsOf, groups, filtering, act, done}
 use Rattle.actions.specs.Block.{destinationAt}
 use Rattle.actions.specs.Filtered.{Falls, isMcSetup}
 use Rattle.actions.specs.Setup.{Setup}
 use Rattle.actions.proofs.Laws.{set-falls, falls-set}
 
+too-few : (l count : ℕ) → count < l → groupsOf l count ≡ 0
+too-few zero count h = refl
+too-few (suc l) count h = div-eq-of-lt h
+
 module _ (base : RealAddress) (s : Setup) (block : Offset) (m : List ℕ) where
   abbrev pub grouped : Acted
   grouped = act action.McSetup base s block m
 
+  -- the length of its addresses is the one in force
+  abbrev pub lengthOf : ℕ
+  lengthOf = s .settings .form .length
+
   -- its addresses: one falls on bit k
   abbrev pub ListedOn : ℕ → Type 0
-  ListedOn k = Falls m (place base block destinationAt) (groups base block m) k
+  ListedOn k = Falls lengthOf m (place base block destinationAt) (groups lengthOf base block m) k
 
   -- any count works
   pub always-done : grouped .status ≡ done
@@ -42,16 +49,21 @@ module _ (base : RealAddress) (s : Setup) (block : Offset) (m : List ℕ) where
   -- a bit is set exactly if one of the addresses falls on it
   pub set : (k : ℕ) → ListedOn k → bit (grouped .setup .filter) k ≡ true
   unfolding act
-  set k l = falls-set m (place base block destinationAt) (groups base block m) k l
+  set k l = falls-set lengthOf m (place base block destinationAt) (groups lengthOf base block m) k l
 
   pub only : (k : ℕ) → bit (grouped .setup .filter) k ≡ true → ListedOn k
   unfolding act
-  only k e = set-falls m (place base block destinationAt) (groups base block m) k e
+  only k e = set-falls lengthOf m (place base block destinationAt) (groups lengthOf base block m) k e
 
   -- a count of 0, or of fewer bytes than an address has, empties the filter
-  pub emptied : countOf base block m < addressLength → grouped .setup .filter ≡ 0
+  pub emptied : countOf base block m < lengthOf → grouped .setup .filter ≡ 0
   unfolding act filtering
-  emptied l = let z : groups base block m ≡ 0 = omega arith in rw z
+  emptied l = rw (too-few lengthOf (countOf base block m) l)
+
+  -- 02, Wish 4: "at 0 it empties the filter"
+  pub emptied-at-none : lengthOf ≡ 0 → grouped .setup .filter ≡ 0
+  unfolding act filtering
+  emptied-at-none z = rw z
 
 -- ---- the other actions leave the filter alone
 

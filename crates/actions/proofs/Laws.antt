@@ -19,34 +19,34 @@ use Rattle.actions.specs.Filtered.{Falls}
 or-left : (a b : Bool) → a ≡ true → (a || b) ≡ true
 or-left a b e = rw e
 
-module _ (m : List ℕ) (a : ℕ) where
-  pub filtering-wide : (n : ℕ) → filtering m a n < 2 ^ filterBits
+module _ (l : ℕ) (m : List ℕ) (a : ℕ) where
+  pub filtering-wide : (n : ℕ) → filtering l m a n < 2 ^ filterBits
   unfolding filtering
   filtering-wide zero = omega arith
   filtering-wide (suc n) =
-      with-bit-wide (filtering m a n) (hash (groupAt m a n)) (filtering-wide n) (hash-below (groupAt m a n))
+      with-bit-wide (filtering l m a n) (hash (groupAt l m a n)) (filtering-wide n) (hash-below (groupAt l m a n))
 
   -- what the last of them adds
-  falls-by : (n k : ℕ) (was is : Bool) → bit (filtering m a n) k ≡ was → eqb k (hash (groupAt m a n)) ≡ is
-      → (bit (filtering m a n) k ≡ true → Falls m a n k) → (was || is) ≡ true → Falls m a (suc n) k
+  falls-by : (n k : ℕ) (was is : Bool) → bit (filtering l m a n) k ≡ was → eqb k (hash (groupAt l m a n)) ≡ is
+      → (bit (filtering l m a n) k ≡ true → Falls l m a n k) → (was || is) ≡ true → Falls l m a (suc n) k
   falls-by n k true is p q ih e = let f = ih p in record { which = f .which; among = omega (arith, f .among); on-it = f .on-it }
   falls-by n k false true p q ih e = record { which = n; among = omega arith; on-it = sym (eqb-true _ _ q) }
   falls-by n k false false p q ih e = absurd (false≢true e)
 
   -- a bit is set only if one of the addresses falls on it, and then it is
-  pub set-falls : (n k : ℕ) → bit (filtering m a n) k ≡ true → Falls m a n k
+  pub set-falls : (n k : ℕ) → bit (filtering l m a n) k ≡ true → Falls l m a n k
   unfolding filtering
   set-falls zero k e = absurd (false≢true (sym (none-set k) ∙ e))
   set-falls (suc n) k e =
-      let h = hash (groupAt m a n) in
-      falls-by n k (bit (filtering m a n) k) (eqb k h) refl refl (set-falls n k) (sym (with-bit (filtering m a n) h k) ∙ e)
+      let h = hash (groupAt l m a n) in
+      falls-by n k (bit (filtering l m a n) k) (eqb k h) refl refl (set-falls n k) (sym (with-bit (filtering l m a n) h k) ∙ e)
 
-  pub falls-set : (n k : ℕ) → Falls m a n k → bit (filtering m a n) k ≡ true
+  pub falls-set : (n k : ℕ) → Falls l m a n k → bit (filtering l m a n) k ≡ true
   unfolding filtering
   falls-set zero k f = absurd (not-suc-le-zero (f .among))
   falls-set (suc n) k f =
-      let g = filtering m a n in
-      let h = hash (groupAt m a n) in
+      let g = filtering l m a n in
+      let h = hash (groupAt l m a n) in
       with-bit g h k
       ∙ ⊎-elim
       (λ (e : f .which ≡ n). or-right (bit g k) (eqb k h) (eq-eqb k h (rw e at (sym (f .on-it)))))

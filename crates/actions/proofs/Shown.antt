@@ -1,5 +1,5 @@
 -- The actions, sentence by sentence: 01, "Turns". Each is a computed case that another reading fails. Assumes nothing.
-use mathlib.Core.Bool.{Bool, _&&_, not}
+use mathlib.Core.Bool.{Bool, true, false, cond, _&&_, not}
 use mathlib.Core.List.{List, [], _∷_, _++_}
 use Prim.Native.Nat.{ℕ, _+_, _^_}
 use lib.Dec.{T, eqb}
@@ -11,6 +11,7 @@ use Rattle.hash.specs.Hash.{ones, shifted, step, bitsIn, register, selected, ha
 use Rattle.device.specs.State.{freshSettings}
 use Rattle.device.specs.declared.Action.{Action}
 use Rattle.device.specs.declared.Action.the-variants as action
+use Rattle.filter.specs.Match.{withBit}
 use Rattle.actions.specs.Actions.{Acted, clamped, settingsBy, groups, filtering, act, reported, isSent, sent, notSent}
 use Rattle.actions.specs.Setup.{Setup}
 
@@ -21,8 +22,12 @@ setup = record { settings = freshSettings; own = replicate 6 255; filter = 9 }
 abbrev given : List Write → List ℕ
 given ws = apply ws (replicate 256 0)
 
+-- by a setup
+abbrev actedBy : Setup → Action → List Write → Acted
+actedBy s a ws = act a (record { 0 = 0x10 }) s (record { 0 = 0x40 }) (given ws)
+
 abbrev acted : Action → List Write → Acted
-acted a ws = act a (record { 0 = 0x10 }) setup (record { 0 = 0x40 }) (given ws)
+acted a ws = actedBy setup a ws
 
 -- ---- 0 NOP, 7 Diagnose: A000h; 6 Dump: 8000h
 
@@ -63,13 +68,25 @@ pub othersKept : T (not (configured 8 6 .setup .settings .nobroadcast) && config
 unfolding byteAt putByte bytesAt putBytes digits place bitsAt settingsBy act
 othersKept = tt
 
--- a length other than 6, location 1 or loopback: status 8000h, nothing changed
+-- length 7 or loopback: status 8000h, nothing changed
 abbrev unchanged : ℕ → Bool
-unchanged third = eqb (configured 11 third .status) 0x8000 && not (configured 11 third .setup .settings .savebad)
+unchanged third =
+    let a = configured 11 third in
+    eqb (a .status) 0x8000 && not (a .setup .settings .savebad) && eqb (a .setup .settings .form .length) 6 && not (a .setup .settings .form .location)
 
-pub notAccepted : T (unchanged 5 && unchanged 0x0E && unchanged 0x46 && unchanged 0x86 && eqb (configured 11 6 .status) 0xA000)
+pub notAccepted : T (unchanged 7 && unchanged 0x0F && unchanged 0x46 && unchanged 0x86 && unchanged 0x42 && eqb (configured 11 6 .status) 0xA000)
 unfolding byteAt putByte bytesAt putBytes digits place bitsAt settingsBy act
 notAccepted = tt
+
+-- 02, Wish 4: bits 2-0 are the address length, 0 to 6, bit 3 is the location; four bytes, the fewest, have both
+abbrev formed : (count third length : ℕ) → (location : Bool) → Bool
+formed count third length location =
+    let a = configured count third in
+    eqb (a .status) 0xA000 && eqb (a .setup .settings .form .length) length && (cond location (a .setup .settings .form .location) (not (a .setup .settings .form .location)))
+
+pub lengthAndLocation : T (formed 11 0 0 false && formed 11 2 2 false && formed 11 0x0A 2 true && formed 11 0x0E 6 true && formed 11 0x36 6 false && formed 4 0x08 0 true)
+unfolding byteAt putByte bytesAt putBytes digits place bitsAt settingsBy act
+lengthAndLocation = tt
 
 -- ---- 3 MC-Setup
 
@@ -97,11 +114,34 @@ clearLowBitToo = tt
 
 -- how many addresses there are with that word at +6: 14 bits of it, up to 2,730
 abbrev addresses : (word : ℕ) → ℕ
-addresses word = groups (record { 0 = 0x10 }) (record { 0 = 0x40 }) (given (wordTo 0x56 word ∷ []))
+addresses word = groups 6 (record { 0 = 0x10 }) (record { 0 = 0x40 }) (given (wordTo 0x56 word ∷ []))
 
 pub countOf14Bits : T (eqb (addresses 0xFFFF) 2730 && eqb (addresses 0x2000) 1365 && eqb (addresses 0x4006) 1 && eqb (addresses 0x8005) 0 && eqb (addresses 180) 30)
 unfolding byteAt putByte bytesAt putBytes value digits fieldAt place bitsAt
 countOf14Bits = tt
+
+-- 02, Wish 4: its addresses have the length in force: of six bytes, three of two, 01-00, 5E-01 and CF-00; at length 0 there is none, and the filter is emptied
+abbrev short : (length : ℕ) → Setup
+short length =
+    record {
+      settings = record { savebad = false; promiscuous = false; nobroadcast = false; minimum = 64; form = record { length = length; location = false } };
+      own = replicate 6 255;
+      filter = 9;
+    }
+
+abbrev filterAt : (length word : ℕ) → List ℕ → ℕ
+filterAt length word bytes = actedBy (short length) action.McSetup (wordTo 0x56 word ∷ record { to = 0x58; bytes = bytes } ∷ []) .setup .filter
+
+pub ofItsLength : T (eqb (filterAt 2 5 (1 ∷ 0 ∷ 0x5E ∷ 1 ∷ 0xCF ∷ 0 ∷ [])) (withBit (2 ^ hash (1 ∷ 0 ∷ [])) (hash (0x5E ∷ 1 ∷ [])))
+    && eqb (filterAt 2 6 (1 ∷ 0 ∷ 1 ∷ 0 ∷ 1 ∷ 0 ∷ [])) (2 ^ hash (1 ∷ 0 ∷ [])) && eqb (filterAt 0 6 (1 ∷ 0 ∷ 1 ∷ 0 ∷ 1 ∷ 0 ∷ [])) 0
+    && not (eqb (filterAt 1 1 (1 ∷ [])) 0))
+unfolding byteAt putByte bytesAt putBytes value digits fieldAt place bitsAt ones shifted step bitsIn register selected hash filtering act
+ofItsLength = tt
+
+-- IA-Setup reads six bytes whatever the length
+pub ownOfSix : T (eqb (getD (actedBy (short 2) action.IaSetup (wordTo 0x56 0x0201 ∷ wordTo 0x5A 0x0605 ∷ []) .setup .own) 5 0) 6)
+unfolding byteAt putByte bytesAt putBytes digits place act
+ownOfSix = tt
 
 -- any count works, also of more addresses than memory has bytes; a count below 6 empties the filter
 pub anyCount : T (eqb (grouped 102 three .status) 0xA000 && eqb (grouped 0x3FFF three .status) 0xA000

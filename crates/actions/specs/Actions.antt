@@ -2,16 +2,17 @@
 use mathlib.Core.Bool.{Bool, true, false, not, cond, _&&_, _||_}
 use mathlib.Core.List.{List, [], _∷_}
 use Prim.Native.Nat.{ℕ, zero, suc, _+_, _*_, _/_, _^_, min, max}
-use lib.Dec.{eqb, ltb}
+use lib.Dec.{eqb, leb, ltb}
 use Rattle.memory.specs.Memory.{byteAt, wordAt, bytesAt, Write, wordTo}
 use Rattle.memory.specs.Address.{place}
 use Rattle.memory.specs.declared.Offset.{Offset}
 use Rattle.memory.specs.declared.RealAddress.{RealAddress}
 use Rattle.scb.specs.Words.{bitsAt, bit}
 use Rattle.hash.specs.Hash.{hash}
-use Rattle.device.specs.Limits.{addressLength}
+use Rattle.device.specs.Limits.{longestAddress}
 use Rattle.device.specs.declared.Action.{Action}
 use Rattle.device.specs.declared.Action.the-variants as action
+use Rattle.device.specs.declared.Form.{Form}
 use Rattle.device.specs.declared.Settings.{Settings}
 use Rattle.filter.specs.Match.{withBit}
 use Rattle.actions.specs.Block.{argumentAt, destinationAt}
@@ -39,12 +40,12 @@ plainly s status length = record { status = status; setup = s; writes = []; leng
 abbrev pub setting : (accepted : Bool) → Setup → Setup → Acted
 setting accepted s new = plainly (cond accepted new s) (cond accepted done failed) 0
 
--- ---- 1 IA-Setup: six bytes at +6
+-- ---- 1 IA-Setup: six bytes at +6, whatever the address length
 
 abbrev pub iaSetup : RealAddress → Setup → Offset → List ℕ → Acted
 iaSetup base s block m =
     setting true s
-    (record { settings = s .settings; own = bytesAt m (place base block argumentAt) addressLength; filter = s .filter })
+    (record { settings = s .settings; own = bytesAt m (place base block argumentAt) longestAddress; filter = s .filter })
 
 -- ---- 2 Configure
 
@@ -56,6 +57,13 @@ clamped byte = min 12 (max 4 (bitsAt byte 0 4))
 abbrev pub byteOf : RealAddress → Offset → List ℕ → ℕ → ℕ
 byteOf base block m k = byteAt m (place base block (argumentAt + k))
 
+-- Byte 3: bits 2-0 address length, 3 address location, 6 and 7 loopback
+abbrev pub lengthIn : ℕ → ℕ
+lengthIn byte = bitsAt byte 0 3
+
+abbrev pub formIn : ℕ → Form
+formIn byte = record { length = lengthIn byte; location = bit byte 3 }
+
 -- the others are kept. Byte 2: bit 7 save bad frames. Byte 8: bit 0 promiscuous, 1 broadcast disabled. Byte 10: minimum length. Bytes 2 and 3 are always taken
 unfoldable pub settingsBy : ℕ → (ℕ → ℕ) → Settings → Settings
 settingsBy count byte s =
@@ -64,11 +72,12 @@ settingsBy count byte s =
       promiscuous = cond (ltb 8 count) (bit (byte 8) 0) (s .promiscuous);
       nobroadcast = cond (ltb 8 count) (bit (byte 8) 1) (s .nobroadcast);
       minimum = cond (ltb 10 count) (byte 10) (s .minimum);
+      form = formIn (byte 3);
     }
 
--- Byte 3: bits 2-0 address length, 3 address location, 6 and 7 loopback. A length other than 6, location 1 or loopback is not taken
+-- 02, Wish 4: "lengths 0 to 6 and address location 1 ... 7 and loopback still give 8000h"
 abbrev pub acceptable : ℕ → Bool
-acceptable byte = eqb (bitsAt byte 0 3) addressLength && not (bit byte 3) && not (bit byte 6) && not (bit byte 7)
+acceptable byte = leb (lengthIn byte) longestAddress && not (bit byte 6) && not (bit byte 7)
 
 -- if the result is not acceptable: status 8000h, nothing changed (ours)
 abbrev pub configure : RealAddress → Setup → Offset → List ℕ → Acted
@@ -83,23 +92,29 @@ configure base s block m =
 abbrev pub countOf : RealAddress → Offset → List ℕ → ℕ
 countOf base block m = bitsAt (wordAt m (place base block argumentAt)) 0 14
 
--- of them whole addresses, a remainder ignored
-abbrev pub groups : RealAddress → Offset → List ℕ → ℕ
-groups base block m = countOf base block m / addressLength
+-- of them whole addresses of l bytes, a remainder ignored; 02, Wish 4: none at length 0
+abbrev pub groupsOf : ℕ → ℕ → ℕ
+groupsOf zero count = 0
+groupsOf (suc l) count = count / suc l
+
+abbrev pub groups : ℕ → RealAddress → Offset → List ℕ → ℕ
+groups l base block m = groupsOf l (countOf base block m)
 
 -- of those from a on, the one behind n others
-abbrev pub groupAt : List ℕ → ℕ → ℕ → List ℕ
-groupAt m a n = bytesAt m (a + n * addressLength) addressLength
+abbrev pub groupAt : ℕ → List ℕ → ℕ → ℕ → List ℕ
+groupAt l m a n = bytesAt m (a + n * l) l
 
 -- 02, Wish 1: "it folds each address through the CRC into a 64-bit filter": that of the n addresses from a on, whatever the low bit of each
-unfoldable pub filtering : List ℕ → ℕ → ℕ → ℕ
-filtering m a zero = 0
-filtering m a (suc n) = withBit (filtering m a n) (hash (groupAt m a n))
+unfoldable pub filtering : ℕ → List ℕ → ℕ → ℕ → ℕ
+filtering l m a zero = 0
+filtering l m a (suc n) = withBit (filtering l m a n) (hash (groupAt l m a n))
 
--- addresses from +8; nothing of the old filter stays. 02, Wish 1: any count works, a count of 0 empties the filter
+-- addresses from +8, of the length in force; nothing of the old filter stays. 02, Wish 1: any count works, a count of 0 empties the filter; Wish 4: so
+-- does length 0
 abbrev pub mcSetup : RealAddress → Setup → Offset → List ℕ → Acted
 mcSetup base s block m =
-    let filter = filtering m (place base block destinationAt) (groups base block m) in
+    let l = s .settings .form .length in
+    let filter = filtering l m (place base block destinationAt) (groups l base block m) in
     setting true s (record { settings = s .settings; own = s .own; filter = filter })
 
 -- ---- 5 TDR: word +6 becomes 8000h

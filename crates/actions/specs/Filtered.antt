@@ -8,11 +8,11 @@ use Rattle.device.specs.declared.Action.{Action}
 use Rattle.device.specs.declared.Action.the-variants as action
 use Rattle.actions.specs.Actions.{groupAt}
 
--- of the n addresses from a on, one falls on bit k
-pub record Falls (m : List ℕ) (a n k : ℕ) : Type 0 where
+-- of the n addresses of l bytes from a on, one falls on bit k
+pub record Falls (l : ℕ) (m : List ℕ) (a n k : ℕ) : Type 0 where
   pub which : ℕ
   pub among : which < n
-  pub on-it : hash (groupAt m a which) ≡ k
+  pub on-it : hash (groupAt l m a which) ≡ k
 
 -- the one action that makes a new filter
 abbrev pub isMcSetup : Action → Bool

@@ -233,13 +233,13 @@ parametersAtEnd =
           ∷ [];
     }
 
--- count 10 takes byte 8, here broadcast disabled; a length of 5 is rejected and changes nothing of it
+-- count 10 takes byte 8, here broadcast disabled; a length of 7 is rejected and changes nothing of it
 configureKeeps : Case
 configureKeeps =
     record {
       given =
           0x42 is 0x0002 ∷ 0x44 is 0x80 ∷ 0x46 is 0x000A ∷ 0x48 is 0x0680 ∷ 0x4E is 0x0002
-          ∷ 0x82 is 0x8002 ∷ 0x86 is 0x000C ∷ 0x88 is 0x0500 ∷ 0x90 is 0x00FF ∷ 0x8E is 0x0001 ∷ descriptors ++ board;
+          ∷ 0x82 is 0x8002 ∷ 0x86 is 0x000C ∷ 0x88 is 0x0700 ∷ 0x90 is 0x00FF ∷ 0x8E is 0x0001 ∷ descriptors ++ board;
       steps =
           initialised
           ∷ commanding

@@ -75,6 +75,20 @@ sending report taken answer words =
       words = words;
     }
 
+-- 02, Wish 4: a Configure with location 1, a Transmit without buffers, then a NOP with EL and I: an answer cannot tell a frame of no bytes as
+-- sent, and the run goes on
+sendingNothing : RunCase
+sendingNothing =
+    record {
+      given = 0x42 is 0x0002 ∷ 0x44 is 0x50 ∷ 0x46 is 0x0004 ∷ 0x48 is 0x0A00 ∷ 0x52 is 0x0004 ∷ 0x54 is 0x58 ∷ 0x56 is 0xFFFF ∷ 0x5A is 0xA000 ∷ board;
+      steps = initialised ∷ commanding ∷ [];
+      budget = 65535;
+      report = 0;
+      taken = 6;
+      answer = edge;
+      words = 0x50 is 0xA000 ∷ 0x58 is 0xA000 ∷ 0x30 is 0xA000 ∷ [];
+    }
+
 -- P3's frame: five turns, the last of which raises FR
 storing : (budget taken : ℕ) → Said → List Word → RunCase
 storing budget taken answer words =
@@ -89,7 +103,7 @@ storing budget taken answer words =
     }
 
 pub cases : List RunCase
-unfolding nops idle sending storing
+unfolding nops idle sending sendingNothing storing
 cases =
     nops 0 0 quiet (0x40 is 0 ∷ 0x50 is 0 ∷ 0x30 is 0x0200 ∷ [])
     ∷ nops 1 1 quiet (0x40 is 0x4000 ∷ 0x50 is 0 ∷ [])
@@ -101,6 +115,7 @@ cases =
     ∷ idle 65535 1
     ∷ sending 0 3 (record { number = 0; length = 18; edge = false; reason = 0 }) (0x40 is 0xA000 ∷ 0x50 is 0 ∷ 0x30 is 0x0200 ∷ [])
     ∷ sending 0x0020 5 edge (0x40 is 0x8020 ∷ 0x50 is 0xA000 ∷ 0x30 is 0xA000 ∷ [])
+    ∷ sendingNothing
     ∷ storing 4 4 quiet (0x60 is 0x4000 ∷ 0xB4 is 0xC006 ∷ 0x30 is 0x0040 ∷ [])
     ∷ storing 65535 5 edge (0x60 is 0xA000 ∷ 0x30 is 0x4040 ∷ [])
     ∷ []

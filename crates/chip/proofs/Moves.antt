@@ -8,6 +8,7 @@ use lib.Dec.{eqb, leb}
 use Rattle.memory.specs.Address.{place, offsetAt, isNone}
 use Rattle.memory.specs.Memory.{Write, wordAt}
 use Rattle.memory.specs.declared.Offset.{Offset}
+use Rattle.device.specs.Header.{unbuffered}
 use Rattle.device.specs.Limits.{mostBuffers}
 use Rattle.device.specs.Numbers.{transmit}
 use Rattle.device.specs.State.{cuState, isActive, isHolding, cuWorks, ruWorks}
@@ -47,15 +48,15 @@ cu-mark (cu.Ending b n) = 1
 cu-mark (cu.Failing b) = 1
 cu-mark (cu.Sending b w) = w .used + 2
 
-first-begun : (none : Bool) (b : Begun) (o : Offset) → 0 < cu-mark (command-begin.toFirst none b o)
+first-begun : (none : Bool) (filled : ℕ) (b : Begun) (o : Offset) → 0 < cu-mark (command-begin.toFirst none filled b o)
 unfolding cu-mark
-first-begun true b o = omega arith
-first-begun false b o = omega arith
+first-begun true filled b o = omega arith
+first-begun false filled b o = omega arith
 
 begun : (t : Bool) (p : command.Part) (b : Begun) (word : ℕ) (m : List ℕ) → 0 < cu-mark (command-begin.toBegun t p b word m .unit)
 unfolding cu-mark
 begun true p b word m =
-    let first = offsetAt m (place (p .base) (b .block) argumentAt) in first-begun (isNone first) b first
+    let first = offsetAt m (place (p .base) (b .block) argumentAt) in first-begun (isNone first) (unbuffered (p .setup .settings .form)) b first
 begun false p b word m = omega arith
 
 buffer-moves : (fits eof none last : Bool) (b : Begun) (w : Walk) (k : ℕ) → w .used ≡ k + 1

@@ -9,7 +9,7 @@ use Rattle.memory.specs.Memory.{byteAt, putByte, bytesAt, putBytes, value, digi
 use Rattle.scb.specs.Words.{bitsAt, joined, anyOf, eventBits, statusWord}
 use Rattle.device.specs.Change.{initialisedAt, servedRu, withUnits, withCu, withRu}
 use Rattle.device.specs.Numbers.{actionOf}
-use Rattle.device.specs.State.{fresh, freshUnits}
+use Rattle.device.specs.State.{fresh, freshForm, freshUnits}
 use Rattle.device.specs.declared.Action.the-variants as action
 use Rattle.device.specs.declared.Cu.{Cu}
 use Rattle.device.specs.declared.Cu.the-variants as cu
@@ -45,7 +45,7 @@ abbrev waiting : Cu
 waiting = cu.Waiting (record { 0 = 0x40 })
 
 abbrev held : Ru
-held = ru.Held (record { 0 = 0x60 }) (record { length = 16; verdict = verdict.Good; short = false; savebad = false }) false
+held = ru.Held (record { 0 = 0x60 }) (record { length = 16; verdict = verdict.Good; short = false; savebad = false; form = freshForm }) false
 
 -- an edge is reported when an event is raised, again included: CX was set before
 pub edgeAgain : T (turnOf (world (acting 0x40) ru.Idle false) 0 .outcome .answer .edge

@@ -56,9 +56,9 @@ ready rus.Ready h = refl
 
 -- ---- the command unit
 
-begun-active : (none : Bool) (b : Begun) (o : Offset) → cuState (command-begin.toFirst none b o) ≡ cus.Active
-begun-active true b o = refl
-begun-active false b o = refl
+begun-active : (none : Bool) (filled : ℕ) (b : Begun) (o : Offset) → cuState (command-begin.toFirst none filled b o) ≡ cus.Active
+begun-active true filled b o = refl
+begun-active false filled b o = refl
 
 to-begun-active : (t : Bool) (p : command.Part) (b : Begun) (word : ℕ) (m : List ℕ) → cuState (command-begin.toBegun t p b word m .unit) ≡ cus.Active
 to-begun-active true p b word m = rw begun-active

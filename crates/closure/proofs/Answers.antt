@@ -20,7 +20,7 @@ command-most : (w : World) (report : ℕ) → Sound w → commandTurn w report .
 unfolding commandTurn concluded
 command-most w report s =
     let c = cu-good (w .device) (s .range) (s .wide) in
-    served-good (w .device) (w .memory) (w .outgoing) report c (setup-good (w .device) (s .wide)) (s .memory) (s .outgoing) .length
+    served-good (w .device) (w .memory) (w .outgoing) report c (setup-good (w .device) (s .range) (s .wide)) (s .memory) (s .outgoing) .length
 
 turn-most : (c r l : Bool) (w : World) (report : ℕ) → Sound w → turnBy (servedBy c r l) w report .outcome .answer .length ≤ 2048
 unfolding receiveTurn concluded

@@ -79,7 +79,7 @@ arrival-running d matched f v m h g =
       base = g .base;
       scb = g .scb;
       cu = g .cu;
-      ru = arrival-good (d .units .settings) matched (d .units .ru) f v (g .ru);
+      ru = arrival-good (d .units .settings) matched (d .units .ru) f v (g .setup .form) (g .ru);
       setup = g .setup;
     }
 
@@ -147,7 +147,7 @@ command-running d s length fs h g =
       setup = g .part .setup;
     }
 
-pub served-good : (d : Device) (m out : List ℕ) (report : ℕ) → CuGood (d .units .cu) → SetupGood (setupOf d) → Bytes m → Bytes out
+pub served-good : (d : Device) (m out : List ℕ) (report : ℕ) → CuGood (d .units .settings .form) (d .units .cu) → SetupGood (setupOf d) → Bytes m → Bytes out
     → CommandGood (command-service.service (command.partOf d out) m report)
 unfolding command-service.service
 served-good d m out report c s b o =

@@ -4,7 +4,7 @@ use mathlib.Core.Bool.{Bool, true, false, _&&_}
 use mathlib.Core.List.{List, [], _++_}
 use Prim.Native.Nat.{ℕ, _<_}
 use native.Mathlib.Omega.{arith}
-use borrow.Author.Tests.{lt-ltb, ltb-true}
+use borrow.Author.Tests.{lt-ltb, le-leb, ltb-true}
 use lib.Dec.{ltb}
 use Rattle.memory.specs.Address.{beyond, offsetAt}
 use Rattle.memory.specs.Memory.{wordAt, apply}
@@ -17,6 +17,7 @@ use Rattle.device.specs.Change.{pausingBegun, pausingStoring}
 use Rattle.device.specs.declared.Cu.{Cu}
 use Rattle.device.specs.declared.Cu.the-variants as cu
 use Rattle.device.specs.declared.Device.{Device}
+use Rattle.device.specs.declared.Form.{Form}
 use Rattle.device.specs.declared.Ru.{Ru}
 use Rattle.device.specs.declared.Ru.the-variants as ru
 use Rattle.device.specs.declared.Storing.{Storing}
@@ -26,8 +27,8 @@ use Rattle.control.specs.Control.{cuStart, cuResume, cuSuspend, cuBy, abortedCu
 use Rattle.control.specs.Obey.{ofScb, obeyCuc, obeyRuc}
 use Rattle.attention.specs.Status.{statusTo}
 use Rattle.attention.specs.Attention.{Attended, iscpOf, initialise, settledWrites, attendBy, attend, attentionBy, attention}
-use Rattle.image.specs.Ranges.{cuFits, ruFits, unitsFit, initialisedOrFresh, inRange, Wide}
-use Rattle.image.proofs.Exact.{fresh-range, fresh-wide}
+use Rattle.image.specs.Ranges.{formFits, cuFits, ruFits, unitsFit, initialisedOrFresh, inRange, Wide}
+use Rattle.image.proofs.Exact.{fits, fit-form, fresh-range, fresh-wide}
 use Rattle.phases.proofs.Units.{both}
 use Rattle.closure.proofs.Units.{CuGood, RuGood, cu-idle, cu-suspended, cu-waiting, cu-acting, cu-failing, cu-ending, cu-sending, at-suspended, at-waiting, at-acting, at-failing, at-ending, ending-size, at-sending, sending-walk, StoringGood, ru-idle, ru-suspended, ru-ready, ru-held, ru-filling, ru-closing, ru-lacking, fd-suspended, fd-ready, fd-held, held-frame, filling-storing, filling-left, filling-walk, closing-storing, closing-free, closing-full, lacking-storing, lacking-left}
 use Rattle.closure.proofs.Command.{SetupGood}
@@ -38,13 +39,14 @@ pub record Running (d : Device) : Type 0 where
   pub initialised : d .units .initialised ≡ true
   pub base : d .units .base .0 < 16777216
   pub scb : d .units .scb .0 < 65536
-  pub cu : CuGood (d .units .cu)
+  pub cu : CuGood (d .units .settings .form) (d .units .cu)
   pub ru : RuGood (d .units .ru)
   pub setup : SetupGood (setupOf d)
 
 pub running-range : (d : Device) → Running d → inRange d ≡ true
 unfolding inRange unitsFit initialisedOrFresh
-running-range d h = rw (lt-ltb (d .units .base .0) 16777216 (h .base), h .cu .fits, h .ru .fits, h .initialised)
+running-range d h =
+    rw (lt-ltb (d .units .base .0) 16777216 (h .base), le-leb (d .units .settings .form .length) 6 (h .setup .form), h .cu .fits, h .ru .fits, h .initialised)
 
 pub running-wide : (d : Device) → Running d → Wide d
 running-wide d h =
@@ -58,25 +60,27 @@ running-wide d h =
       filter = h .setup .filter;
     }
 
-pub setup-good : (d : Device) → Wide d → SetupGood (setupOf d)
-setup-good d h =
+pub setup-good : (d : Device) → inRange d ≡ true → Wide d → SetupGood (setupOf d)
+setup-good d e h =
     record {
       minimum = h .minimum;
+      form = fit-form (d .units) (fits d h e);
       own = h .own;
       own-bytes = record { each = h .own-bytes };
       filter = h .filter;
     }
 
 -- what the ranges say of the units, initialised or not
-fits-of : (d : Device) → inRange d ≡ true → (d .units .base .0 < 16777216) × (cuFits (d .units .cu) ≡ true) × (ruFits (d .units .ru) ≡ true)
+fits-of : (d : Device) → inRange d ≡ true → (d .units .base .0 < 16777216) × (cuFits (d .units .settings .form) (d .units .cu) ≡ true) × (ruFits (d .units .ru) ≡ true)
 unfolding inRange unitsFit
 fits-of d e =
+    let f = d .units .settings .form in
     let x = both (unitsFit (d .units)) (initialisedOrFresh d) e in
-    let y = both (ltb (d .units .base .0) 16777216 && cuFits (d .units .cu)) (ruFits (d .units .ru)) (x .0) in
-    let z = both (ltb (d .units .base .0) 16777216) (cuFits (d .units .cu)) (y .0) in
-    (ltb-true _ _ (z .0), z .1, y .1)
+    let y = both (ltb (d .units .base .0) 16777216 && formFits f && cuFits f (d .units .cu)) (ruFits (d .units .ru)) (x .0) in
+    let z = both (ltb (d .units .base .0) 16777216 && formFits f) (cuFits f (d .units .cu)) (y .0) in
+    (ltb-true _ _ (both (ltb (d .units .base .0) 16777216) (formFits f) (z .0) .0), z .1, y .1)
 
-pub cu-good : (d : Device) → inRange d ≡ true → Wide d → CuGood (d .units .cu)
+pub cu-good : (d : Device) → inRange d ≡ true → Wide d → CuGood (d .units .settings .form) (d .units .cu)
 cu-good d e h = record { fits = fits-of d e .1; wide = h .cu }
 
 pub running-of : (d : Device) → inRange d ≡ true → Wide d → d .units .initialised ≡ true → Running d
@@ -87,12 +91,12 @@ running-of d e h i =
       scb = h .scb;
       cu = cu-good d e h;
       ru = record { fits = fits-of d e .2; wide = h .ru };
-      setup = setup-good d h;
+      setup = setup-good d e h;
     }
 
 -- ---- the command unit obeys
 
-start-good : (cbl : Offset) (u : Cu) → cbl .0 < 65536 → CuGood u → CuGood (cuStart cbl u)
+start-good : {g : Form} (cbl : Offset) (u : Cu) → cbl .0 < 65536 → CuGood g u → CuGood g (cuStart cbl u)
 start-good cbl cu.Idle f h = cu-waiting cbl f
 start-good cbl (cu.Suspended o) f h = cu-waiting cbl f
 start-good cbl (cu.Waiting o) f h = h
@@ -101,7 +105,7 @@ start-good cbl (cu.Sending b w) f h = h
 start-good cbl (cu.Ending b n) f h = h
 start-good cbl (cu.Failing b) f h = h
 
-resume-good : (u : Cu) → CuGood u → CuGood (cuResume u)
+resume-good : {g : Form} (u : Cu) → CuGood g u → CuGood g (cuResume u)
 resume-good cu.Idle h = h
 resume-good (cu.Suspended o) h = cu-waiting o (at-suspended o h)
 resume-good (cu.Waiting o) h = h
@@ -110,7 +114,7 @@ resume-good (cu.Sending b w) h = h
 resume-good (cu.Ending b n) h = h
 resume-good (cu.Failing b) h = h
 
-suspend-good : (u : Cu) → CuGood u → CuGood (cuSuspend u)
+suspend-good : {g : Form} (u : Cu) → CuGood g u → CuGood g (cuSuspend u)
 suspend-good cu.Idle h = h
 suspend-good (cu.Suspended o) h = h
 suspend-good (cu.Waiting o) h = cu-suspended o (at-waiting o h)
@@ -119,7 +123,7 @@ suspend-good (cu.Sending b w) h = cu-sending (pausingBegun b) w (at-sending b w 
 suspend-good (cu.Ending b n) h = let z = ending-size b n h in cu-ending (pausingBegun b) n (at-ending b n h) (z .0) (z .1)
 suspend-good (cu.Failing b) h = cu-failing (pausingBegun b) (at-failing b h)
 
-cu-by-good : (code : Code) (cbl : Offset) (u : Cu) → cbl .0 < 65536 → CuGood u → CuGood (cuBy code cbl u)
+cu-by-good : {g : Form} (code : Code) (cbl : Offset) (u : Cu) → cbl .0 < 65536 → CuGood g u → CuGood g (cuBy code cbl u)
 cu-by-good start cbl u f h = start-good cbl u f h
 cu-by-good resume cbl u f h = resume-good u h
 cu-by-good suspend cbl u f h = suspend-good u h
@@ -142,7 +146,7 @@ cu-writes-bytes suspend base u = tt
 cu-writes-bytes abort base u = aborted-cu-bytes base u
 cu-writes-bytes other base u = tt
 
-cuc-good : (u : Units) (command : ℕ) (m : List ℕ) → CuGood (u .cu) → Bytes m → CuGood (obeyCuc u command m .unit)
+cuc-good : {g : Form} (u : Units) (command : ℕ) (m : List ℕ) → CuGood g (u .cu) → Bytes m → CuGood g (obeyCuc u command m .unit)
 unfolding obeyCuc
 cuc-good u command m h b = cu-by-good (codeOf (cuc command)) (offsetAt m (ofScb u cblAt)) (u .cu) (field-bound m (ofScb u cblAt) 2 b) h
 
@@ -236,9 +240,9 @@ running-good : (a : Attended) → Running (a .outcome .device) → AllBytes (a .
 running-good a h w = record { range = running-range (a .outcome .device) h; wide = running-wide (a .outcome .device) h; writes = w }
 
 -- the first one
-initialise-good : (d : Device) (m : List ℕ) → Wide d → Bytes m → AttendedGood (initialise d m)
+initialise-good : (d : Device) (m : List ℕ) → inRange d ≡ true → Wide d → Bytes m → AttendedGood (initialise d m)
 unfolding initialise
-initialise-good d m h b =
+initialise-good d m e h b =
     let iscp = iscpOf m in
     running-good (initialise d m)
     (record {
@@ -247,7 +251,7 @@ initialise-good d m h b =
       scb = field-bound m (beyond iscp 2) 2 b;
       cu = cu-idle;
       ru = ru-idle;
-      setup = setup-good d h;
+      setup = setup-good d e h;
     })
     (bytes-cons 0 [] (omega arith) bytes-nil, (digits-bytes 2 0xA000, (digits-bytes 2 0x0000, tt)))
 
@@ -288,7 +292,7 @@ attend-good d m h b =
 
 attention-good-by : (initialised : Bool) (d : Device) (m : List ℕ) → d .units .initialised ≡ initialised → inRange d ≡ true → Wide d → Bytes m
     → AttendedGood (attentionBy initialised d m)
-attention-good-by false d m i e h b = initialise-good d m h b
+attention-good-by false d m i e h b = initialise-good d m e h b
 attention-good-by true d m i e h b = attend-good d m (running-of d e h i) b
 
 pub attention-good : (d : Device) (m : List ℕ) → inRange d ≡ true → Wide d → Bytes m → AttendedGood (attention d m)

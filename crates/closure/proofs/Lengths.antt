@@ -49,7 +49,7 @@ arrival-length u matched f v m h = area-length (isHeld (arriving.fateOf (u .sett
 
 begun-length : (t : Bool) (p : command.Part) (b : Begun) (word : ℕ) (m : List ℕ)
     → length (command-begin.toBegun t p b word m .outgoing) ≡ length (p .outgoing)
-begun-length true p b word m = length-sets (p .outgoing) 0 (command-begin.headerOf (p .base) (p .setup .own) (b .block) m)
+begun-length true p b word m = length-sets (p .outgoing) 0 (command-begin.headerOf (p .base) (p .setup .settings .form) (p .setup .own) (b .block) m)
 begun-length false p b word m = refl
 
 gathered-length : (fits : Bool) (out : List ℕ) (base : RealAddress) (o : Offset) (w : Walk) (m : List ℕ)

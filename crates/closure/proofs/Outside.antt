@@ -13,6 +13,7 @@ use Rattle.device.specs.declared.Device.{Device}
 use Rattle.device.specs.declared.Units.{Units}
 use Rattle.numerals.specs.Places.{field}
 use Rattle.phases.specs.Fields.{flagsIn, kindIn}
+use Rattle.phases.specs.Forms.{kindShaped}
 use Rattle.phases.specs.Phases.{cuShaped, ruMost, ruFlags, restMost, ruShaped}
 use Rattle.phases.proofs.Units.{both}
 use Rattle.packed.specs.Packed.{cuTagIn, ruTagIn}
@@ -45,8 +46,8 @@ outside (suc (suc (suc (suc t)))) n rest l p q = absurd (omega (arith, l))
 shaped-outside : (t n rest : ℕ) → t < 4 → ruShaped t n rest ≡ true → (n < 2 ^ 16) × (rest ≡ 0)
 unfolding ruShaped
 shaped-outside t n rest l e =
-    let x = both (ltb t 8 && leb n (ruMost t) && ltb (flagsIn n) (ruFlags t) && ltb (kindIn n) 3) (leb rest (restMost t)) e in
-    let y = both (ltb t 8 && leb n (ruMost t) && ltb (flagsIn n) (ruFlags t)) (ltb (kindIn n) 3) (x .0) .0 in
+    let x = both (ltb t 8 && leb n (ruMost t) && ltb (flagsIn n) (ruFlags t) && kindShaped (kindIn n)) (leb rest (restMost t)) e in
+    let y = both (ltb t 8 && leb n (ruMost t) && ltb (flagsIn n) (ruFlags t)) (kindShaped (kindIn n)) (x .0) .0 in
     let z = both (ltb t 8 && leb n (ruMost t)) (ltb (flagsIn n) (ruFlags t)) y .0 in
     outside t n rest l (both (ltb t 8) (leb n (ruMost t)) z .1) (x .1)
 

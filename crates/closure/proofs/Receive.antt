@@ -13,7 +13,8 @@ use Rattle.memory.specs.declared.Offset.{Offset}
 use Rattle.memory.specs.declared.RealAddress.{RealAddress}
 use Rattle.memory.proofs.Bytes.{Bytes, AllBytes, all-append, apply-bytes, take-bytes, drop-bytes, field-bound, digits-bytes}
 use Rattle.device.specs.Answers.{isCounter, counterOf, counts, isStored, isHeld}
-use Rattle.device.specs.Limits.{header, heldFrom}
+use Rattle.device.specs.Header.{header, unbuffered}
+use Rattle.device.specs.Limits.{heldFrom}
 use Rattle.device.specs.State.{isGood}
 use Rattle.device.specs.declared.Counter.{Counter}
 use Rattle.device.specs.declared.Fate.{Fate}
@@ -29,8 +30,9 @@ use Rattle.receive.specs.Begin.{begunBy, isBare, toFirst, begin}
 use Rattle.receive.specs.Buffer.{descriptorAt, past, count, isDone, afterBuffer, buffer}
 use Rattle.receive.specs.End.{frameStatus, bareMark, descriptorBy, settles, before, proceeds, close, lack, fateOf as endFate}
 use Rattle.receive.specs.Service.{serviceBy}
-use Rattle.image.specs.Ranges.{frameFits}
-use Rattle.closure.proofs.Units.{RuGood, StoringGood, frame-size, frame-true, ru-none, ru-suspended, ru-ready, ru-held, ru-filling, ru-closing, ru-lacking, fd-ready, fd-held, held-frame, filling-storing, filling-left, filling-walk}
+use Rattle.phases.specs.Forms.{FormWide}
+use Rattle.image.specs.Ranges.{frameFits, hasData}
+use Rattle.closure.proofs.Units.{RuGood, StoringGood, header-most, frame-size, frame-true, ru-none, ru-suspended, ru-ready, ru-held, ru-filling, ru-closing, ru-lacking, fd-ready, fd-held, held-frame, filling-storing, filling-left, filling-walk}
 use Rattle.closure.proofs.Command.{sets-bytes}
 
 or-left : (a b : Bool) → a ≡ true → (a || b) ≡ true
@@ -56,41 +58,48 @@ judged-most : (s : Settings) (f : List ℕ) (v : ℕ) → judged s f v .length �
 unfolding judged lengthOf
 judged-most s f v = omega arith
 
-judged-least : (s : Settings) (f : List ℕ) (v : ℕ) → 14 ≤ length f → 14 ≤ judged s f v .length
+judged-least : (s : Settings) (f : List ℕ) (v : ℕ) → FormWide (s .form) → header (s .form .length) ≤ length f → header (judged s f v .form .length) ≤ judged s f v .length
 unfolding judged lengthOf
-judged-least s f v h = omega arith
+judged-least s f v w h = omega (arith, header-most (s .form) w)
+
+judged-form : (s : Settings) (f : List ℕ) (v : ℕ) → judged s f v .form ≡ s .form
+unfolding judged
+judged-form s f v = refl
 
 -- in Ready a frame is held if it is good, or bad and to be saved
-ready-good : (good saved : Bool) (c : Counter) (fd : Offset) (f : Frame) → isGood f ≡ good → f .savebad ≡ saved → 14 ≤ f .length → f .length ≤ 2048
+ready-good : (good saved : Bool) (c : Counter) (fd : Offset) (f : Frame) → isGood f ≡ good → f .savebad ≡ saved → FormWide (f .form)
+    → header (f .form .length) ≤ f .length → f .length ≤ 2048
     → RuGood (ru.Ready fd) → RuGood (unitBy (isHeld (inReady good saved c)) (ru.Ready fd) f)
-ready-good true saved c fd f g s p q h = ru-held fd f false (fd-ready fd h) (frame-true f p q (or-left (isGood f) (f .savebad) g))
-ready-good false true c fd f g s p q h = ru-held fd f false (fd-ready fd h) (frame-true f p q (or-right (isGood f) (f .savebad) s))
-ready-good false false c fd f g s p q h = h
+ready-good true saved c fd f g s w p q h = ru-held fd f false (fd-ready fd h) (frame-true f w p q (or-left (isGood f) (f .savebad) g))
+ready-good false true c fd f g s w p q h = ru-held fd f false (fd-ready fd h) (frame-true f w p q (or-right (isGood f) (f .savebad) s))
+ready-good false false c fd f g s w p q h = h
 
 lost-good : (held : Bool) (f : Frame) → RuGood (unitBy held ru.NoResources f)
 lost-good true f = ru-none
 lost-good false f = ru-none
 
-fate-good : (u : Ru) (f : Frame) → 14 ≤ f .length → f .length ≤ 2048 → RuGood u → RuGood (unitBy (isHeld (fateIn u f)) u f)
-fate-good ru.Idle f p q h = h
-fate-good ru.NoResources f p q h = lost-good (isHeld (inNoResources (isGood f) (counterFor f))) f
-fate-good (ru.Suspended fd) f p q h = h
-fate-good (ru.Ready fd) f p q h = ready-good (isGood f) (f .savebad) (counterFor f) fd f refl refl p q h
-fate-good (ru.Held fd g x) f p q h = h
-fate-good (ru.Filling s w) f p q h = h
-fate-good (ru.Closing s o full) f p q h = h
-fate-good (ru.Lacking s) f p q h = h
+fate-good : (u : Ru) (f : Frame) → FormWide (f .form) → header (f .form .length) ≤ f .length → f .length ≤ 2048 → RuGood u → RuGood (unitBy (isHeld (fateIn u f)) u f)
+fate-good ru.Idle f n p q h = h
+fate-good ru.NoResources f n p q h = lost-good (isHeld (inNoResources (isGood f) (counterFor f))) f
+fate-good (ru.Suspended fd) f n p q h = h
+fate-good (ru.Ready fd) f n p q h = ready-good (isGood f) (f .savebad) (counterFor f) fd f refl refl n p q h
+fate-good (ru.Held fd g x) f n p q h = h
+fate-good (ru.Filling s w) f n p q h = h
+fate-good (ru.Closing s o full) f n p q h = h
+fate-good (ru.Lacking s) f n p q h = h
 
-arrival-good-by : (s : Settings) (few matched : Bool) (u : Ru) (f : List ℕ) (v : ℕ) → ltb (length f) 14 ≡ few → RuGood u
+arrival-good-by : (s : Settings) (few matched : Bool) (u : Ru) (f : List ℕ) (v : ℕ) → FormWide (s .form)
+    → ltb (length f) (header (s .form .length)) ≡ few → RuGood u
     → RuGood (unitBy (isHeld (fateBy few matched u (judged s f v))) u (judged s f v))
-arrival-good-by s true matched u f v e h = h
-arrival-good-by s false false u f v e h = h
-arrival-good-by s false true u f v e h = fate-good u (judged s f v) (judged-least s f v (ltb-false _ _ e)) (judged-most s f v) h
+arrival-good-by s true matched u f v w e h = h
+arrival-good-by s false false u f v w e h = h
+arrival-good-by s false true u f v w e h =
+    fate-good u (judged s f v) (rw (judged-form s f v) w) (judged-least s f v w (ltb-false _ _ e)) (judged-most s f v) h
 
-pub arrival-good : (s : Settings) (matched : Bool) (u : Ru) (f : List ℕ) (v : ℕ) → RuGood u
+pub arrival-good : (s : Settings) (matched : Bool) (u : Ru) (f : List ℕ) (v : ℕ) → FormWide (s .form) → RuGood u
     → RuGood (unitBy (isHeld (fateOf s matched u f v)) u (judged s f v))
 unfolding fateOf
-arrival-good s matched u f v h = arrival-good-by s (ltb (length f) header) matched u f v refl h
+arrival-good s matched u f v w h = arrival-good-by s (ltb (length f) (header (s .form .length))) matched u f v w refl h
 
 pub area-bytes : (held : Bool) (area f : List ℕ) → Bytes area → Bytes f → Bytes (areaBy held area f)
 area-bytes true area f h k = sets-bytes area heldFrom f h k
@@ -109,21 +118,22 @@ pub record ServiceGood (s : Service) : Type 0 where
 
 -- ---- begin
 
-first-good : (bare none : Bool) (s : Storing) (first : Offset) → StoringGood s → first .0 < 65536 → leb (s .frame .length) 14 ≡ bare
+first-good : (bare none : Bool) (s : Storing) (first : Offset) → StoringGood s → first .0 < 65536 → leb (s .frame .length) (unbuffered (s .frame .form)) ≡ bare
     → isNone first ≡ none
     → RuGood (toFirst bare none s first)
-first-good true none s first h k b e = ru-closing s first false h k (or-right (ltb 14 (s .frame .length)) true refl)
+first-good true none s first h k b e = ru-closing s first false h k (or-right (hasData (s .frame)) true refl)
 first-good false true s first h k b e = ru-lacking s h (leb-false _ _ b)
 first-good false false s first h k b e =
-    ru-filling s (record { next = first; used = 0; filled = header }) h
-    (record { next = k; used = omega arith; some = e; least = omega arith; most = omega arith })
+    let left-over : unbuffered (s .frame .form) < s .frame .length = leb-false _ _ b in
+    ru-filling s (record { next = first; used = 0; filled = unbuffered (s .frame .form) }) h
+    (record { next = k; used = omega arith; some = e; enough = omega arith; most = omega (arith, left-over, frame-size (s .frame) (h .frame) .1) })
     (leb-false _ _ b)
 
 begun-good : (fd : Offset) (f : Frame) (pausing : Bool) (word : ℕ) → fd .0 < 65536 → frameFits f ≡ true → StoringGood (begunBy fd f pausing word)
 unfolding begunBy
 begun-good fd f pausing word h e = record { fd = h; frame = e }
 
-begun-bare : (fd : Offset) (f : Frame) (pausing : Bool) (word : ℕ) → leb (begunBy fd f pausing word .frame .length) 14 ≡ isBare f
+begun-bare : (fd : Offset) (f : Frame) (pausing : Bool) (word : ℕ) → leb (begunBy fd f pausing word .frame .length) (unbuffered (begunBy fd f pausing word .frame .form)) ≡ isBare f
 unfolding begunBy
 begun-bare fd f pausing word = refl
 
@@ -142,9 +152,10 @@ begin-good p fd f pausing m h e mb =
 
 -- ---- buffer
 
-after-good : (done el none last : Bool) (s : Storing) (w : Walk) → StoringGood s → 14 < s .frame .length → w .next .0 < 65536 → 14 ≤ w .filled
+after-good : (done el none last : Bool) (s : Storing) (w : Walk) → StoringGood s → unbuffered (s .frame .form) < s .frame .length → w .next .0 < 65536
+    → unbuffered (s .frame .form) ≤ w .filled
     → leb (s .frame .length) (w .filled) ≡ done → isNone (w .next) ≡ none → leb 64 (w .used) ≡ last → RuGood (afterBuffer done el none last s w)
-after-good true el none last s w h l n p d e u = ru-closing s (w .next) el h n (or-left _ (not el) (lt-ltb 14 (s .frame .length) l))
+after-good true el none last s w h l n p d e u = ru-closing s (w .next) el h n (or-left _ (not el) (lt-ltb (unbuffered (s .frame .form)) (s .frame .length) l))
 after-good false true none last s w h l n p d e u = ru-lacking s h l
 after-good false false true last s w h l n p d e u = ru-lacking s h l
 after-good false false false true s w h l n p d e u = ru-lacking s h l
@@ -152,7 +163,7 @@ after-good false false false false s w h l n p d e u =
     let k : w .used < 64 = leb-false _ _ u in
     let x : w .filled < s .frame .length = leb-false _ _ d in
     let q = frame-size (s .frame) (h .frame) in
-    ru-filling s w h (record { next = n; used = omega arith; some = e; least = p; most = omega (arith, q .1) }) x
+    ru-filling s w h (record { next = n; used = omega arith; some = e; enough = p; most = omega (arith, q .1) }) x
 
 next-below : (base : RealAddress) (o : Offset) (m : List ℕ) → Bytes m → descriptorAt base o m .next .0 < 65536
 unfolding descriptorAt
@@ -163,8 +174,8 @@ unfolding buffer
 buffer-good p s w m h a mb =
     let d = descriptorAt (p .base) (w .next) m in
     let k = filling-walk s w h in
-    let l : 14 < s .frame .length = omega (arith, k .least, filling-left s w h) in
-    let g : 14 ≤ w .filled + count s w d = omega (arith, k .least) in
+    let l : unbuffered (s .frame .form) < s .frame .length = omega (arith, k .enough, filling-left s w h) in
+    let g : unbuffered (s .frame .form) ≤ w .filled + count s w d = omega (arith, k .enough) in
     record {
       unit =
           after-good (isDone s (past s w d)) (d .el) (isNone (d .next)) (leb 64 (w .used + 1)) s (past s w d) (filling-storing s w h) l
@@ -184,7 +195,7 @@ mark-bytes false a = tt
 
 described-bytes : (stored lacking : Bool) (p : Part) (s : Storing) → Bytes (p .holding) → AllBytes (descriptorBy stored lacking p s)
 described-bytes true lacking p s h = (
-  take-bytes header (drop heldFrom (p .holding)) (drop-bytes heldFrom (p .holding) h),
+  take-bytes (unbuffered (s .frame .form)) (drop heldFrom (p .holding)) (drop-bytes heldFrom (p .holding) h),
   (digits-bytes 2 (frameStatus lacking (s .frame)), mark-bytes (isBare (s .frame)) (place (p .base) (s .fd) firstAt)),
 )
 described-bytes false lacking p s h = (digits-bytes 2 0x0000, tt)

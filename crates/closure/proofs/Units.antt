@@ -7,27 +7,29 @@ use borrow.Author.Tests.{leb-true, ltb-true, le-leb, lt-ltb, not-true}
 use lib.Dec.{leb, ltb}
 use Rattle.memory.specs.Address.{isNone}
 use Rattle.memory.specs.declared.Offset.{Offset}
-use Rattle.device.specs.Numbers.{actionNumber, verdictNumber}
+use Rattle.device.specs.Header.{header, unbuffered}
+use Rattle.device.specs.Numbers.{actionNumber}
 use Rattle.device.specs.State.{isGood}
 use Rattle.device.specs.declared.Action.{Action}
 use Rattle.device.specs.declared.Action.the-variants as action
 use Rattle.device.specs.declared.Begun.{Begun}
 use Rattle.device.specs.declared.Cu.{Cu}
 use Rattle.device.specs.declared.Cu.the-variants as cu
+use Rattle.device.specs.declared.Form.{Form}
 use Rattle.device.specs.declared.Frame.{Frame}
 use Rattle.device.specs.declared.Ru.{Ru}
 use Rattle.device.specs.declared.Ru.the-variants as ru
 use Rattle.device.specs.declared.Storing.{Storing}
-use Rattle.device.specs.declared.Verdict.{Verdict}
-use Rattle.device.specs.declared.Verdict.the-variants as verdict
 use Rattle.device.specs.declared.Walk.{Walk}
+use Rattle.device.proofs.Header.{at-most-the-header}
+use Rattle.phases.specs.Forms.{kindOf, FormWide}
 use Rattle.phases.specs.Phases.{cuWord, ruWord, WordWide}
-use Rattle.phases.proofs.Units.{both}
-use Rattle.image.specs.Ranges.{sized, hasNext, cuFits, frameFits, ruFits}
+use Rattle.phases.proofs.Units.{both, kind-below}
+use Rattle.image.specs.Ranges.{formFits, sizedFrom, hasNext, hasData, cuFits, frameFits, ruFits}
 
--- each unit's range, and the widths of its words
-pub record CuGood (u : Cu) : Type 0 where
-  pub fits : cuFits u ≡ true
+-- each unit's range, the command unit's by the form in force, and the widths of its words
+pub record CuGood (f : Form) (u : Cu) : Type 0 where
+  pub fits : cuFits f u ≡ true
   pub wide : WordWide (cuWord u)
 
 pub record RuGood (u : Ru) : Type 0 where
@@ -45,111 +47,118 @@ action-below action.Tdr = omega arith
 action-below action.Dump = omega arith
 action-below action.Diagnose = omega arith
 
-verdict-below : (v : Verdict) → verdictNumber v < 256
-verdict-below verdict.Good = omega arith
-verdict-below verdict.Crc = omega arith
-verdict-below verdict.Misaligned = omega arith
+kind-wide : (f : Frame) → kindOf (f .verdict) (f .form) < 256
+kind-wide f = omega (arith, kind-below (f .verdict) (f .form))
 
-sized-true : (n : ℕ) → 14 ≤ n → n ≤ 2048 → sized n ≡ true
-sized-true n p q = rw (le-leb 14 n p, le-leb n 2048 q)
+sized-true : (least n : ℕ) → least ≤ n → n ≤ 2048 → sizedFrom least n ≡ true
+sized-true least n p q = rw (le-leb least n p, le-leb n 2048 q)
 
-sized-of : (n : ℕ) → sized n ≡ true → (14 ≤ n) × (n ≤ 2048)
-sized-of n e = let x = both (leb 14 n) (leb n 2048) e in (leb-true 14 n (x .0), leb-true n 2048 (x .1))
+sized-of : (least n : ℕ) → sizedFrom least n ≡ true → (least ≤ n) × (n ≤ 2048)
+sized-of least n e = let x = both (leb least n) (leb n 2048) e in (leb-true least n (x .0), leb-true n 2048 (x .1))
+
+-- what does not go through buffers is no more than the header, and that no more than a frame
+pub header-most : (f : Form) → FormWide f → header (f .length) ≤ 14
+header-most f h = omega arith
+
+pub unbuffered-most : (f : Form) → FormWide f → unbuffered f ≤ 14
+unbuffered-most f h = omega (arith, at-most-the-header f)
 
 -- ---- the command unit
 
-pub cu-idle : CuGood cu.Idle
+pub cu-idle : {f : Form} → CuGood f cu.Idle
 unfolding cuFits cuWord
 cu-idle = record { fits = refl; wide = record { at = omega arith; kind = omega arith; size = omega arith; next = omega arith } }
 
-pub cu-suspended : (o : Offset) → o .0 < 65536 → CuGood (cu.Suspended o)
+pub cu-suspended : {f : Form} (o : Offset) → o .0 < 65536 → CuGood f (cu.Suspended o)
 unfolding cuFits cuWord
 cu-suspended o h = record { fits = refl; wide = record { at = h; kind = omega arith; size = omega arith; next = omega arith } }
 
-pub cu-waiting : (o : Offset) → o .0 < 65536 → CuGood (cu.Waiting o)
+pub cu-waiting : {f : Form} (o : Offset) → o .0 < 65536 → CuGood f (cu.Waiting o)
 unfolding cuFits cuWord
 cu-waiting o h = record { fits = refl; wide = record { at = h; kind = omega arith; size = omega arith; next = omega arith } }
 
-pub cu-acting : (b : Begun) (a : Action) → b .block .0 < 65536 → CuGood (cu.Acting b a)
+pub cu-acting : {f : Form} (b : Begun) (a : Action) → b .block .0 < 65536 → CuGood f (cu.Acting b a)
 unfolding cuFits cuWord
 cu-acting b a h = record { fits = refl; wide = record { at = h; kind = action-below a; size = omega arith; next = omega arith } }
 
-pub cu-failing : (b : Begun) → b .block .0 < 65536 → CuGood (cu.Failing b)
+pub cu-failing : {f : Form} (b : Begun) → b .block .0 < 65536 → CuGood f (cu.Failing b)
 unfolding cuFits cuWord
 cu-failing b h = record { fits = refl; wide = record { at = h; kind = omega arith; size = omega arith; next = omega arith } }
 
-pub cu-ending : (b : Begun) (n : ℕ) → b .block .0 < 65536 → 14 ≤ n → n ≤ 2048 → CuGood (cu.Ending b n)
+pub cu-ending : {f : Form} (b : Begun) (n : ℕ) → b .block .0 < 65536 → unbuffered f ≤ n → n ≤ 2048 → CuGood f (cu.Ending b n)
 unfolding cuFits cuWord
-cu-ending b n h p q = record { fits = sized-true n p q; wide = record { at = h; kind = omega arith; size = omega arith; next = omega arith } }
+cu-ending b n h p q = record { fits = sized-true _ n p q; wide = record { at = h; kind = omega arith; size = omega arith; next = omega arith } }
 
--- a walk that goes on
-pub record WalkGood (w : Walk) : Type 0 where
+-- a walk that goes on, behind so many bytes at least
+pub record WalkGood (least : ℕ) (w : Walk) : Type 0 where
   pub next : w .next .0 < 65536
   pub used : w .used ≤ 63
   pub some : isNone (w .next) ≡ false
-  pub least : 14 ≤ w .filled
+  pub enough : least ≤ w .filled
   pub most : w .filled ≤ 2048
 
-goes-true : (w : Walk) → WalkGood w → hasNext w ≡ true
-goes-true w h = rw (le-leb (w .used) 63 (h .used), h .some)
+goes-true : (least : ℕ) (w : Walk) → WalkGood least w → hasNext w ≡ true
+goes-true least w h = rw (le-leb (w .used) 63 (h .used), h .some)
 
-pub cu-sending : (b : Begun) (w : Walk) → b .block .0 < 65536 → WalkGood w → CuGood (cu.Sending b w)
+pub cu-sending : {f : Form} (b : Begun) (w : Walk) → b .block .0 < 65536 → WalkGood (unbuffered f) w → CuGood f (cu.Sending b w)
 unfolding cuFits cuWord
 cu-sending b w h k =
     let u = k .used in
     let m = k .most in
     record {
-      fits = rw (goes-true w k, sized-true (w .filled) (k .least) m);
+      fits = rw (goes-true _ w k, sized-true _ (w .filled) (k .enough) m);
       wide = record { at = h; kind = omega arith; size = omega arith; next = k .next };
     }
 
 -- and what is known
-pub at-suspended : (o : Offset) → CuGood (cu.Suspended o) → o .0 < 65536
+pub at-suspended : {f : Form} (o : Offset) → CuGood f (cu.Suspended o) → o .0 < 65536
 unfolding cuWord
 at-suspended o h = h .wide .at
 
-pub at-waiting : (o : Offset) → CuGood (cu.Waiting o) → o .0 < 65536
+pub at-waiting : {f : Form} (o : Offset) → CuGood f (cu.Waiting o) → o .0 < 65536
 unfolding cuWord
 at-waiting o h = h .wide .at
 
-pub at-acting : (b : Begun) (a : Action) → CuGood (cu.Acting b a) → b .block .0 < 65536
+pub at-acting : {f : Form} (b : Begun) (a : Action) → CuGood f (cu.Acting b a) → b .block .0 < 65536
 unfolding cuWord
 at-acting b a h = h .wide .at
 
-pub at-failing : (b : Begun) → CuGood (cu.Failing b) → b .block .0 < 65536
+pub at-failing : {f : Form} (b : Begun) → CuGood f (cu.Failing b) → b .block .0 < 65536
 unfolding cuWord
 at-failing b h = h .wide .at
 
-pub at-ending : (b : Begun) (n : ℕ) → CuGood (cu.Ending b n) → b .block .0 < 65536
+pub at-ending : {f : Form} (b : Begun) (n : ℕ) → CuGood f (cu.Ending b n) → b .block .0 < 65536
 unfolding cuWord
 at-ending b n h = h .wide .at
 
-pub ending-size : (b : Begun) (n : ℕ) → CuGood (cu.Ending b n) → (14 ≤ n) × (n ≤ 2048)
+pub ending-size : {f : Form} (b : Begun) (n : ℕ) → CuGood f (cu.Ending b n) → (unbuffered f ≤ n) × (n ≤ 2048)
 unfolding cuFits
-ending-size b n h = sized-of n (h .fits)
+ending-size b n h = sized-of _ n (h .fits)
 
-pub at-sending : (b : Begun) (w : Walk) → CuGood (cu.Sending b w) → b .block .0 < 65536
+pub at-sending : {f : Form} (b : Begun) (w : Walk) → CuGood f (cu.Sending b w) → b .block .0 < 65536
 unfolding cuWord
 at-sending b w h = h .wide .at
 
-pub sending-walk : (b : Begun) (w : Walk) → CuGood (cu.Sending b w) → WalkGood w
+pub sending-walk : {f : Form} (b : Begun) (w : Walk) → CuGood f (cu.Sending b w) → WalkGood (unbuffered f) w
 unfolding cuFits cuWord
-sending-walk b w h =
-    let x = both (hasNext w) (sized (w .filled)) (h .fits) in
+sending-walk {f = f} b w h =
+    let x = both (hasNext w) (sizedFrom (unbuffered f) (w .filled)) (h .fits) in
     let y = both (leb (w .used) 63) (not (isNone (w .next))) (x .0) in
-    let z = sized-of (w .filled) (x .1) in
-    record { next = h .wide .next; used = leb-true _ _ (y .0); some = not-true _ (y .1); least = z .0; most = z .1 }
+    let z = sized-of (unbuffered f) (w .filled) (x .1) in
+    record { next = h .wide .next; used = leb-true _ _ (y .0); some = not-true _ (y .1); enough = z .0; most = z .1 }
 
 -- ---- the receive unit
 
 -- a held frame
-pub frame-size : (f : Frame) → frameFits f ≡ true → (14 ≤ f .length) × (f .length ≤ 2048)
+pub frame-size : (f : Frame) → frameFits f ≡ true → (header (f .form .length) ≤ f .length) × (f .length ≤ 2048)
 unfolding frameFits
-frame-size f e = sized-of (f .length) (both (sized (f .length)) (isGood f || f .savebad) e .0)
+frame-size f e =
+    let x = both (formFits (f .form) && sizedFrom (header (f .form .length)) (f .length)) (isGood f || f .savebad) e in
+    sized-of _ (f .length) (both (formFits (f .form)) (sizedFrom (header (f .form .length)) (f .length)) (x .0) .1)
 
-pub frame-true : (f : Frame) → 14 ≤ f .length → f .length ≤ 2048 → (isGood f || f .savebad) ≡ true → frameFits f ≡ true
+pub frame-true : (f : Frame) → FormWide (f .form) → header (f .form .length) ≤ f .length → f .length ≤ 2048 → (isGood f || f .savebad) ≡ true → frameFits f ≡ true
 unfolding frameFits
-frame-true f p q e = rw (sized-true (f .length) p q, e)
+frame-true f w p q e = rw (le-leb (f .form .length) 6 w, sized-true _ (f .length) p q, e)
 
 -- one begun
 pub record StoringGood (s : Storing) : Type 0 where
@@ -177,34 +186,34 @@ unfolding ruFits ruWord
 ru-held o f p h e =
     let z = frame-size f e in
     let q : f .length < 65536 = omega (arith, z .1) in
-    record { fits = e; wide = record { at = h; kind = verdict-below (f .verdict); size = q; next = omega arith } }
+    record { fits = e; wide = record { at = h; kind = kind-wide f; size = q; next = omega arith } }
 
-pub ru-filling : (s : Storing) (w : Walk) → StoringGood s → WalkGood w → w .filled < s .frame .length → RuGood (ru.Filling s w)
+pub ru-filling : (s : Storing) (w : Walk) → StoringGood s → WalkGood (unbuffered (s .frame .form)) w → w .filled < s .frame .length → RuGood (ru.Filling s w)
 unfolding ruFits ruWord
 ru-filling s w h k l =
     let z = frame-size (s .frame) (h .frame) in
     let q : s .frame .length < 65536 = omega (arith, z .1) in
     record {
-      fits = rw (h .frame, goes-true w k, le-leb 14 (w .filled) (k .least), lt-ltb (w .filled) (s .frame .length) l);
-      wide = record { at = h .fd; kind = verdict-below (s .frame .verdict); size = q; next = k .next };
+      fits = rw (h .frame, goes-true _ w k, le-leb (unbuffered (s .frame .form)) (w .filled) (k .enough), lt-ltb (w .filled) (s .frame .length) l);
+      wide = record { at = h .fd; kind = kind-wide (s .frame); size = q; next = k .next };
     }
 
 pub ru-closing : (s : Storing) (o : Offset) (full : Bool) → StoringGood s → o .0 < 65536
-    → (ltb 14 (s .frame .length) || not full) ≡ true → RuGood (ru.Closing s o full)
+    → (hasData (s .frame) || not full) ≡ true → RuGood (ru.Closing s o full)
 unfolding ruFits ruWord
 ru-closing s o full h k e =
     let z = frame-size (s .frame) (h .frame) in
     let q : s .frame .length < 65536 = omega (arith, z .1) in
-    record { fits = rw (h .frame) e; wide = record { at = h .fd; kind = verdict-below (s .frame .verdict); size = q; next = k } }
+    record { fits = rw (h .frame) e; wide = record { at = h .fd; kind = kind-wide (s .frame); size = q; next = k } }
 
-pub ru-lacking : (s : Storing) → StoringGood s → 14 < s .frame .length → RuGood (ru.Lacking s)
+pub ru-lacking : (s : Storing) → StoringGood s → unbuffered (s .frame .form) < s .frame .length → RuGood (ru.Lacking s)
 unfolding ruFits ruWord
 ru-lacking s h l =
     let z = frame-size (s .frame) (h .frame) in
     let q : s .frame .length < 65536 = omega (arith, z .1) in
     record {
-      fits = rw (h .frame, lt-ltb 14 (s .frame .length) l);
-      wide = record { at = h .fd; kind = verdict-below (s .frame .verdict); size = q; next = omega arith };
+      fits = rw (h .frame, lt-ltb (unbuffered (s .frame .form)) (s .frame .length) l);
+      wide = record { at = h .fd; kind = kind-wide (s .frame); size = q; next = omega arith };
     }
 
 -- and what is known
@@ -228,44 +237,44 @@ pub filling-storing : (s : Storing) (w : Walk) → RuGood (ru.Filling s w) → S
 unfolding ruFits ruWord
 filling-storing s w h =
     let x = both _ (ltb (w .filled) (s .frame .length)) (h .fits) in
-    let y = both _ (leb 14 (w .filled)) (x .0) in
+    let y = both _ (leb (unbuffered (s .frame .form)) (w .filled)) (x .0) in
     let z = both (frameFits (s .frame)) (hasNext w) (y .0) in
     record { fd = h .wide .at; frame = z .0 }
 
 pub filling-left : (s : Storing) (w : Walk) → RuGood (ru.Filling s w) → w .filled < s .frame .length
 unfolding ruFits
 filling-left s w h =
-    ltb-true _ _ (both (frameFits (s .frame) && hasNext w && leb 14 (w .filled)) (ltb (w .filled) (s .frame .length)) (h .fits) .1)
+    ltb-true _ _ (both (frameFits (s .frame) && hasNext w && leb (unbuffered (s .frame .form)) (w .filled)) (ltb (w .filled) (s .frame .length)) (h .fits) .1)
 
-pub filling-walk : (s : Storing) (w : Walk) → RuGood (ru.Filling s w) → WalkGood w
+pub filling-walk : (s : Storing) (w : Walk) → RuGood (ru.Filling s w) → WalkGood (unbuffered (s .frame .form)) w
 unfolding ruFits ruWord
 filling-walk s w h =
     let x = both _ (ltb (w .filled) (s .frame .length)) (h .fits) in
-    let y = both _ (leb 14 (w .filled)) (x .0) in
+    let y = both _ (leb (unbuffered (s .frame .form)) (w .filled)) (x .0) in
     let z = both (frameFits (s .frame)) (hasNext w) (y .0) in
     let v = both (leb (w .used) 63) (not (isNone (w .next))) (z .1) in
     let l : w .filled < s .frame .length = ltb-true _ _ (x .1) in
     let q = frame-size (s .frame) (z .0) in
     let m : w .filled ≤ 2048 = omega (arith, q .1) in
-    record { next = h .wide .next; used = leb-true _ _ (v .0); some = not-true _ (v .1); least = leb-true _ _ (y .1); most = m }
+    record { next = h .wide .next; used = leb-true _ _ (v .0); some = not-true _ (v .1); enough = leb-true _ _ (y .1); most = m }
 
 pub closing-storing : (s : Storing) (o : Offset) (full : Bool) → RuGood (ru.Closing s o full) → StoringGood s
 unfolding ruFits ruWord
 closing-storing s o full h =
-    record { fd = h .wide .at; frame = both (frameFits (s .frame)) (ltb 14 (s .frame .length) || not full) (h .fits) .0 }
+    record { fd = h .wide .at; frame = both (frameFits (s .frame)) (hasData (s .frame) || not full) (h .fits) .0 }
 
 pub closing-free : (s : Storing) (o : Offset) (full : Bool) → RuGood (ru.Closing s o full) → o .0 < 65536
 unfolding ruWord
 closing-free s o full h = h .wide .next
 
-pub closing-full : (s : Storing) (o : Offset) (full : Bool) → RuGood (ru.Closing s o full) → (ltb 14 (s .frame .length) || not full) ≡ true
+pub closing-full : (s : Storing) (o : Offset) (full : Bool) → RuGood (ru.Closing s o full) → (hasData (s .frame) || not full) ≡ true
 unfolding ruFits
-closing-full s o full h = both (frameFits (s .frame)) (ltb 14 (s .frame .length) || not full) (h .fits) .1
+closing-full s o full h = both (frameFits (s .frame)) (hasData (s .frame) || not full) (h .fits) .1
 
 pub lacking-storing : (s : Storing) → RuGood (ru.Lacking s) → StoringGood s
 unfolding ruFits ruWord
-lacking-storing s h = record { fd = h .wide .at; frame = both (frameFits (s .frame)) (ltb 14 (s .frame .length)) (h .fits) .0 }
+lacking-storing s h = record { fd = h .wide .at; frame = both (frameFits (s .frame)) (hasData (s .frame)) (h .fits) .0 }
 
-pub lacking-left : (s : Storing) → RuGood (ru.Lacking s) → 14 < s .frame .length
+pub lacking-left : (s : Storing) → RuGood (ru.Lacking s) → unbuffered (s .frame .form) < s .frame .length
 unfolding ruFits
-lacking-left s h = ltb-true _ _ (both (frameFits (s .frame)) (ltb 14 (s .frame .length)) (h .fits) .1)
+lacking-left s h = ltb-true _ _ (both (frameFits (s .frame)) (hasData (s .frame)) (h .fits) .1)

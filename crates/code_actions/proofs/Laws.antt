@@ -1,21 +1,24 @@
 -- The settings of a Configure, as the byte that it comes to; the filter of an MC-Setup, address by address. Assumes nothing.
-use mathlib.Core.Path.{_≡_}
-use mathlib.Core.Bool.{true, false}
+use mathlib.Core.Path.{_≡_, refl, sym, _∙_}
+use mathlib.Core.Bool.{true, false, not}
 use mathlib.Core.List.{List, [], _∷_, _++_}
-use Prim.Native.Nat.{ℕ, suc, _+_, _*_, _/_, _%_, _<_, _^_}
-use native.Mathlib.Nat.{div-one, mod-eq-of-lt}
+use Prim.Native.Nat.{ℕ, zero, suc, _+_, _*_, _/_, _%_, _<_, _^_}
+use native.Mathlib.Nat.{add-zero, zero-mul, suc-mul, zero-lt-suc, div-one, div-eq-of-lt, mul-add-div-right, mod-eq-of-lt}
 use native.Mathlib.Omega.{arith}
+use borrow.Author.Tests.{leb-true}
 use lib.Bits.{bitOr}
-use lib.Dec.{ltb}
+use lib.Dec.{leb, ltb}
 use lib.Pow.{pow-lt}
 use Rattle.memory.specs.Memory.{byteAt, bytesAt}
 use Rattle.memory.proofs.Laws.{bytes-append}
 use Rattle.scb.specs.Words.{one, bitsAt, bit}
 use Rattle.hash.specs.Hash.{hash}
+use Rattle.device.specs.Limits.{longestAddress}
 use Rattle.device.specs.declared.Settings.{Settings}
-use Rattle.phases.proofs.Units.{one-below}
-use Rattle.actions.specs.Actions.{settingsBy, filtering}
-use Rattle.packed.specs.SetUp.{joinedSettings, settingsByte, modesIn}
+use Rattle.phases.proofs.Units.{both, one-below}
+use Rattle.phases.specs.Forms.{formNumber, FormWide}
+use Rattle.actions.specs.Actions.{lengthIn, formIn, settingsBy, acceptable, groupsOf, filtering}
+use Rattle.packed.specs.SetUp.{joinedSettings, settingsByte, modesOf, modesIn}
 use Rattle.packed.proofs.Words.{one-odd}
 
 -- ---- a setup's settings
@@ -29,14 +32,39 @@ low-bits : (n : ℕ) → n % 2 ^ 2 ≡ one (bit n 0) + 2 * one (bit n 1)
 unfolding bitsAt
 low-bits n = rw (div-one n, one-odd n, one-odd (n / 2)) (omega arith)
 
-module _ (count : ℕ) (byte : ℕ → ℕ) (s : Settings) (g : byte 2 < 2 ^ 8) where
-  pub settings-taken : ltb 8 count ≡ true → joinedSettings (byte 2 / 2 ^ 7) (byte 8 % 2 ^ 2) ≡ settingsByte (settingsBy count byte s)
-  unfolding settingsBy
-  settings-taken e = rw (e, high-bit (byte 2) g, low-bits (byte 8))
+-- modes and form do not touch
+modes-in : (s : Settings) → modesIn (settingsByte s) ≡ modesOf s
+modes-in s = omega (arith, one-below (s .savebad), one-below (s .promiscuous), one-below (s .nobroadcast))
 
-  pub settings-kept : ltb 8 count ≡ false → (kept : ℕ) → kept ≡ settingsByte s → joinedSettings (byte 2 / 2 ^ 7) (modesIn kept) ≡ settingsByte (settingsBy count byte s)
+module _ (count : ℕ) (byte : ℕ → ℕ) (s : Settings) (form : ℕ) (g : byte 2 < 2 ^ 8) (f : form ≡ formNumber (formIn (byte 3))) where
+  pub settings-taken : ltb 8 count ≡ true → joinedSettings (byte 2 / 2 ^ 7) (byte 8 % 2 ^ 2) form ≡ settingsByte (settingsBy count byte s)
   unfolding settingsBy
-  settings-kept e kept k = rw (e, k, high-bit (byte 2) g) (omega (arith, one-below (s .savebad)))
+  settings-taken e = rw (e, f, high-bit (byte 2) g, low-bits (byte 8))
+
+  pub settings-kept : ltb 8 count ≡ false → (kept : ℕ) → kept ≡ settingsByte s
+      → joinedSettings (byte 2 / 2 ^ 7) (modesIn kept) form ≡ settingsByte (settingsBy count byte s)
+  unfolding settingsBy
+  settings-kept e kept k = rw (e, f, k, modes-in s, high-bit (byte 2) g)
+
+-- ---- a setup's form
+
+-- a bit has two values, and its number is what a form has of it
+pub bit-below : (n at : ℕ) → bitsAt n at 1 < 2
+unfolding bitsAt
+bit-below n at = omega arith
+
+pub bit-number : (n at : ℕ) → bitsAt n at 1 ≡ one (bit n at)
+unfolding bitsAt
+bit-number n at = rw (one-odd (n / 2 ^ at))
+
+-- a byte that is taken says a form
+pub acceptable-wide : (byte : ℕ) → acceptable byte ≡ true → FormWide (formIn byte)
+acceptable-wide byte e =
+    leb-true _ _ (both (leb (lengthIn byte) longestAddress) (not (bit byte 6)) (both _ (not (bit byte 7)) e .0) .0)
+
+pub settings-wide : (count : ℕ) (byte : ℕ → ℕ) (s : Settings) → acceptable (byte 3) ≡ true → FormWide (settingsBy count byte s .form)
+unfolding settingsBy
+settings-wide count byte s e = acceptable-wide (byte 3) e
 
 -- ---- a setup's filter
 
@@ -45,17 +73,34 @@ pub one-more : (m : List ℕ) (a j : ℕ) → bytesAt m a (j + 1) ≡ bytesAt m 
 unfolding bytesAt
 one-more m a j = bytes-append m a j 1
 
--- one address more, behind i bytes that are whole addresses: its bit is set
-pub filter-more : (m : List ℕ) (a i k filter : ℕ) → i % 6 ≡ 0 → filter ≡ filtering m a (i / 6) → k < 64 → k ≡ hash (bytesAt m (a + i) 6)
-    → bitOr filter (1 * 2 ^ k % 2 ^ 64) ≡ filtering m a ((i + 6) / 6)
-unfolding filtering
-filter-more m a i k filter r f l h =
-    let n : (i + 6) / 6 ≡ suc (i / 6) = omega arith in
-    let p : a + i / 6 * 6 ≡ a + i = omega arith in
-    let g : 2 ^ k < 2 ^ 64 = pow-lt l in
-    let o : 1 * 2 ^ k ≡ 2 ^ k = omega arith in
-    rw (n, f, p, ← h, o, mod-eq-of-lt g)
+-- i bytes are whole addresses of l bytes, and the filter is theirs
+pub record Whole (l : ℕ) (m : List ℕ) (a i filter : ℕ) : Type 0 where
+  pub groups : ℕ
+  pub bytes : i ≡ groups * l
+  pub filtered : filter ≡ filtering l m a groups
 
--- a remainder of fewer than six bytes is ignored
-pub remainder-ignored : (i j : ℕ) → i % 6 ≡ 0 → j < 6 → i / 6 ≡ (i + j) / 6
-remainder-ignored i j r l = omega arith
+groups-in : (l g j : ℕ) → j < l → groupsOf l (g * l + j) ≡ g
+groups-in zero g j h = absurd (omega arith)
+groups-in (suc l) g j h = mul-add-div-right (zero-lt-suc l) g j ∙ rw (div-eq-of-lt h, add-zero g)
+
+module _ (l : ℕ) (m : List ℕ) (a : ℕ) where
+  pub none-yet : Whole l m a 0 0
+  unfolding filtering
+  none-yet = record { groups = 0; bytes = sym (zero-mul l); filtered = refl }
+
+  -- one address more: its bit is set
+  pub filter-more : (i k filter : ℕ) → Whole l m a i filter → k < 64 → k ≡ hash (bytesAt m (a + i) l)
+      → Whole l m a (i + l) (bitOr filter (1 * 2 ^ k % 2 ^ 64))
+  unfolding filtering
+  filter-more i k filter w b h =
+      let g : 2 ^ k < 2 ^ 64 = pow-lt b in
+      let o : 1 * 2 ^ k ≡ 2 ^ k = omega arith in
+      record {
+        groups = suc (w .groups);
+        bytes = rw (suc-mul (w .groups) l, ← w .bytes);
+        filtered = rw (w .filtered, ← w .bytes, ← h, o, mod-eq-of-lt g);
+      }
+
+  -- a remainder of fewer bytes than an address has is ignored
+  pub remainder-ignored : (i j filter : ℕ) → Whole l m a i filter → j < l → filter ≡ filtering l m a (groupsOf l (i + j))
+  remainder-ignored i j filter w h = rw (w .bytes, groups-in l (w .groups) j h) (w .filtered)

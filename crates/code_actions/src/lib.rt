@@ -2,15 +2,17 @@
 // It takes every memory and a setup's bytes; the definitions are those of the crate `actions`, in document 01's order.
 use memory::Offset;
 use memory::RealAddress;
+use packed::form;
 use packed::setup;
 ghost use mathlib.Core.Path.{_≡_};
-ghost use Prim.Native.Nat.{_/_, _<_};
+ghost use Prim.Native.Nat.{_≤_, _<_, _^_};
 ghost use lib.ListN.{length};
-ghost use Rattle.device.specs.Limits.{addressLength};
+ghost use Rattle.device.specs.Limits.{longestAddress};
 ghost use Rattle.device.specs.Numbers.{actionOf};
 ghost use Rattle.device.specs.declared.Settings.{Settings};
 ghost use Rattle.actions.specs.Setup.{Setup};
 ghost use Rattle.actions.specs.Actions as actions;
+ghost use Rattle.phases.specs.Forms.{formNumber};
 ghost use Rattle.packed.specs.SetUp.{setupSize, settingsByte, SetIs};
 ghost use Rattle.code_actions.specs.Acts as acts;
 
@@ -19,14 +21,14 @@ const ARGUMENT: u16 = 6;
 
 const ADDRESSES: u16 = 8;
 
-// An address has six bytes. The low 14 bits of an MC-Setup's argument count bytes.
-const ADDRESS_SIZE: usize = 6;
+// The own address has six bytes, whatever the length in force, and no address has more. The low 14 bits of an MC-Setup's argument count bytes.
+const OWN_SIZE: usize = 6;
 
-const ADDRESS_BYTES: u16 = 6;
+const LONGEST_ADDRESS: u16 = 6;
 
 const COUNT_BITS: u16 = 14;
 
-// The bytes of a Configure that count here, by their numbers: byte count, save bad, address length and loopback, modes, minimum length.
+// The bytes of a Configure that count here, by their numbers: byte count, save bad, addressing and loopback, modes, minimum length.
 const COUNT: u16 = 0;
 
 const BAD: u16 = 2;
@@ -106,7 +108,7 @@ fn ia_setup(memory: &[u8], base: RealAddress, setup: &mut [u8], block: Offset) -
     copies::copy_out(
         memory,
         memory::place(base, block, ARGUMENT),
-        ADDRESS_SIZE,
+        OWN_SIZE,
         setup,
         setup::OWN,
     );
@@ -127,15 +129,30 @@ fn clamp(byte: u8) -> u16
     count
 }
 
-// Whether this project takes byte 3: address length 6, addresses in the block, no loopback.
+// Byte 3: the address length.
+fn length_in(byte: u8) -> u16
+    ensures { λ r. ⌜ r ≡ actions.lengthIn byte ⌝ }
+{
+    scb::bits_at(byte as u16, 0, LENGTH_BITS)
+}
+
+// Whether byte 3 is taken: an address length of at most 6, no loopback.
 fn is_acceptable(byte: u8) -> bool
     ensures { λ r. ⌜ r ≡ actions.acceptable byte ⌝ }
 {
     let b = byte as u16;
-    (scb::bits_at(b, 0, LENGTH_BITS) == ADDRESS_BYTES)
-        & !scb::is_set(b, LOCATION)
+    (length_in(byte) <= LONGEST_ADDRESS)
         & !scb::is_set(b, LOOPBACK)
         & !scb::is_set(b, OTHER_LOOPBACK)
+}
+
+// The form that it says.
+fn form_in(byte: u8) -> u8
+    requires { ⌜ actions.lengthIn byte ≤ longestAddress ⌝ }
+    ensures { λ r. ⌜ (r < 2 ^ 4) × (r ≡ formNumber (actions.formIn byte)) ⌝ }
+{
+    let location = scb::bits_at(byte as u16, LOCATION, 1);
+    form::of(length_in(byte) as u64, location as u64) as u8
 }
 
 // Byte k of a Configure: its byte 0 is at +6.
@@ -146,15 +163,25 @@ fn byte_of(memory: &[u8], base: RealAddress, block: Offset, k: u16) -> u8
     memory::byte_at(memory, memory::place(base, block, ARGUMENT + k))
 }
 
-// The settings byte after a Configure: save bad is bit 7 of byte 2; the modes are bits 0 and 1 of byte 8 if that is taken, else what was kept.
-fn settings_by(memory: &[u8], base: RealAddress, block: Offset, count: u16, kept: u8) -> u8
-    ensures { λ r. ⌜ ((s : Settings) → kept ≡ settingsByte s → r ≡ settingsByte (actions.settingsBy count (actions.byteOf base block (now (memory .entry))) s)) ⌝ }
+// The settings byte after a Configure: save bad is bit 7 of byte 2; the modes are bits 0 and 1 of byte 8 if that is taken, else what was kept; the
+// form is byte 3's.
+fn settings_by(
+    memory: &[u8],
+    base: RealAddress,
+    block: Offset,
+    count: u16,
+    form: u8,
+    kept: u8,
+) -> u8
+    requires { ⌜ form < 2 ^ 4 ⌝ }
+    ensures { λ r. ⌜ ((s : Settings) → form ≡ formNumber (actions.formIn (actions.byteOf base block (now (memory .entry)) 3)) → kept ≡ settingsByte s
+        → r ≡ settingsByte (actions.settingsBy count (actions.byteOf base block (now (memory .entry))) s)) ⌝ }
 {
     let save = byte_of(memory, base, block, BAD) / SAVE_BAD;
     if MODE < count {
-        return setup::settings(save, byte_of(memory, base, block, MODE) % MODES);
+        return setup::settings(save, byte_of(memory, base, block, MODE) % MODES, form);
     }
-    setup::settings(save, setup::modes(kept))
+    setup::settings(save, setup::modes(kept), form)
 }
 
 // The minimum length after a Configure: byte 10 if that is taken, else what was kept.
@@ -172,9 +199,18 @@ fn configure(memory: &[u8], base: RealAddress, setup: &mut [u8], block: Offset) 
     requires { ⌜ length (now setup) ≡ setupSize ⌝ }
     ensures { λ r. ⌜ ((s : Setup) → SetIs s (now (setup .entry)) → acts.Sets (actions.configure base s block (now (memory .entry))) r (now (setup .exit))) ⌝ }
 {
-    if is_acceptable(byte_of(memory, base, block, ADDRESSING)) {
+    let addressing = byte_of(memory, base, block, ADDRESSING);
+    if is_acceptable(addressing) {
         let count = clamp(byte_of(memory, base, block, COUNT));
-        setup[setup::SETTINGS] = settings_by(memory, base, block, count, setup[setup::SETTINGS]);
+        let form = form_in(addressing);
+        setup[setup::SETTINGS] = settings_by(
+            memory,
+            base,
+            block,
+            count,
+            form,
+            setup[setup::SETTINGS],
+        );
         setup[setup::MINIMUM] = minimum_by(memory, base, block, count, setup[setup::MINIMUM]);
         return plainly(DONE, 0);
     }
@@ -192,17 +228,20 @@ fn count_of(memory: &[u8], base: RealAddress, block: Offset) -> u16
     )
 }
 
-// The filter of so many bytes of addresses: of each the bit of its hash is set. Where the count runs out inside an address, that remainder is
-// ignored.
-fn filter_of(memory: &[u8], first: RealAddress, count: u16) -> u64
-    ensures { λ r. ⌜ r ≡ actions.filtering (now (memory .entry)) (first .0) (count / addressLength) ⌝ }
+// The filter of so many bytes of addresses, l bytes each: of each the bit of its hash is set. Where the count runs out inside an address, that
+// remainder is ignored. Addresses of no bytes leave it empty.
+fn filter_of(memory: &[u8], first: RealAddress, l: u64, count: u16) -> u64
+    ensures { λ r. ⌜ r ≡ actions.filtering l (now (memory .entry)) (first .0) (actions.groupsOf l count) ⌝ }
 {
+    if l == 0 {
+        return 0;
+    }
     let mut filter: u64 = 0;
     let mut i: u16 = 0;
     'addresses: while i < count {
         let mut register = hash::ONES;
-        let mut j: usize = 0;
-        while j < ADDRESS_SIZE {
+        let mut j: u64 = 0;
+        while j < l {
             if i == count {
                 break 'addresses;
             }
@@ -215,13 +254,14 @@ fn filter_of(memory: &[u8], first: RealAddress, count: u16) -> u64
     filter
 }
 
-// MC-Setup: the filter is that of its addresses, and nothing of the old one stays.
+// MC-Setup: the filter is that of its addresses, which have the length in force, and nothing of the old one stays.
 fn mc_setup(memory: &[u8], base: RealAddress, setup: &mut [u8], block: Offset) -> Done
     requires { ⌜ length (now setup) ≡ setupSize ⌝ }
     ensures { λ r. ⌜ ((s : Setup) → SetIs s (now (setup .entry)) → acts.Sets (actions.mcSetup base s block (now (memory .entry))) r (now (setup .exit))) ⌝ }
 {
     let first = memory::place(base, block, ADDRESSES);
-    let filter = filter_of(memory, first, count_of(memory, base, block));
+    let l = form::length(setup::form(setup));
+    let filter = filter_of(memory, first, l, count_of(memory, base, block));
     numerals::put64(setup, setup::FILTER, filter);
     plainly(DONE, 0)
 }

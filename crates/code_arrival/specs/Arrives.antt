@@ -3,10 +3,12 @@
 use mathlib.Core.Path.{_≡_}
 use mathlib.Core.Bool.{true}
 use mathlib.Core.List.{List}
-use Prim.Native.Nat.{ℕ}
+use Prim.Native.Nat.{ℕ, _≤_}
+use lib.ListN.{length}
 use Rattle.memory.specs.Memory.{apply}
 use Rattle.device.specs.Answers.{reasonOf}
 use Rattle.device.specs.Change.{withRu}
+use Rattle.device.specs.Header.{header}
 use Rattle.device.specs.declared.Frame.{Frame}
 use Rattle.device.specs.declared.Units.{Units}
 use Rattle.actions.specs.Setup.{Setup}
@@ -30,7 +32,8 @@ pub record Arrives (said : Arrival) (u : Units) (before : List ℕ) (r : Arrived
   pub memory : m ≡ apply (said .writes) before
   pub holding : h ≡ said .area
 
--- whatever units and setup the numbers and bytes are of: m and h are memory and holding area before, the primed ones after
+-- whatever units and setup the numbers and bytes are of, if the frame has its header: m and h are memory and holding area before, the primed ones after
 abbrev pub ArrivesAt : Packed → (set frame : List ℕ) → (verdict : ℕ) → (m h : List ℕ) → Arrived → (m′ h′ : List ℕ) → Type 0
 ArrivesAt k set frame verdict m h r m′ h′ =
-    (u : Units) (s : Setup) → PackedIs u k → SetIs s set → s .settings ≡ u .settings → Arrives (arrival u true frame verdict m h) u m r m′ h′
+    (u : Units) (s : Setup) → PackedIs u k → SetIs s set → s .settings ≡ u .settings → header (s .settings .form .length) ≤ length frame
+    → Arrives (arrival u true frame verdict m h) u m r m′ h′

@@ -1,5 +1,5 @@
 // An arriving frame over numbers: how it is judged, whether the unit holds it, which counter goes up, and why it is dropped. An arrival assumes a
-// setup's bytes and a frame of at least 14 bytes that matched. receive's specs/ say what is done, and specs/Arrives.antt that the numbers
+// setup's bytes and a frame that has its header and matched. receive's specs/ say what is done, and specs/Arrives.antt that the numbers
 // afterwards are those.
 use device::Reason;
 use memory::Offset;
@@ -69,6 +69,7 @@ fn judge(setup: &[u8], frame: &[u8], verdict: u32) -> u64
         short,
         setup::saves_bad(setup),
         verdict_number(verdict),
+        setup::form(setup),
         length,
     )
 }
@@ -77,7 +78,7 @@ fn judge(setup: &[u8], frame: &[u8], verdict: u32) -> u64
 pub fn is_good(f: u64) -> bool
     ensures { λ r. ⌜ r ≡ isGood (frameIn f) ⌝ }
 {
-    !ru::short(f) & (packed::kind_of(f) == 0)
+    !ru::short(f) & (ru::verdict(f) == 0)
 }
 
 // Short: no counter whatever the verdict. Misaligned verdict: ALNERRS. CRC verdict: CRCERRS.
@@ -87,7 +88,7 @@ fn counter_of(f: u64) -> u16
     if ru::short(f) {
         return UNCOUNTED;
     }
-    match packed::kind_of(f) {
+    match ru::verdict(f) {
         0 => UNCOUNTED,
         1 => CRCERRS,
         _ => ALNERRS,
@@ -167,7 +168,7 @@ pub fn arrive(
     frame: &[u8],
     verdict: u32,
 ) -> Arrived
-    requires { ⌜ (length (now setup) ≡ setupSize) × (14 ≤ length (now frame)) ⌝ }
+    requires { ⌜ length (now setup) ≡ setupSize ⌝ }
     ensures { λ r. ⌜ ArrivesAt k (now (setup .entry)) (now (frame .entry)) verdict (now (memory .entry)) (now (holding .entry)) r (now (memory .exit)) (now (holding .exit)) ⌝ }
 {
     let f = judge(setup, frame, verdict);

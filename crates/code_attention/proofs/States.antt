@@ -73,7 +73,7 @@ fresh-is =
             base-wide = omega arith;
             cu-wide = cu-idle-is .wide;
             ru-wide = ru-idle-is .wide;
-            filling-wide = tt;
+            holding-wide = tt;
           };
     }
 
@@ -95,4 +95,4 @@ run-over vs l e =
     sets-eq vs l 0 (omega arith) ∙ ap (λ (x : List ℕ). x ++ vs ++ drop (0 + length vs) l) (take-zero l) ∙ ap (λ (x : List ℕ). vs ++ x) d ∙ append-nil vs
 
 pub setup-fresh : (b : List ℕ) → b ≡ setupBytes (setupOf fresh) → SetIs (setupOf fresh) b
-setup-fresh b e = record { bytes-are = e; minimum-wide = omega arith; own-wide = refl; filter-wide = omega arith }
+setup-fresh b e = record { bytes-are = e; minimum-wide = omega arith; form-wide = omega arith; own-wide = refl; filter-wide = omega arith }

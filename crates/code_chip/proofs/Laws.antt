@@ -16,6 +16,7 @@ use Rattle.scb.specs.declared.Events.{Events}
 use Rattle.scb.proofs.Status.{any-bits}
 use Rattle.device.specs.Answers.{answered, arrived, counts}
 use Rattle.device.specs.Change.{withSettings}
+use Rattle.device.specs.Header.{header}
 use Rattle.device.specs.State.{cuWorks, ruWorks}
 use Rattle.device.specs.declared.Cu.{Cu}
 use Rattle.device.specs.declared.Cu.the-variants as cu
@@ -87,7 +88,7 @@ packed-settings u k s h =
             base-wide = h .wide .base-wide;
             cu-wide = h .wide .cu-wide;
             ru-wide = h .wide .ru-wide;
-            filling-wide = h .wide .filling-wide;
+            holding-wide = h .wide .holding-wide;
           };
     }
 
@@ -272,13 +273,16 @@ module _ (d : Device) (f : List ℕ) (v : ℕ) (m h out set : List ℕ) where
   abbrev matched : Bool
   matched = matches (d .units .settings) (d .own) (d .filter) f
 
-  -- under 14 bytes, or no match: dropped
-  pub arrives-few : (k : Packed) → ltb (length f) 14 ≡ true → DeviceIs d k set
+  -- shorter than the header, or no match: dropped
+  abbrev headed : ℕ
+  headed = header (d .units .settings .form .length)
+
+  pub arrives-few : (k : Packed) → ltb (length f) headed ≡ true → DeviceIs d k set
       → Arrives (arrivalOf world f v) (record { packed = k; reason = reason.TooFew }) set m h
   unfolding arrivalOf arrival receive-arrival.arrival receive-arrival.fateOf counts
   arrives-few k a x = rw a (record { device = x; answer = refl; memory = refl; holding = refl })
 
-  pub arrives-unmatched : (k : Packed) → ltb (length f) 14 ≡ false → matched ≡ false → DeviceIs d k set
+  pub arrives-unmatched : (k : Packed) → ltb (length f) headed ≡ false → matched ≡ false → DeviceIs d k set
       → Arrives (arrivalOf world f v) (record { packed = k; reason = reason.NoMatch }) set m h
   unfolding arrivalOf arrival receive-arrival.arrival receive-arrival.fateOf counts
   arrives-unmatched k a b x = rw (a, b) (record { device = x; answer = refl; memory = refl; holding = refl })

@@ -4,7 +4,9 @@ use code_arrival::Arrived;
 use device::Reason;
 use packed::Packed;
 use packed::cu;
+use packed::form;
 use packed::ru;
+use packed::setup;
 ghost use mathlib.Core.Path.{_≡_};
 ghost use lib.ListN.{length};
 ghost use Rattle.scb.specs.Words as words;
@@ -31,9 +33,6 @@ pub struct Turns {
 
 // The edge above a turn's length, which has 16 bits; in an answer it stands elsewhere.
 const TOLD_EDGE: u32 = 1 << 16;
-
-// A frame has a header of 14 bytes; a shorter one is dropped before anything is asked of it.
-const HEADER: usize = 14;
 
 // ---- a turn
 
@@ -179,7 +178,7 @@ pub fn run(
 
 // ---- arrival
 
-// A frame arrives with the line side's verdict. One of fewer than 14 bytes is dropped, and so is one that is not for us.
+// A frame arrives with the line side's verdict. One shorter than the header is dropped, and so is one that is not for us.
 pub fn arrival(
     memory: &mut [u8],
     holding: &mut [u8],
@@ -192,13 +191,14 @@ pub fn arrival(
     ensures { λ r. ⌜ does.ArrivalTakes k (now (frame .entry)) verdict (now (memory .entry)) (now (holding .entry)) (now (setup .entry))
         r (now (memory .exit)) (now (holding .exit)) ⌝ }
 {
-    if frame.len() < HEADER {
+    let f = setup::form(setup);
+    if (frame.len() as u64) < form::header(f) {
         return Arrived {
             packed: k,
             reason: Reason::TooFew,
         };
     }
-    if code_filter::matches(setup, frame) {
+    if code_filter::matches(setup, form::length(f) as usize, frame) {
         return code_arrival::arrive(memory, holding, setup, k, frame, verdict);
     }
     Arrived {

@@ -4,17 +4,20 @@ use code_actions::Done;
 use memory::Offset;
 use memory::RealAddress;
 use packed::cu;
+use packed::form;
 use packed::setup;
 ghost use mathlib.Core.Path.{_≡_};
-ghost use mathlib.Core.Bool.{true};
-ghost use Prim.Native.Nat.{_+_, _<_, _^_};
+ghost use mathlib.Core.Bool.{true, false};
+ghost use Prim.Native.Nat.{_+_, _≤_, _<_, _^_};
 ghost use lib.ListN.{length};
 ghost use lib.Seq.{sets};
 ghost use Rattle.memory.specs.Address as address;
+ghost use Rattle.device.specs.Limits.{longestAddress};
 ghost use Rattle.device.specs.declared.Begun.{Begun};
 ghost use Rattle.actions.specs.Setup.{Setup};
 ghost use Rattle.command.specs.Begin as begins;
 ghost use Rattle.command.specs.Buffer as buffers;
+ghost use Rattle.phases.specs.Forms.{formOf};
 ghost use Rattle.phases.specs.Phases.{wordOf, begunOf};
 ghost use Rattle.packed.specs.Packed.{BegunIs};
 ghost use Rattle.packed.specs.SetUp.{setupSize, SetIs};
@@ -40,8 +43,6 @@ const ARGUMENT: u16 = 6;
 
 const DESTINATION: u16 = 8;
 
-const TYPE: u16 = 14;
-
 // A command block's status: B while the command is busy; C, and bit 8 besides, of a Transmit that was not sent (ours).
 const BUSY: u16 = 0x4000;
 
@@ -54,18 +55,10 @@ const TRANSMIT: u16 = 4;
 
 const CONTROL_BITS: u16 = 1 << 13;
 
-// A frame's header: where the own address and the type stand in it, behind the destination.
-const ADDRESS_SIZE: usize = 6;
-
+// A type has two bytes.
 const TYPE_SIZE: usize = 2;
 
-const SOURCE_IN: usize = ADDRESS_SIZE;
-
-const TYPE_IN: usize = SOURCE_IN + ADDRESS_SIZE;
-
-// A frame's header, and the most bytes of a frame. So many descriptors before it make a descriptor the last that a Transmit may use.
-const HEADER: u64 = 14;
-
+// The most bytes of a frame. So many descriptors before it make a descriptor the last that a Transmit may use.
 const LONGEST: u64 = 2048;
 
 const LAST: u64 = 63;
@@ -107,40 +100,71 @@ fn begun_by(block: Offset, word: u16) -> u64
     cu::begun(block, word / CONTROL_BITS)
 }
 
-// A Transmit goes on to its first descriptor, or to its end where there is none.
-fn to_first(none: bool, b: u64, first: Offset) -> Commanded
-    requires { ⌜ b < 2 ^ 20 ⌝ }
-    ensures { λ r. ⌜ ((v : Begun) → BegunIs v b → inner.Quiet (begins.toFirst none v first) r) ⌝ }
+// A Transmit goes on to its first descriptor, or to its end where there is none; so many bytes of the frame are in the outgoing area.
+fn to_first(none: bool, filled: u64, b: u64, first: Offset) -> Commanded
+    requires { ⌜ (b < 2 ^ 20) × (filled < 2 ^ 16) ⌝ }
+    ensures { λ r. ⌜ ((v : Begun) → BegunIs v b → inner.Quiet (begins.toFirst none filled v first) r) ⌝ }
 {
     if none {
-        return quiet(cu::ENDING, cu::ending(b, HEADER));
+        return quiet(cu::ENDING, cu::ending(b, filled));
     }
-    quiet(cu::SENDING, cu::sending(b, 0, HEADER, first))
+    quiet(cu::SENDING, cu::sending(b, 0, filled, first))
 }
 
-// The header of a Transmit goes to the outgoing area: destination, own address, type.
-fn put_header(memory: &[u8], outgoing: &mut [u8], setup: &[u8], base: RealAddress, block: Offset)
-    requires { ⌜ length (now setup) ≡ setupSize ⌝ }
-    ensures { λ _. ⌜ ((s : Setup) → SetIs s (now (setup .entry)) → now (outgoing .exit) ≡ sets (now (outgoing .entry)) 0 (begins.headerOf base (s .own) block (now (memory .entry)))) ⌝ }
+// The header of a Transmit goes to the outgoing area: destination and own address, l bytes each, and the type.
+fn put_header(
+    memory: &[u8],
+    outgoing: &mut [u8],
+    setup: &[u8],
+    l: usize,
+    base: RealAddress,
+    block: Offset,
+)
+    requires { ⌜ (length (now setup) ≡ setupSize) × (l ≤ longestAddress) ⌝ }
+    ensures { λ _. ⌜ ((s : Setup) → SetIs s (now (setup .entry)) → now (outgoing .exit) ≡ sets (now (outgoing .entry)) 0 (begins.headerBy false l base (s .own) block (now (memory .entry)))) ⌝ }
 {
     copies::copy_out(
         memory,
         memory::place(base, block, DESTINATION),
-        ADDRESS_SIZE,
+        l,
         outgoing,
         0,
     );
-    memory::put_run(outgoing, SOURCE_IN, &setup[setup::OWN..setup::OWN_END]);
+    memory::put_run(outgoing, l, &setup[setup::OWN..setup::OWN + l]);
     copies::copy_out(
         memory,
-        memory::place(base, block, TYPE),
+        memory::place(base, block, DESTINATION + l as u16),
         TYPE_SIZE,
         outgoing,
-        TYPE_IN,
+        l + l,
     );
 }
 
-// A Transmit is begun: its +6 is read, and its header placed.
+// With location 1 the buffers have the header, and the outgoing area stays.
+fn place_header(
+    memory: &[u8],
+    outgoing: &mut [u8],
+    setup: &[u8],
+    f: u64,
+    base: RealAddress,
+    block: Offset,
+)
+    requires { ⌜ length (now setup) ≡ setupSize ⌝ }
+    ensures { λ _. ⌜ ((s : Setup) → SetIs s (now (setup .entry)) → now (outgoing .exit) ≡ sets (now (outgoing .entry)) 0 (begins.headerOf base (formOf f) (s .own) block (now (memory .entry)))) ⌝ }
+{
+    if !form::location(f) {
+        put_header(
+            memory,
+            outgoing,
+            setup,
+            form::length(f) as usize,
+            base,
+            block,
+        );
+    }
+}
+
+// A Transmit is begun by the form in force: its +6 is read, and its header placed.
 fn begin_transmit(
     memory: &[u8],
     outgoing: &mut [u8],
@@ -153,8 +177,9 @@ fn begin_transmit(
     ensures { λ r. ⌜ inner.Transmits base block b (now (memory .entry)) (now (outgoing .entry)) (now (setup .entry)) r (now (outgoing .exit)) ⌝ }
 {
     let first = memory::offset_at(memory, memory::place(base, block, ARGUMENT));
-    put_header(memory, outgoing, setup, base, block);
-    to_first(memory::is_none(first), b, first)
+    let f = setup::form(setup);
+    place_header(memory, outgoing, setup, f, base, block);
+    to_first(memory::is_none(first), form::unbuffered(f), b, first)
 }
 
 // The command of a command word is begun.

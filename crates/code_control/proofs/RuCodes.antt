@@ -63,7 +63,7 @@ unfolding ruWord ruRest
 suspend-ready ru.Idle tag n rest e h = absurd (omega arith)
 suspend-ready ru.NoResources tag n rest e h = absurd (omega arith)
 suspend-ready (ru.Suspended o) tag n rest e h = absurd (omega arith)
-suspend-ready (ru.Ready o) tag n rest e h = record { tag-is = refl; word-is = h .word-is; rest-is = h .rest-is; wide = h .wide; filling = tt }
+suspend-ready (ru.Ready o) tag n rest e h = record { tag-is = refl; word-is = h .word-is; rest-is = h .rest-is; wide = h .wide; holding = tt }
 suspend-ready (ru.Held o f p) tag n rest e h = absurd (omega arith)
 suspend-ready (ru.Filling s w) tag n rest e h = absurd (omega arith)
 suspend-ready (ru.Closing s o full) tag n rest e h = absurd (omega arith)
@@ -76,14 +76,14 @@ suspend-held ru.Idle tag n paused rest l h i = absurd (omega arith)
 suspend-held ru.NoResources tag n paused rest l h i = absurd (omega arith)
 suspend-held (ru.Suspended o) tag n paused rest l h i = absurd (omega arith)
 suspend-held (ru.Ready o) tag n paused rest l h i = absurd (omega arith)
-suspend-held (ru.Held o f p) tag n paused rest l h i = record { tag-is = h .tag-is; word-is = i .number-is; rest-is = h .rest-is; wide = i .wide; filling = tt }
-suspend-held (ru.Filling s w) tag n paused rest l h i = record { tag-is = h .tag-is; word-is = i .number-is; rest-is = h .rest-is; wide = i .wide; filling = h .filling }
-suspend-held (ru.Closing s o full) tag n paused rest l h i = record { tag-is = h .tag-is; word-is = i .number-is; rest-is = h .rest-is; wide = i .wide; filling = tt }
-suspend-held (ru.Lacking s) tag n paused rest l h i = record { tag-is = h .tag-is; word-is = i .number-is; rest-is = h .rest-is; wide = i .wide; filling = tt }
+suspend-held (ru.Held o f p) tag n paused rest l h i = record { tag-is = h .tag-is; word-is = i .number-is; rest-is = h .rest-is; wide = i .wide; holding = h .holding }
+suspend-held (ru.Filling s w) tag n paused rest l h i = record { tag-is = h .tag-is; word-is = i .number-is; rest-is = h .rest-is; wide = i .wide; holding = h .holding }
+suspend-held (ru.Closing s o full) tag n paused rest l h i = record { tag-is = h .tag-is; word-is = i .number-is; rest-is = h .rest-is; wide = i .wide; holding = h .holding }
+suspend-held (ru.Lacking s) tag n paused rest l h i = record { tag-is = h .tag-is; word-is = i .number-is; rest-is = h .rest-is; wide = i .wide; holding = h .holding }
 
 ready-is : (first : Offset) (n : ℕ) → WordIs (plain (first .0)) n → RuIs (ru.Ready first) 3 n 0
 unfolding ruWord ruRest
-ready-is first n i = record { tag-is = refl; word-is = i .number-is; rest-is = refl; wide = i .wide; filling = tt }
+ready-is first n i = record { tag-is = refl; word-is = i .number-is; rest-is = refl; wide = i .wide; holding = tt }
 
 pub ready-from : (first : Offset) (n : ℕ) (v : Ru) → WordIs (plain (first .0)) n → ruTag v < 3 → RuIs (ruStart first v) 3 n 0
 ready-from first n ru.Idle i h = ready-is first n i
@@ -107,7 +107,7 @@ ready-stays first (ru.Lacking s) h = refl
 
 pub ru-idle-is : RuIs ru.Idle 0 0 0
 unfolding numberOf ruWord ruRest
-ru-idle-is = record { tag-is = refl; word-is = refl; rest-is = refl; wide = plain-wide 0 (omega arith); filling = tt }
+ru-idle-is = record { tag-is = refl; word-is = refl; rest-is = refl; wide = plain-wide 0 (omega arith); holding = tt }
 
 -- the frame descriptor where a unit is, which is the offset in its word; one that is Idle or has No Resources is nowhere
 abbrev atOf : Ru → Offset

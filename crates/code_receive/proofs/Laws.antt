@@ -29,9 +29,11 @@ use Rattle.receive.specs.Buffer.{afterBuffer}
 use Rattle.receive.specs.End.{verdictBit, errorBits, frameStatus, fateBy, raisedBy, proceeds}
 use Rattle.receive.specs.Part.{quietly}
 use Rattle.receive.specs.Service.{service}
-use Rattle.phases.specs.Phases.{ruTag, storingWith, storingWord}
-use Rattle.phases.proofs.Units.{never}
+use Rattle.phases.specs.Forms.{formIn, FormWide}
+use Rattle.phases.specs.Phases.{wordOf, ruTag, storingWith, storingWord}
+use Rattle.phases.proofs.Units.{never, form-wide}
 use Rattle.packed.specs.Packed.{WordIs}
+use Rattle.code_arrival.specs.Arrives.{frameIn}
 use Rattle.code_receive.specs.Receives.{partBy, partAt, Serves}
 use Rattle.code_receive.specs.declared.Received.{Received}
 
@@ -67,6 +69,14 @@ begun-by-is o f p w = let a : w / 2 ^ 14 / 2 ≡ w / 2 ^ 15 = omega arith in rw 
 pub begun-by : (o : Offset) (f : Frame) (p : Bool) (w n : ℕ) → WordIs (storingWord (storingWith o f p (w / 2 ^ 14)) 0 false) n
     → WordIs (storingWord (begunBy o f p w) 0 false) n
 begun-by o f p w n h = subst (λ (s : Storing). WordIs (storingWord s 0 false) n) (begun-by-is o f p w) h
+
+-- the frame is the one held, and its form is whatever the word tells
+pub begun-frame : (o : Offset) (f : Frame) (p : Bool) (w : ℕ) → begunBy o f p w .frame ≡ f
+unfolding begunBy
+begun-frame o f p w = refl
+
+pub begun-wide : (o : Offset) (n : ℕ) (p : Bool) (w : ℕ) → FormWide (begunBy o (frameIn n) p w .frame .form)
+begun-wide o n p w = rw (begun-frame o (frameIn n) p w) (form-wide (formIn (wordOf n .kind)))
 
 last-false : (a b c : Bool) → (a || b || c) ≡ false → c ≡ false
 last-false true b c e = absurd (never (sym e))

@@ -2,6 +2,7 @@
 // say what is done, and specs/Receives.antt that the numbers afterwards are those. The room code_arrival has what comes before.
 use memory::Offset;
 use memory::RealAddress;
+use packed::form;
 use packed::ru;
 ghost use mathlib.Core.Path.{_≡_};
 ghost use mathlib.Core.Bool.{cond};
@@ -9,6 +10,7 @@ ghost use Prim.Native.Nat.{_-_, _%_, _<_, _≤_, _^_, min};
 ghost use Rattle.memory.specs.Address.{isNone, place};
 ghost use Rattle.memory.specs.Memory.{apply};
 ghost use Rattle.device.specs.Answers.{counterOf, isStored};
+ghost use Rattle.device.specs.Header as rule;
 ghost use Rattle.device.specs.Numbers.{counterPlace, verdictOf};
 ghost use Rattle.device.specs.declared.Fate.{Fate};
 ghost use Rattle.device.specs.declared.Ru.{Ru};
@@ -34,9 +36,6 @@ pub struct Received {
 const FR: u64 = 4;
 
 const RNR: u64 = 1;
-
-// A frame has a header of 14 bytes.
-const HEADER: usize = 14;
 
 // Where in the holding area a held frame begins.
 const HELD_FROM: usize = 0;
@@ -102,11 +101,18 @@ const MOST_BUFFERS: u64 = 64;
 
 // ---- begin
 
-// Whether a frame has no data behind its header.
+// How many of the frame's first bytes do not go through buffers, by the form that it arrived under.
+fn unbuffered(n: u64) -> u64
+    ensures { λ r. ⌜ (r ≡ rule.unbuffered (frameIn n .form)) × (r ≤ 14) ⌝ }
+{
+    form::unbuffered(ru::form(n))
+}
+
+// Whether a frame has no data for the buffers.
 fn is_bare(n: u64) -> bool
     ensures { λ r. ⌜ r ≡ begins.isBare (frameIn n) ⌝ }
 {
-    packed::size_of(n) <= HEADER as u64
+    packed::size_of(n) <= unbuffered(n)
 }
 
 // No data: the end is next, and the first offset stays the next free one. Data left at FFFFh: out of buffers.
@@ -133,7 +139,7 @@ fn to_first(n: u64, control: u16, first: Offset) -> Received
     Received {
         tag: ru::FILLING,
         word: ru::with_next(s, first),
-        rest: ru::rest_of(HEADER as u64, 0),
+        rest: ru::rest_of(unbuffered(n), 0),
         raised: 0,
     }
 }
@@ -249,7 +255,7 @@ fn bit_if(applies: bool, bit: u16) -> u16
 fn error_bits(lacking: bool, n: u64) -> u16
     ensures { λ r. ⌜ (r ≡ ends.errorBits lacking (frameIn n)) × (r ≤ 0x0A80) ⌝ }
 {
-    verdict_bit(packed::kind_of(n)) + bit_if(lacking, LACKING_BIT) + bit_if(ru::short(n), SHORT_BIT)
+    verdict_bit(ru::verdict(n)) + bit_if(lacking, LACKING_BIT) + bit_if(ru::short(n), SHORT_BIT)
 }
 
 // The descriptor's status: C, with all error bits that apply, and OK only with no error bit.
@@ -271,7 +277,7 @@ fn mark_bare(memory: &mut [u8], base: RealAddress, fd: Offset, bare: bool)
     }
 }
 
-// Stored: fourteen header bytes, status, FFFFh at +6 if no data. Not stored: status 0000h.
+// Stored: the header bytes that went to no buffer, status, FFFFh at +6 if no data. Not stored: status 0000h.
 fn describe(
     memory: &mut [u8],
     holding: &[u8],
@@ -289,7 +295,7 @@ fn describe(
             memory::place(base, fd, HEADER_AT),
             holding,
             HELD_FROM,
-            HEADER,
+            unbuffered(n) as usize,
         );
         memory::put_word(
             memory,

@@ -9,11 +9,12 @@ use Rattle.memory.specs.Memory.{byteAt, putByte, bytesAt, putBytes, value, digi
 use Rattle.scb.specs.Words.{bitsAt}
 use Rattle.hash.specs.Hash.{ones, shifted, step, bitsIn, register, selected, hash}
 use Rattle.device.specs.Numbers.{actionOf, actionNumber}
-use Rattle.device.specs.State.{freshSettings}
+use Rattle.device.specs.State.{freshForm}
 use Rattle.device.specs.declared.Action.the-variants as action
 use Rattle.device.specs.declared.Begun.{Begun}
 use Rattle.device.specs.declared.Cu.{Cu}
 use Rattle.device.specs.declared.Cu.the-variants as cu
+use Rattle.device.specs.declared.Form.{Form}
 use Rattle.actions.specs.Actions.{filtering, act, reported, isSent, sent}
 use Rattle.command.specs.Begin.{begin, begunBy, headerOf}
 use Rattle.command.specs.Buffer.{descriptorAt, buffer}
@@ -21,15 +22,22 @@ use Rattle.command.specs.End.{nextAfter, end}
 use Rattle.command.specs.Part.{Part, Service}
 use Rattle.command.specs.Service.{service}
 
--- a unit with the SCB base at 10h and own address six 66h; the block is at offset 40h, address 50h
-abbrev part : Cu → Part
-part unit =
+-- a unit with the SCB base at 10h and own address six 66h, by a form; the block is at offset 40h, address 50h
+abbrev partBy : Form → Cu → Part
+partBy form unit =
     record {
       base = record { 0 = 0x10 };
       unit = unit;
-      setup = record { settings = freshSettings; own = replicate 6 0x66; filter = 0 };
+      setup = record {
+        settings = record { savebad = false; promiscuous = false; nobroadcast = false; minimum = 64; form = form };
+        own = replicate 6 0x66;
+        filter = 0;
+      };
       outgoing = replicate 2048 0;
     }
+
+abbrev part : Cu → Part
+part unit = partBy freshForm unit
 
 abbrev given : List Write → List ℕ
 given ws = apply ws (replicate 256 0)
@@ -91,6 +99,32 @@ header =
 pub headerInOrder : T (eqb (getD header 0 0) 0x11 && eqb (getD header 5 0) 0x44 && eqb (getD header 6 0) 0x66 && eqb (getD header 12 0) 0x08)
 unfolding byteAt putByte bytesAt putBytes value digits fieldAt place bitsAt actionOf begunBy headerOf begin service
 headerInOrder = tt
+
+-- 02, Wish 4: with two bytes an address, the type stands at +10, and of the own address the first two are sent; with location 1 nothing is placed, and
+-- the frame has no byte yet
+abbrev begunAs : (length : ℕ) → (location : Bool) → Service
+begunAs length location =
+    service (partBy (record { length = length; location = location }) (cu.Waiting (record { 0 = 0x40 })))
+    (given (wordTo 0x52 4 ∷ wordTo 0x56 0xFFFF ∷ wordTo 0x58 0x2211 ∷ wordTo 0x5A 0x4433 ∷ wordTo 0x5E 0x0008 ∷ [])) 0
+
+-- the bytes in the outgoing area of a Transmit whose end is next
+abbrev placed : Cu → ℕ
+placed cu.Idle = 9
+placed (cu.Suspended o) = 9
+placed (cu.Waiting o) = 9
+placed (cu.Acting b a) = 9
+placed (cu.Sending b w) = 9
+placed (cu.Ending b n) = n
+placed (cu.Failing b) = 9
+
+pub packedByLength : T (eqb (fieldAt 8 (begunAs 2 false .part .outgoing) 0) 0x0000443366662211 && eqb (placed (begunAs 2 false .part .unit)) 6
+    && eqb (fieldAt 4 (begunAs 0 false .part .outgoing) 0) 0x00002211 && eqb (placed (begunAs 0 false .part .unit)) 2)
+unfolding byteAt putByte bytesAt putBytes value digits fieldAt place bitsAt actionOf begunBy headerOf begin service
+packedByLength = tt
+
+pub nothingPlaced : T (eqb (fieldAt 8 (begunAs 2 true .part .outgoing) 0) 0 && eqb (placed (begunAs 2 true .part .unit)) 0)
+unfolding byteAt putByte bytesAt putBytes value digits fieldAt place bitsAt actionOf begunBy headerOf begin service
+nothingPlaced = tt
 
 -- ---- buffer
 
@@ -177,6 +211,13 @@ whole (cu.Failing b) = 0
 pub sentWhole : T (eqb (whole (begun 0x0004 .part .unit)) 14 && eqb (whole (sending 0 14 0x8002 0 .part .unit)) 16)
 unfolding byteAt putByte bytesAt putBytes value digits fieldAt place bitsAt actionOf begunBy headerOf begin descriptorAt buffer reported isSent sent nextAfter end service
 sentWhole = tt
+
+-- 02, Wish 4: with location 1 a Transmit without buffers is a frame of no bytes: it is done as reported, and its length is 0
+pub noBytes : T (eqb (whole (begunAs 2 true .part .unit)) 0
+    && eqb (wordAt (apply (service (begunAs 2 true .part) (given []) 0 .writes) (given [])) 0x50) 0xA000
+    && eqb (wordAt (apply (service (begunAs 2 true .part) (given []) 0x0020 .writes) (given [])) 0x50) 0x8020)
+unfolding byteAt putByte bytesAt putBytes value digits fieldAt place bitsAt actionOf begunBy headerOf begin descriptorAt buffer reported isSent sent nextAfter end service
+noBytes = tt
 
 -- with no end of the data found: 8100h, nothing sent
 pub nothingSent : T (eqb (wordAt (apply (served (cu.Failing (flags 0)) [] .writes) (given [])) 0x50) 0x8100

@@ -8,8 +8,8 @@ use lib.ListN.{replicate}
 use Rattle.memory.specs.Address.{place}
 use Rattle.memory.specs.Memory.{byteAt, putByte, bytesAt, putBytes, value, digits, fieldAt, wordAt, wordTo, apply}
 use Rattle.scb.specs.Words.{bitsAt}
-use Rattle.device.specs.Limits.{header}
-use Rattle.device.specs.State.{freshSettings}
+use Rattle.device.specs.Header.{unbuffered}
+use Rattle.device.specs.State.{freshForm, freshSettings}
 use Rattle.device.specs.declared.Action.the-variants as action
 use Rattle.device.specs.declared.Begun.{Begun}
 use Rattle.device.specs.declared.Cu.{Cu}
@@ -35,8 +35,8 @@ abbrev block : Begun
 block = record { block = record { 0 = 0x40 }; el = false; suspend = false; interrupt = false; pausing = false }
 
 -- Adding the base to a buffer's real address: the descriptor at offset 90h points to C0h, where 2211h stands; at D0h stands 4433h
-pub baseNotAdded : T (eqb (wordAt (service (part (cu.Sending block (record { next = record { 0 = 0x90 }; used = 0; filled = header })))
-    (apply (wordTo 0xA0 0x8002 ∷ wordTo 0xA4 0xC0 ∷ wordTo 0xC0 0x2211 ∷ wordTo 0xD0 0x4433 ∷ []) (replicate 256 0)) 0 .part .outgoing) header) 0x2211)
+pub baseNotAdded : T (eqb (wordAt (service (part (cu.Sending block (record { next = record { 0 = 0x90 }; used = 0; filled = unbuffered freshForm })))
+    (apply (wordTo 0xA0 0x8002 ∷ wordTo 0xA4 0xC0 ∷ wordTo 0xC0 0x2211 ∷ wordTo 0xD0 0x4433 ∷ []) (replicate 256 0)) 0 .part .outgoing) (unbuffered freshForm)) 0x2211)
 unfolding byteAt putByte bytesAt putBytes value digits fieldAt place bitsAt descriptorAt buffer service
 baseNotAdded = tt
 

@@ -9,7 +9,7 @@ use Rattle.memory.specs.Memory.{byteAt, putByte, bytesAt, putBytes, value, digi
 use Rattle.scb.specs.Control.{codeOf}
 use Rattle.scb.specs.Words.{bitsAt}
 use Rattle.device.specs.Change.{withCu, withRu}
-use Rattle.device.specs.State.{freshUnits}
+use Rattle.device.specs.State.{freshForm, freshUnits}
 use Rattle.device.specs.declared.Action.the-variants as action
 use Rattle.device.specs.declared.Begun.{Begun}
 use Rattle.device.specs.declared.Cu.{Cu}
@@ -113,7 +113,7 @@ cuAborts = tt
 
 -- a frame that is held before the descriptor at 70h, and one that is begun there
 abbrev frame : Frame
-frame = record { length = 16; verdict = verdict.Good; short = false; savebad = false }
+frame = record { length = 16; verdict = verdict.Good; short = false; savebad = false; form = freshForm }
 
 abbrev held : Ru
 held = ru.Held (record { 0 = 0x70 }) frame false

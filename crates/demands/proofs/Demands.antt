@@ -6,10 +6,11 @@ use mathlib.Core.List.{List, [], _∷_, _++_, map}
 use mathlib.Core.Logic.{_⊎_}
 use Prim.Native.Nat.{ℕ, _+_, _-_, _*_, _%_, _^_, _≤_, _<_}
 use lib.Dec.{T, eqb}
-use lib.ListN.{length, take, replicate}
+use lib.ListN.{length, take, drop, replicate}
 use Rattle.memory.specs.Address.{place, none}
-use Rattle.memory.specs.Memory.{putBytes, digits, fieldAt, wordAt, wordTo}
+use Rattle.memory.specs.Memory.{bytesAt, putBytes, digits, fieldAt, wordAt, wordTo}
 use Rattle.memory.specs.declared.Offset.{Offset}
+use Rattle.memory.specs.declared.RealAddress.{RealAddress}
 use Rattle.memory.proofs.Bytes.{Bytes}
 use Rattle.memory.proofs.Fields as fields
 use Rattle.scb.specs.Words.{bitsAt, bit, joined, cblAt}
@@ -21,15 +22,18 @@ use Rattle.hash.specs.Values.{values, allAre, bitsOf}
 use Rattle.hash.proofs.Faster.{faster-is-hash}
 use Rattle.hash.proofs.Shown as folded
 use Rattle.device.specs.Answers.{reasonOf}
-use Rattle.device.specs.Limits.{addressLength, recordSize}
+use Rattle.device.specs.Header.{destinationIn, sourceIn, typeIn, header, unbuffered}
+use Rattle.device.specs.Limits.{typeLength, recordSize}
 use Rattle.device.specs.Numbers.{refusalNumber, reasonNumber}
-use Rattle.device.specs.State.{ruState, isHolding, heldIn, isGood}
+use Rattle.device.specs.State.{ruState, isHolding, heldIn, isGood, freshForm}
+use Rattle.device.specs.declared.Action.the-variants as action
 use Rattle.device.specs.declared.Begun.{Begun}
 use Rattle.device.specs.declared.Counter.{Counter}
 use Rattle.device.specs.declared.Counter.the-variants as counter
 use Rattle.device.specs.declared.Device.{Device}
 use Rattle.device.specs.declared.Fate.{Fate}
 use Rattle.device.specs.declared.Fate.the-variants as fate
+use Rattle.device.specs.declared.Form.{Form}
 use Rattle.device.specs.declared.Frame.{Frame}
 use Rattle.device.specs.declared.Reason.{Reason}
 use Rattle.device.specs.declared.Reason.the-variants as reason
@@ -37,13 +41,18 @@ use Rattle.device.specs.declared.Refusal.{Refusal}
 use Rattle.device.specs.declared.Ru.the-variants as ru
 use Rattle.device.specs.declared.Storing.{Storing}
 use Rattle.device.specs.declared.Verdict.the-variants as verdict
+use Rattle.device.proofs.Header as header-rule
 use Rattle.device.proofs.Laws as numbers
 use Rattle.filter.specs.Match.{allOnes, isOwn, isGroup}
 use Rattle.filter.proofs.Laws as match
-use Rattle.actions.specs.Actions.{countOf, done}
-use Rattle.actions.specs.Block.{blockStatusAt}
+use Rattle.actions.specs.Actions.{acceptable, byteOf, formIn, countOf, act, done, failed}
+use Rattle.actions.specs.Block.{blockStatusAt, destinationAt, typeAt}
+use Rattle.actions.specs.Setup.{Setup}
+use Rattle.actions.proofs.Configured as configured
+use Rattle.command.specs.Begin.{headerOf}
 use Rattle.command.specs.Part.{partOf}
 use Rattle.command.specs.Service.{service}
+use Rattle.command.proofs.Header as placing
 use Rattle.numerals.specs.Places.{field}
 use Rattle.packed.specs.Packed.{ruTagIn}
 use Rattle.packed.specs.Record.{ruAt, restAt, setupAt}
@@ -51,7 +60,7 @@ use Rattle.packed.specs.SetUp.{filterSize, filterAt}
 use Rattle.image.specs.Image.{packedAt}
 use Rattle.image.specs.Ranges.{inRange}
 use Rattle.control.specs.Obey.{ofScb}
-use Rattle.chip.specs.World.{World, afterwards}
+use Rattle.chip.specs.World.{World, Ran, afterwards}
 use Rattle.chip.specs.Arrival.{arrivalOf}
 use Rattle.chip.specs.Cases.{allPass}
 use Rattle.chip.specs.Call.{Call, reset, attention, arrive, turn, ran}
@@ -79,16 +88,17 @@ use Rattle.closure.proofs.Turns as run-of-turns
 use Rattle.frames.specs.Arrival as arrival
 use Rattle.frames.specs.Reasons.{whyOf, Reached, IsOther, Told}
 use Rattle.frames.specs.Filtered.{EndsMcSetup, leftBy, FallsIn, SetUpBy, FilterAfter}
-use Rattle.frames.specs.Held.{ends, heldFates, FatesOfHeld, GoodFate, BadFate}
+use Rattle.frames.specs.Held.{inFrame, ends, heldFates, FatesOfHeld, GoodFate, BadFate}
 use Rattle.frames.specs.Fates.{Deed, alter, Scene, namesOf, opening, still, advance, beginnings, endings, times, timesFated, timesAltered, AllFates}
 use Rattle.frames.specs.Fates.{by-call, by-altering, isUnaltered, AllProper}
 use Rattle.frames.specs.OnBytes.{ArrivedOn, altering, deedsOf, AllGiven, AllGivenDrive, AllKept, AllSaidOf, worldAt, heldOf, endedOf, stillOf}
-use Rattle.frames.specs.Stands.{NoOverlap, pieces, counters, otherCounters, lackingCounters, Each, Spared, GoodExit, BadExit, Clear, NextClear}
+use Rattle.frames.specs.Stands.{StoredStands, NoOverlap, pieces, counters, otherCounters, lackingCounters, Each, Spared, GoodExit, BadExit, Clear, NextClear}
 use Rattle.frames.specs.Data.{Staying, dataOf, Delivered, ArrivedDelivered, EndLent, DeliveredOnBytes, ArrivedOnBytes}
 use Rattle.frames.proofs.Arrival as arrivals
 use Rattle.frames.proofs.Arrived as arrived
 use Rattle.frames.proofs.Reasons as reasons
 use Rattle.frames.proofs.Filtered as filtered
+use Rattle.frames.proofs.Parts as descriptor-parts
 use Rattle.frames.proofs.Held as holdings
 use Rattle.frames.proofs.Stands as exits
 use Rattle.frames.proofs.Clear as clear
@@ -100,6 +110,7 @@ use Rattle.traced.proofs.FilterWitness as filter-run
 use Rattle.traced.proofs.DataBytesWitness as data-bytes-run
 use Rattle.traced.proofs.BytesWitness as bytes-run
 use Rattle.traced.proofs.ReasonsWitness as reasons-run
+use Rattle.traced.proofs.FormWitness as form-run
 use Rattle.lists.specs.Uses.{Listed, firstOf}
 use Rattle.lists.specs.Done.{Starts, Resumes, Started, enough, Premises, Done}
 use Rattle.lists.specs.OnBytes.{PremisesOnBytes, DoneOnBytes, PremisesByRuns, DoneByRuns}
@@ -112,6 +123,7 @@ use Rattle.worked.proofs.RunsWitness as list-drives
 use Rattle.worked.proofs.Suspended as suspended-run
 use Rattle.worked.proofs.Resumed as resumed-run
 use Rattle.worked.proofs.Grouped as grouped-run
+use Rattle.worked.proofs.Buffered as buffered-run
 use Rattle.held.specs.Held as held
 use Rattle.held.specs.OnRecords as on-records
 use Rattle.held.proofs.Held as held-frames
@@ -223,16 +235,19 @@ pub as-document-01-says-of-frames : (chip : Chip) → Meets chip → Demand2Fram
 as-document-01-says-of-frames = chip-frames.has-demand2-frames
 
 -- 02, Wish 1: 'Demand 2's "addressed to us" now means passed by this filter' (`isOurs`): by its bit, a frame that is passed by no other rule
-pub addressed-to-us-by-the-filter : (w : World) (f : List ℕ) → arrival.settingsOf w .promiscuous ≡ false → allOnes f ≡ false → isOwn (w .device .own) f ≡ false
-    → arrival.isOurs w f ≡ (isGroup f && bit (w .device .filter) (hash (take addressLength f)))
+pub addressed-to-us-by-the-filter : (w : World) (f : List ℕ) → arrival.settingsOf w .promiscuous ≡ false → allOnes (arrival.lengthIn w) f ≡ false
+    → isOwn (arrival.lengthIn w) (w .device .own) f ≡ false
+    → arrival.isOurs w f ≡ (isGroup f && bit (w .device .filter) (hash (take (arrival.lengthIn w) f)))
 addressed-to-us-by-the-filter w f = match.by-the-filter (arrival.settingsOf w) (w .device .own) (w .device .filter) f
 
--- "Broadcast, own address and promiscuous mode keep their rules"
-pub addressed-to-us-by-broadcast : (w : World) (f : List ℕ) → arrival.settingsOf w .promiscuous ≡ false → allOnes f ≡ true
+-- "Broadcast, own address and promiscuous mode keep their rules", of so many bytes as the address length in force
+pub addressed-to-us-by-broadcast : (w : World) (f : List ℕ) → arrival.settingsOf w .promiscuous ≡ false → 0 < arrival.lengthIn w
+    → allOnes (arrival.lengthIn w) f ≡ true
     → arrival.isOurs w f ≡ not (arrival.settingsOf w .nobroadcast)
 addressed-to-us-by-broadcast w f = match.by-broadcast (arrival.settingsOf w) (w .device .own) (w .device .filter) f
 
-pub addressed-to-us-by-the-own-address : (w : World) (f : List ℕ) → allOnes f ≡ false → isOwn (w .device .own) f ≡ true → arrival.isOurs w f ≡ true
+pub addressed-to-us-by-the-own-address : (w : World) (f : List ℕ) → allOnes (arrival.lengthIn w) f ≡ false
+    → isOwn (arrival.lengthIn w) (w .device .own) f ≡ true → arrival.isOurs w f ≡ true
 addressed-to-us-by-the-own-address w f = match.by-own-address (arrival.settingsOf w) (w .device .own) (w .device .filter) f
 
 pub addressed-to-us-by-promiscuous-mode : (w : World) (f : List ℕ) → arrival.settingsOf w .promiscuous ≡ true → arrival.isOurs w f ≡ true
@@ -244,25 +259,28 @@ pub an-mc-setup-makes-the-filter : (w : World) (b : Begun) (report : ℕ) → En
 an-mc-setup-makes-the-filter = filtered.set-up
 
 -- "and a multicast frame passes when its bit is set, listed or not": after that turn, if an address of the list falls on the same bit
-pub a-multicast-frame-passes-by-its-bit : (w : World) (b : Begun) (report : ℕ) → EndsMcSetup w b → (f : List ℕ) → allOnes f ≡ false → isGroup f ≡ true
-    → FallsIn w b (hash (take addressLength f)) → arrival.isOurs (leftBy w report) f ≡ true
+pub a-multicast-frame-passes-by-its-bit : (w : World) (b : Begun) (report : ℕ) → EndsMcSetup w b → (f : List ℕ) → allOnes (arrival.lengthIn w) f ≡ false
+    → isGroup f ≡ true → FallsIn w b (hash (take (arrival.lengthIn w) f)) → arrival.isOurs (leftBy w report) f ≡ true
 a-multicast-frame-passes-by-its-bit = filtered.passes
 
 -- and only then, where no other rule passes it
 pub and-by-no-other : (w : World) (b : Begun) (report : ℕ) → EndsMcSetup w b → (f : List ℕ)
-    → arrival.settingsOf (leftBy w report) .promiscuous ≡ false → allOnes f ≡ false → isOwn (leftBy w report .device .own) f ≡ false
-    → arrival.isOurs (leftBy w report) f ≡ true → (isGroup f ≡ true) × FallsIn w b (hash (take addressLength f))
+    → arrival.settingsOf w .promiscuous ≡ false → allOnes (arrival.lengthIn w) f ≡ false → isOwn (arrival.lengthIn w) (leftBy w report .device .own) f ≡ false
+    → arrival.isOurs (leftBy w report) f ≡ true → (isGroup f ≡ true) × FallsIn w b (hash (take (arrival.lengthIn w) f))
 and-by-no-other = filtered.passed
 
 -- "any count works": the command unit writes A000h to the block and nothing else, whatever stands there; the turn adds the SCB's status where it is due.
--- "A count of 0 empties the filter", as does one below 6
+-- "A count of 0 empties the filter", as does one below the length of an address; 02, Wish 4: "at 0 it empties the filter"
 pub mc-setup-is-always-done : (w : World) (b : Begun) (report : ℕ) → EndsMcSetup w b
     → service (partOf (w .device) (w .outgoing)) (w .memory) report .writes ≡ wordTo (place (w .device .units .base) (b .block) blockStatusAt) done ∷ []
 mc-setup-is-always-done = filtered.status-done
 
 pub a-count-of-0-empties-the-filter : (w : World) (b : Begun) (report : ℕ) → EndsMcSetup w b
-    → countOf (w .device .units .base) (b .block) (w .memory) < addressLength → leftBy w report .device .filter ≡ 0
+    → countOf (w .device .units .base) (b .block) (w .memory) < arrival.lengthIn w → leftBy w report .device .filter ≡ 0
 a-count-of-0-empties-the-filter = filtered.emptied
+
+pub length-0-empties-the-filter : (w : World) (b : Begun) (report : ℕ) → EndsMcSetup w b → arrival.lengthIn w ≡ 0 → leftBy w report .device .filter ≡ 0
+length-0-empties-the-filter = filtered.emptied-at-none
 
 -- and no other call changes the filter but a reset, of either kind
 pub the-filter-after-a-call : (c : Call) (w : World) → FilterAfter w c
@@ -405,8 +423,8 @@ pub its-data-is-stored : (w : World) (fd : Offset) (f : Frame) (p : Bool) (es : 
     → Delivered f (dataOf f (w .holding)) es w report
 its-data-is-stored = stored.delivered
 
--- and from the arrival on, of the very bytes that arrived: the data is what they have behind the header, and the header bytes that the end writes are
--- their first
+-- and from the arrival on, of the very bytes that arrived: the data is what they have behind the header, with location 1 all of them, and the header
+-- bytes that the end writes are their first; by the length and location at their arrival, whatever Configure has said since
 pub the-bytes-that-arrived-are-stored : (w : World) (bs : List ℕ) (v : ℕ) (c : Counter) (es : List Event) (report : ℕ) → arrival.RightLengths w bs
     → inRange (w .device) ≡ true → arrivalOf w bs v .outcome .fates ≡ fate.Held c ∷ []
     → AllMay Staying step es (step (call (arrive bs v)) w) → ends (turn report) (run step es (step (call (arrive bs v)) w)) ≡ true
@@ -527,6 +545,70 @@ and-that-says-all = run-of-turns.one-run
 -- budget 0 takes no turn: answer 0, nothing changed
 pub a-run-of-no-turn : (a : Areas) (report : ℕ) → AreBytes a → isRefused (runCall a report 0) ≡ false → runCall a report 0 ≡ record { answer = 0; areas = a }
 a-run-of-no-turn = run-of-turns.run-none
+
+-- ---- 02, Wish 4: short addresses and headers in buffers
+
+-- "The header has twice the length plus two bytes": its parts, destination, source and type, lie side by side, and every byte of a frame is in one of them or
+-- behind the header. "Prove the header rule once over the length"
+pub a-header-is-twice-the-length-plus-two : (l : ℕ) → header l ≡ 2 * l + 2
+a-header-is-twice-the-length-plus-two = header-rule.twice-and-two
+
+pub its-parts-lie-side-by-side : (l : ℕ)
+    → (destinationIn ≡ 0) × (sourceIn l ≡ destinationIn + l) × (typeIn l ≡ sourceIn l + l) × (header l ≡ typeIn l + typeLength)
+its-parts-lie-side-by-side = header-rule.side-by-side
+
+pub every-byte-is-in-a-part-or-behind-them : (l i : ℕ) → header-rule.Lies l i
+every-byte-is-in-a-part-or-behind-them = header-rule.lies
+
+-- "with location 1 the whole frame goes through buffers both ways": none of the header is among what goes through buffers with location 0, all of it with 1
+pub no-part-is-in-the-data : (f : Form) → f .location ≡ false → unbuffered f ≡ header (f .length)
+no-part-is-in-the-data = header-rule.none-in-the-data
+
+pub the-whole-frame-goes-through-buffers : (f : Form) → f .location ≡ true → unbuffered f ≡ 0
+the-whole-frame-goes-through-buffers = header-rule.all-in-the-buffers
+
+-- "Configure shall accept lengths 0 to 6 and address location 1 ... 7 and loopback still give 8000h": what it says is in force, own address and filter stay;
+-- or nothing is changed
+pub a-configure-is-taken : (base : RealAddress) (s : Setup) (block : Offset) (m : List ℕ) → acceptable (byteOf base block m 3) ≡ true
+    → (act action.Configure base s block m .status ≡ done) × (act action.Configure base s block m .setup .settings .form ≡ formIn (byteOf base block m 3))
+    × (act action.Configure base s block m .setup .own ≡ s .own) × (act action.Configure base s block m .setup .filter ≡ s .filter)
+a-configure-is-taken = configured.taken
+
+pub a-configure-is-not-taken : (base : RealAddress) (s : Setup) (block : Offset) (m : List ℕ) → acceptable (byteOf base block m 3) ≡ false
+    → (act action.Configure base s block m .status ≡ failed) × (act action.Configure base s block m .setup ≡ s)
+a-configure-is-not-taken = configured.not-taken
+
+-- a Transmit with location 0 places destination, own address and type where the rule has them: "of the own address the first bytes, up to the length, count";
+-- with location 1 "the chip inserts no source address", and nothing is placed
+pub a-transmit-places-the-destination : (base : RealAddress) (own : List ℕ) (block : Offset) (m : List ℕ) (f : Form) → f .location ≡ false → f .length ≤ length own
+    → take (f .length) (headerOf base f own block m) ≡ bytesAt m (place base block destinationAt) (f .length)
+a-transmit-places-the-destination = placing.destination-placed
+
+pub a-transmit-places-the-own-address : (base : RealAddress) (own : List ℕ) (block : Offset) (m : List ℕ) (f : Form) → f .location ≡ false → f .length ≤ length own
+    → take (f .length) (drop (sourceIn (f .length)) (headerOf base f own block m)) ≡ take (f .length) own
+a-transmit-places-the-own-address = placing.source-placed
+
+pub a-transmit-places-the-type : (base : RealAddress) (own : List ℕ) (block : Offset) (m : List ℕ) (f : Form) → f .location ≡ false → f .length ≤ length own
+    → drop (typeIn (f .length)) (headerOf base f own block m) ≡ bytesAt m (place base block (typeAt (f .length))) typeLength
+a-transmit-places-the-type = placing.type-placed
+
+pub a-transmit-places-no-more : (base : RealAddress) (own : List ℕ) (block : Offset) (m : List ℕ) (f : Form) → f .length ≤ length own
+    → length (headerOf base f own block m) ≡ unbuffered f
+a-transmit-places-no-more = placing.placed-length
+
+pub a-transmit-places-nothing-with-location-1 : (base : RealAddress) (own : List ℕ) (block : Offset) (m : List ℕ) (f : Form) → f .location ≡ true
+    → headerOf base f own block m ≡ []
+a-transmit-places-nothing-with-location-1 = placing.nothing-placed
+
+-- "Block and descriptor fields are packed": of a frame that is stored, k bytes behind the first i of what went to no buffer stand as many behind +8 of the
+-- descriptor: the destination with i = 0, the source with `sourceIn`, the type with `typeIn`
+pub the-descriptor-part-by-part : (lacking : Bool) (s : Storing) (w : World) (r : Ran) → StoredStands lacking s w r → (i k : ℕ) → i + k ≤ unbuffered (s .frame .form)
+    → bytesAt (r .memory) (inFrame w s (8 + i)) k ≡ take k (drop i (w .holding))
+the-descriptor-part-by-part = descriptor-parts.part-stands
+
+-- at length 0 "only promiscuous mode receives"
+pub at-length-0-promiscuous-mode-alone : (w : World) (f : List ℕ) → arrival.lengthIn w ≡ 0 → arrival.isOurs w f ≡ arrival.settingsOf w .promiscuous
+at-length-0-promiscuous-mode-alone w f = match.by-no-address (arrival.settingsOf w) (w .device .own) (w .device .filter) f
 
 -- ---- demand 3, first half
 
@@ -783,6 +865,14 @@ a-frame-stored-at-exit = data-run.enough-exits
 pub a-frame-counted-at-exit : data-run.Exits (data-run.atEnd 0xFFFF 3) (ru.Lacking data-run.storing) otherCounters
 a-frame-counted-at-exit = data-run.too-few-exits
 
+-- 02, Wish 4: a frame is held while a Configure says another length and location, and is stored by those that it arrived under: the header in the descriptor
+-- and the data in the buffer; or all of it in the buffer, and nothing in the descriptor
+pub held-across-a-configure : form-run.Stored freshForm 0x0A form-run.short (take 14 form-run.twenty) (drop 14 form-run.twenty ++ replicate 14 0)
+held-across-a-configure = form-run.as-six
+
+pub held-across-a-configure-with-location-1 : form-run.Stored form-run.short 0x06 freshForm (replicate 14 0) form-run.twenty
+held-across-a-configure-with-location-1 = form-run.as-two
+
 -- six calls, one of them refused: of two held frames one ends by a record that is lent otherwise, and one is stored
 pub frames-on-bytes : AllGiven bytes-run.calls
     × (bytes-run.story ≡ record { held = 1 ∷ 2 ∷ []; ends = (1, by-altering) ∷ (2, by-call fate.Stored) ∷ []; still = [] })
@@ -819,6 +909,13 @@ a-list-that-is-resumed = (resumed-run.resumes, resumed-run.listed, resumed-run.p
 pub a-list-with-an-mc-setup : Started grouped-run.two grouped-run.begun × Premises DuringList enough grouped-run.two grouped-run.trace grouped-run.begun
     × Done grouped-run.two grouped-run.trace grouped-run.begun
 a-list-with-an-mc-setup = (grouped-run.is-started, grouped-run.premises, grouped-run.grouped-done)
+
+-- 02, Wish 4: a Configure to two bytes and location 1, an MC-Setup of two such addresses, and a Transmit whose frame is its buffer's; the host writes where the
+-- Transmit's block would have its destination and type, and these are none of the list's bytes
+pub a-list-that-configures : Started buffered-run.three buffered-run.begun
+    × Premises DuringList enough buffered-run.three buffered-run.trace buffered-run.begun
+    × Done buffered-run.three buffered-run.trace buffered-run.begun
+a-list-that-configures = (buffered-run.is-started, buffered-run.premises, buffered-run.buffered-done)
 
 -- second half: among refusals, with another memory and other areas at each call
 pub a-frame-that-is-settled :

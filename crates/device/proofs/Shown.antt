@@ -6,9 +6,10 @@ use lib.ListN.{length, replicate}
 use Rattle.memory.specs.Memory.{byteAt, putByte, bytesAt, putBytes, value, digits, fieldAt, apply}
 use Rattle.memory.specs.Address.{place}
 use Rattle.device.specs.Answers.{counterOf, reasonOf, counts}
-use Rattle.device.specs.Limits.{header, holdingSize, outgoingSize, recordSize, longest, mostBuffers, filterBits, fcs}
+use Rattle.device.specs.Header.{header, unbuffered}
+use Rattle.device.specs.Limits.{longestAddress, typeLength, holdingSize, outgoingSize, recordSize, longest, mostBuffers, filterBits, fcs}
 use Rattle.device.specs.Numbers.{verdictNumber, verdictOf, refusalNumber, reasonNumber, counterPlace}
-use Rattle.device.specs.State.{goodBy, ruWorks, cuWorks, fresh}
+use Rattle.device.specs.State.{goodBy, ruWorks, cuWorks, freshForm, fresh}
 use Rattle.device.specs.declared.Counter.{Counter}
 use Rattle.device.specs.declared.Counter.the-variants as counter
 use Rattle.device.specs.declared.Cu.the-variants as cu
@@ -58,19 +59,25 @@ countersOfFates = tt
 pub shortIsBad : T (not (goodBy true verdict.Good) && goodBy false verdict.Good)
 shortIsBad = tt
 
--- 01, "Turns": after reset the address is six FFh, the minimum length 64, those bits 0; the filter empty, RU first
+-- 01, "Turns": after reset the address is six FFh, the minimum length 64, the address length 6, those bits 0; the filter empty, RU first
 pub afterReset : T (eqb (length (fresh .own)) 6 && eqb (value (fresh .own)) 0xFFFFFFFFFFFF && eqb (fresh .units .settings .minimum) 64
     && not (fresh .units .settings .savebad) && not (fresh .units .settings .promiscuous) && not (fresh .units .settings .nobroadcast)
+    && eqb (fresh .units .settings .form .length) 6 && not (fresh .units .settings .form .location)
     && eqb (fresh .filter) 0 && not (fresh .units .rulast) && not (fresh .units .initialised))
 unfolding value
 afterReset = tt
 
 -- the sizes and limits
-pub limits : T (eqb header 14 && eqb holdingSize 2048 && eqb outgoingSize 2048 && eqb recordSize 256 && eqb longest 2048
+pub limits : T (eqb longestAddress 6 && eqb typeLength 2 && eqb holdingSize 2048 && eqb outgoingSize 2048 && eqb recordSize 256 && eqb longest 2048
     && eqb mostBuffers 64 && eqb filterBits 64 && eqb fcs 4)
 limits = tt
 
+-- 02, Wish 4: twice the length plus two bytes; with location 1 all of it is in the buffers
+pub headers : T (eqb (header 6) 14 && eqb (header 2) 6 && eqb (header 0) 2 && eqb (unbuffered freshForm) 14
+    && eqb (unbuffered (record { length = 2; location = false })) 6 && eqb (unbuffered (record { length = 2; location = true })) 0)
+headers = tt
+
 -- 01, "Turns": RU has work while a frame is held, CU while Active
-pub worksWhile : T (ruWorks (ru.Held (record { 0 = 0 }) (record { length = 16; verdict = verdict.Good; short = false; savebad = false }) false)
+pub worksWhile : T (ruWorks (ru.Held (record { 0 = 0 }) (record { length = 16; verdict = verdict.Good; short = false; savebad = false; form = freshForm }) false)
     && not (ruWorks (ru.Ready (record { 0 = 0 }))) && cuWorks (cu.Waiting (record { 0 = 0 })) && not (cuWorks (cu.Suspended (record { 0 = 0 }))))
 worksWhile = tt

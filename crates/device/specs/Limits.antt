@@ -1,15 +1,12 @@
 -- The sizes that documents 01 and 02 name, each once. Assumes nothing.
-use Prim.Native.Nat.{ℕ, _+_}
+use Prim.Native.Nat.{ℕ}
 
--- a frame's header: destination, source, type
-abbrev pub addressLength : ℕ
-addressLength = 6
+-- 02, Wish 4: "lengths 0 to 6". The own address has as many bytes, whatever the length in force, and it is the length after reset
+abbrev pub longestAddress : ℕ
+longestAddress = 6
 
 abbrev pub typeLength : ℕ
 typeLength = 2
-
-abbrev pub header : ℕ
-header = addressLength + addressLength + typeLength
 
 -- where in the holding area a held frame begins
 abbrev pub heldFrom : ℕ

@@ -9,11 +9,12 @@ use Rattle.scb.specs.declared.CuState.the-variants as cus
 use Rattle.scb.specs.declared.RuState.{RuState}
 use Rattle.scb.specs.declared.RuState.the-variants as rus
 use Rattle.scb.specs.Words.{noEvents}
-use Rattle.device.specs.Limits.{addressLength}
+use Rattle.device.specs.Limits.{longestAddress}
 use Rattle.device.specs.declared.Begun.{Begun}
 use Rattle.device.specs.declared.Cu.{Cu}
 use Rattle.device.specs.declared.Cu.the-variants as cu
 use Rattle.device.specs.declared.Device.{Device}
+use Rattle.device.specs.declared.Form.{Form}
 use Rattle.device.specs.declared.Frame.{Frame}
 use Rattle.device.specs.declared.Ru.{Ru}
 use Rattle.device.specs.declared.Ru.the-variants as ru
@@ -100,9 +101,12 @@ isGood f = goodBy (f .short) (f .verdict)
 
 -- ---- after reset
 
--- 01, Configure: reset gives 64 for minimum length, those bits 0
+-- 01, Configure: reset gives 64 for minimum length, 6 for address length, those bits 0
+abbrev pub freshForm : Form
+freshForm = record { length = longestAddress; location = false }
+
 abbrev pub freshSettings : Settings
-freshSettings = record { savebad = false; promiscuous = false; nobroadcast = false; minimum = 64 }
+freshSettings = record { savebad = false; promiscuous = false; nobroadcast = false; minimum = 64; form = freshForm }
 
 -- not initialised, both units Idle, RU first
 abbrev pub freshUnits : Units
@@ -120,4 +124,4 @@ freshUnits =
 
 -- 01, IA-Setup: after reset the address is six FFh. 000, 2.8.5: "RESET causes the HASH table to become all zeros"
 abbrev pub fresh : Device
-fresh = record { units = freshUnits; own = replicate addressLength 255; filter = 0 }
+fresh = record { units = freshUnits; own = replicate longestAddress 255; filter = 0 }

@@ -57,12 +57,19 @@ pub enum Verdict {
     Misaligned,
 }
 
-// A held frame, as it was judged at its arrival.
+// The form of a frame's header: the address length, and whether the address location is 1, by which the header goes through buffers as data does.
+pub struct Form {
+    pub length: u8,
+    pub location: bool,
+}
+
+// A held frame, as it was judged at its arrival, with the form that was in force then.
 pub struct Frame {
     pub length: u16,
     pub verdict: Verdict,
     pub short: bool,
     pub savebad: bool,
+    pub form: Form,
 }
 
 // A held frame whose storing is begun: its descriptor, what that said, and whether a SUSPEND waits for its end.
@@ -95,6 +102,7 @@ pub struct Settings {
     pub promiscuous: bool,
     pub nobroadcast: bool,
     pub minimum: u8,
+    pub form: Form,
 }
 
 // All of the state but the own address and the filter. `rulast`: the receive unit was served at the last working turn.

@@ -1,8 +1,8 @@
--- Further cases at the edges of document 01's rules, each of which a chip that gets the rule wrong would fail, by two statements over
--- two lists: `kept-calls`, `kept-works`. Assumes nothing.
+-- Further cases at the edges of document 01's rules and of document 02's Wish 4, each of which a chip that gets the rule wrong would fail, by
+-- three statements over three lists: `kept-calls`, `kept-works`, `kept-headers`. Assumes nothing.
 use mathlib.Core.Bool.{true, false}
 use mathlib.Core.List.{List, [], _∷_, _++_}
-use Prim.Native.Nat.{ℕ, _*_}
+use Prim.Native.Nat.{ℕ, _+_, _*_}
 use lib.Dec.{T}
 use lib.ListN.{replicate}
 use Rattle.chip.specs.Cases.{Word, _is_, unsaid, high, low, Step, Case, passes, allPass}
@@ -387,7 +387,7 @@ bitOfOnes first second third =
 
 -- ---- Configure and MC-Setup
 
--- byte 3: the length must be 6, location and loopback 0; bits 4 and 5 are free
+-- byte 3: any length but 7, either location, no loopback; bits 4 and 5 are free
 thirdByte : (byte status : ℕ) → Case
 thirdByte byte status =
     record {
@@ -416,7 +416,7 @@ rejectedKeeps =
     record {
       given =
           0x42 is 0x0002 ∷ 0x44 is 0x80 ∷ 0x46 is 0x000A ∷ 0x48 is 0x0680
-          ∷ 0x82 is 0x8002 ∷ 0x86 is 0x000C ∷ 0x88 is 0x0E00 ∷ descriptors ++ bufferAt 0xA0 0xAA 0xC0 46 ++ board;
+          ∷ 0x82 is 0x8002 ∷ 0x86 is 0x000C ∷ 0x88 is 0x4600 ∷ descriptors ++ bufferAt 0xA0 0xAA 0xC0 46 ++ board;
       steps =
           initialised
           ∷ commanding
@@ -714,6 +714,146 @@ shortSavedLacks =
           ∷ []);
     }
 
+-- ---- 02, Wish 4: addresses of other lengths, and headers in buffers. Byte 3 of a Configure says both
+
+-- IA-Setup of 02-03-04-05-06-07, a Configure, and a Transmit with an offset at +6: the steps behind its begin
+sentBy : (third first : ℕ) → List Step → Case
+sentBy third first steps =
+    record {
+      given =
+          0x42 is 0x0001 ∷ 0x44 is 0x50 ∷ 0x46 is 0x0302 ∷ 0x48 is 0x0504 ∷ 0x4A is 0x0706
+          ∷ 0x52 is 0x0002 ∷ 0x54 is 0x80 ∷ 0x56 is 0x0004 ∷ 0x58 is (third * 256)
+          ∷ 0x82 is 0x8004 ∷ 0x86 is first ∷ 0x88 is 0x1211 ∷ 0x8A is 0x1413 ∷ 0x8C is 0x1615 ∷ 0x8E is 0x0900
+          ∷ 0xA0 is 0x8002 ∷ 0xA2 is 0xFFFF ∷ 0xA4 is 0xC0 ∷ 0xC0 is 0x2221 ∷ board;
+      steps = initialised ∷ commanding ∷ turned [] ∷ turned [] ∷ turned [] ∷ turned (0x50 is 0xA000 ∷ []) ∷ turned [] ∷ steps;
+    }
+
+-- "Block and descriptor fields are packed; of the own address the first bytes, up to the length, count": with two bytes an address the type is
+-- at +10, with none at +8; with location 1 "the chip inserts no source address", and the buffers' bytes are the frame
+packedSent : (third length : ℕ) → (outgoing : List Word) → Case
+unfolding sentBy
+packedSent third length outgoing = sentBy third 0xA0 (turned [] ∷ ends 0 length (0x80 is 0xA000 ∷ 0x30 is 0x2000 ∷ []) outgoing ∷ [])
+
+-- with location 1 and no buffer a frame of no bytes ends as reported, and nothing is in the outgoing area
+noBytesSent : (report status : ℕ) → Case
+unfolding sentBy
+noBytesSent report status = sentBy 0x0A 0xFFFF (ends report 0 (0x80 is status ∷ 0x30 is 0x2000 ∷ []) (0 is 0 ∷ 2 is 0 ∷ 4 is 0 ∷ []) ∷ [])
+
+-- a frame of 60 bytes to two bytes FFh, each byte behind them its own index; in the descriptor stands 7777h from +8 on
+packedStored : (third : ℕ) → (words : List Word) → Case
+packedStored third words =
+    record {
+      given =
+          0x42 is 0x8002 ∷ 0x46 is 0x0004 ∷ 0x48 is (third * 256)
+          ∷ 0x68 is 0x7777 ∷ 0x6A is 0x7777 ∷ 0x6C is 0x7777 ∷ 0x6E is 0x7777 ∷ 0x74 is 0x7777 ∷ descriptors ++ bufferAt 0xA0 0xAA 0xC0 60 ++ board;
+      steps = configured ++ (receiving ∷ came (255 ∷ 255 ∷ counting 2 58) good [] ∷ turned [] ∷ turned [] ∷ settling (0x60 is 0xA000 ∷ words) ∷ []);
+    }
+
+-- "A held frame is stored by the length and location it arrived under, whatever Configure has said since": a frame comes between a Configure's
+-- begin and its end, and is begun after it. The one before it only makes the command unit the next
+heldAcross : (first second : ℕ) → (words : List Word) → Case
+heldAcross first second words =
+    record {
+      given =
+          0x42 is 0x8002 ∷ 0x46 is 0x0004 ∷ 0x48 is (first * 256) ∷ 0x52 is 0x8002 ∷ 0x56 is 0x0004 ∷ 0x58 is (second * 256)
+          ∷ descriptors ++ bufferAt 0xA0 0xAA 0xC0 60 ++ bufferAt 0xAA 0xB4 0x100 60 ++ board;
+      steps =
+          configured
+          ++ (receiving
+          ∷ came (broadcast 46) good []
+          ∷ turned []
+          ∷ turned []
+          ∷ step (0x32 is 0x0100 ∷ 0x34 is 0x50 ∷ []) attention quiet (0x30 is 0x0240 ∷ []) low
+          ∷ turned (0x50 is 0x4000 ∷ [])
+          ∷ settling (0x60 is 0xA000 ∷ [])
+          ∷ came (broadcast 46) good []
+          ∷ settling (0x50 is 0xA000 ∷ 0x80 is 0 ∷ [])
+          ∷ turned (0x80 is 0x4000 ∷ [])
+          ∷ turned []
+          ∷ settling (0x80 is 0xA000 ∷ words)
+          ∷ []);
+    }
+
+-- "14-byte tests read 'shorter than the header'": one byte below it a frame is dropped, with location 1 too; the header alone is a frame, which
+-- has no data with location 0, and with location 1 has
+shortest : (third below : ℕ) → (last : Step) → Case
+shortest third below last =
+    record {
+      given = 0x42 is 0x8002 ∷ 0x46 is 0x000C ∷ 0x48 is (third * 256) ∷ 0x4E is 1 ∷ descriptors ++ bufferAt 0xA0 0xAA 0xC0 60 ++ board;
+      steps =
+          configured
+          ++ (receiving ∷ dropped tooFew (replicate below 255) good [] ∷ came (replicate (below + 1) 255) good [] ∷ turned (0x60 is 0x4000 ∷ []) ∷ last ∷ []);
+    }
+
+-- the own address is compared by its first two bytes
+ownByTwo : Case
+ownByTwo =
+    record {
+      given =
+          0x42 is 0x0001 ∷ 0x44 is 0x80 ∷ 0x46 is 0x0302 ∷ 0x48 is 0x0504 ∷ 0x4A is 0x0706 ∷ 0x82 is 0x8002 ∷ 0x86 is 0x0004 ∷ 0x88 is 0x0200 ∷ descriptors ++ board;
+      steps =
+          bothDone
+          ++ (receiving
+          ∷ dropped noMatch (2 ∷ 4 ∷ 4 ∷ 5 ∷ 6 ∷ 7 ∷ counting 1 54) good []
+          ∷ turned (0x60 is 0 ∷ [])
+          ∷ came (2 ∷ 3 ∷ 9 ∷ 9 ∷ 9 ∷ 9 ∷ counting 1 54) good []
+          ∷ turned (0x60 is 0x4000 ∷ [])
+          ∷ []);
+    }
+
+-- "MC-Setup's addresses have that length": of five bytes two addresses of two, 03-02 and 05-02, and 07-03 is none of them
+listedByTwo : Case
+listedByTwo =
+    record {
+      given =
+          0x42 is 0x0002 ∷ 0x44 is 0x80 ∷ 0x46 is 0x0004 ∷ 0x48 is 0x0200 ∷ 0x82 is 0x8003 ∷ 0x86 is 5 ∷ 0x88 is 0x0203 ∷ 0x8A is 0x0205 ∷ 0x8C is 0x0307 ∷ descriptors ++ board;
+      steps =
+          bothDone
+          ++ (receiving
+          ∷ dropped noMatch (7 ∷ 3 ∷ 0 ∷ 0 ∷ 0 ∷ 0 ∷ counting 1 54) good []
+          ∷ turned (0x60 is 0 ∷ [])
+          ∷ came (5 ∷ 2 ∷ 9 ∷ 9 ∷ 9 ∷ 9 ∷ counting 1 54) good []
+          ∷ turned (0x60 is 0x4000 ∷ [])
+          ∷ []);
+    }
+
+-- a filter outlives the length it was made by: 01-22 falls on the bit of 03-02-00-00-00-00, and 03-02 does not
+bitsOutlive : Case
+bitsOutlive =
+    record {
+      given = 0x42 is 0x0003 ∷ 0x44 is 0x80 ∷ 0x46 is 6 ∷ 0x48 is 0x0203 ∷ 0x82 is 0x8002 ∷ 0x86 is 0x0004 ∷ 0x88 is 0x0200 ∷ descriptors ++ board;
+      steps =
+          bothDone
+          ++ (receiving
+          ∷ dropped noMatch (3 ∷ 2 ∷ 0 ∷ 0 ∷ 0 ∷ 0 ∷ counting 1 54) good []
+          ∷ turned (0x60 is 0 ∷ [])
+          ∷ came (1 ∷ 0x22 ∷ 0 ∷ 0 ∷ 0 ∷ 0 ∷ counting 1 54) good []
+          ∷ turned (0x60 is 0x4000 ∷ [])
+          ∷ []);
+    }
+
+-- at length 0 "only promiscuous mode receives": all FFh is neither everyone's nor the own address, which is six FFh; received, its header is two
+-- bytes of type
+nobodys : Case
+nobodys =
+    record {
+      given =
+          0x42 is 0x8002 ∷ 0x46 is 0x0004 ∷ 0x52 is 0x8002 ∷ 0x56 is 0x0009 ∷ 0x5E is 1
+          ∷ 0x6A is 0x7777 ∷ descriptors ++ bufferAt 0xA0 0xAA 0xC0 60 ++ board;
+      steps =
+          configured
+          ++ (receiving
+          ∷ dropped noMatch (broadcast 46) good []
+          ∷ step (0x32 is 0x0100 ∷ 0x34 is 0x50 ∷ []) attention quiet (0x30 is 0x0240 ∷ []) low
+          ∷ turned (0x60 is 0 ∷ [])
+          ∷ settling (0x50 is 0xA000 ∷ [])
+          ∷ came (broadcast 46) good []
+          ∷ turned []
+          ∷ turned (0xA0 is 0xC03A ∷ 0xC0 is 0xFFFF ∷ 0xC4 is 0x0302 ∷ [])
+          ∷ settling (0x60 is 0xA000 ∷ 0x68 is 0xFFFF ∷ 0x6A is 0x7777 ∷ [])
+          ∷ []);
+    }
+
 -- resets, attentions, the units and what arrives
 pub calls : List Case
 unfolding resetCall resettingWithEvents resettingForgets resettingServesReceiveFirst servedLastAlone idleTurn edgeAgain failedGoesOn saysNothing abortThenStatus startWhileWaiting startWhileSuspended frameSuspends startWhileReady waitingApart abortIdle abortNotBegun abortDoesNothing whileHeld inNoResources otherVerdicts suspendedCountsNothing settingsAtArrival resumeIdle resumeNoResources oneLeft oneLeftStored
@@ -763,10 +903,10 @@ works =
     ∷ bitOfOnes 0xFFFF 0xFFFF 0xFFFF
     ∷ bitOfOnes 0x00AB 0x0200 0x0000
     ∷ thirdByte 0x36 0xA000
-    ∷ thirdByte 0x02 0x8000
-    ∷ thirdByte 0x04 0x8000
+    ∷ thirdByte 0x02 0xA000
+    ∷ thirdByte 0x04 0xA000
     ∷ thirdByte 0x07 0x8000
-    ∷ thirdByte 0x0E 0x8000
+    ∷ thirdByte 0x0E 0xA000
     ∷ thirdByte 0x46 0x8000
     ∷ thirdByte 0x86 0x8000
     ∷ takesMinimum 0x0A 0 bad
@@ -799,7 +939,30 @@ works =
     ∷ shortSavedLacks
     ∷ []
 
--- two statements, since one over all of them would take much memory to check
+-- lengths 0, 2 and 6, both locations
+pub headers : List Case
+unfolding packedSent noBytesSent packedStored heldAcross shortest ownByTwo listedByTwo bitsOutlive nobodys
+headers =
+    packedSent 0x02 8 (0 is 0x1211 ∷ 2 is 0x0302 ∷ 4 is 0x1413 ∷ 6 is 0x2221 ∷ 8 is 0 ∷ [])
+    ∷ packedSent 0x00 4 (0 is 0x1211 ∷ 2 is 0x2221 ∷ 4 is 0 ∷ [])
+    ∷ packedSent 0x0A 2 (0 is 0x2221 ∷ 2 is 0 ∷ [])
+    ∷ noBytesSent 0 0xA000
+    ∷ noBytesSent 0x0020 0x8020
+    ∷ packedStored 0x02 (0x68 is 0xFFFF ∷ 0x6A is 0x0302 ∷ 0x6C is 0x0504 ∷ 0x6E is 0x7777 ∷ 0xA0 is 0xC036 ∷ 0xC0 is 0x0706 ∷ [])
+    ∷ packedStored 0x0A (0x68 is 0x7777 ∷ 0x6A is 0x7777 ∷ 0x6C is 0x7777 ∷ 0xA0 is 0xC03C ∷ 0xC0 is 0xFFFF ∷ 0xC2 is 0x0302 ∷ 0xFA is 0x3B3A ∷ [])
+    ∷ heldAcross 0x06 0x0A (0x88 is 0xFFFF ∷ 0x8E is 0x0302 ∷ 0x94 is 0x0008 ∷ 0xAA is 0xC02E ∷ 0x100 is 0x0201 ∷ [])
+    ∷ heldAcross 0x0A 0x06 (0x88 is 0 ∷ 0x8E is 0 ∷ 0xAA is 0xC03C ∷ 0x100 is 0xFFFF ∷ 0x106 is 0x0302 ∷ [])
+    ∷ heldAcross 0x02 0x06 (0x8C is 0xFFFF ∷ 0x8E is 0 ∷ 0xAA is 0xC036 ∷ 0x100 is 0x0302 ∷ [])
+    ∷ shortest 0x02 5 (settling (0x60 is 0xA000 ∷ 0x66 is 0xFFFF ∷ []))
+    ∷ shortest 0x0A 5 (turned (0xA0 is 0xC006 ∷ []))
+    ∷ shortest 0x08 1 (turned (0xA0 is 0xC002 ∷ []))
+    ∷ ownByTwo
+    ∷ listedByTwo
+    ∷ bitsOutlive
+    ∷ nobodys
+    ∷ []
+
+-- three statements, since one over all of them would take much memory to check
 pub kept-calls : T (allPass calls)
 unfolding passes calls
 kept-calls = all-prepared calls tt
@@ -807,3 +970,7 @@ kept-calls = all-prepared calls tt
 pub kept-works : T (allPass works)
 unfolding passes works
 kept-works = all-prepared works tt
+
+pub kept-headers : T (allPass headers)
+unfolding passes headers
+kept-headers = all-prepared headers tt

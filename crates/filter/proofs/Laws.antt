@@ -1,6 +1,6 @@
 -- What a filter's bits are once one of them is set, how large a filter is, and what passes. No contract cites this file. Assumes nothing.
 use mathlib.Core.Path.{_≡_, refl, ap, _∙_}
-use mathlib.Core.Bool.{Bool, true, false, not, _&&_, _||_}
+use mathlib.Core.Bool.{Bool, true, false, not, _&&_, _||_, true≢false}
 use mathlib.Core.List.{List}
 use Prim.Native.Nat.{ℕ, zero, suc, _+_, _/_, _%_, _<_, _^_, max}
 use native.Mathlib.Nat.{not-suc-le-zero, le-of-suc-le-suc, mod-lt, pow-suc, mul-div-cancel, mul-mod-left, zero-div, div-one, zero-lt-suc}
@@ -8,11 +8,12 @@ use native.Mathlib.Omega.{arith}
 use lib.Arith.{digits-mod}
 use lib.Bits.{bitOr, or-lt, or-step, or-shr}
 use lib.Pow.{pow-lt, shr-shr}
-use lib.Dec.{eqb, eqb·zero-suc, eqb·suc-zero, eqb·suc-suc}
+use borrow.Author.Tests.{lt-ltb}
+use lib.Dec.{eqb, ltb, eqb·zero-suc, eqb·suc-zero, eqb·suc-suc}
 use Rattle.scb.specs.Words.{bitsAt, bit}
 use Rattle.device.specs.Limits.{filterBits}
 use Rattle.device.specs.declared.Settings.{Settings}
-use Rattle.filter.specs.Match.{withBit, allOnes, isOwn, isGroup, isFiltered, matches}
+use Rattle.filter.specs.Match.{agree, withBit, allOnes, isOwn, isGroup, isFiltered, matches}
 
 -- a filter stays one
 pub with-bit-wide : (filter k : ℕ) → filter < 2 ^ filterBits → k < filterBits → withBit filter k < 2 ^ filterBits
@@ -63,27 +64,48 @@ none-set i = rw (zero-div (2 ^ i))
 
 -- ---- what passes
 
+or-false : (a : Bool) → (a || false) ≡ a
+or-false true = refl
+or-false false = refl
+
 pub or-right : (a b : Bool) → b ≡ true → (a || b) ≡ true
 or-right true b e = refl
 or-right false b e = e
 
+-- an address that is not all FFh has a byte
+some : (l : ℕ) (f : List ℕ) → allOnes l f ≡ false → ltb 0 l ≡ true
+unfolding agree
+some zero f e = absurd (true≢false e)
+some (suc l) f e = lt-ltb 0 (suc l) (zero-lt-suc l)
+
+-- l: the address length in force
 module _ (s : Settings) (own : List ℕ) (filter : ℕ) (f : List ℕ) where
+  abbrev l : ℕ
+  l = s .form .length
+
   pub by-promiscuous : s .promiscuous ≡ true → matches s own filter f ≡ true
   unfolding matches
   by-promiscuous p = rw p
 
-  pub by-broadcast : s .promiscuous ≡ false → allOnes f ≡ true → matches s own filter f ≡ not (s .nobroadcast)
+  -- 02, Wish 4: at length 0 only promiscuous mode receives
+  pub by-no-address : l ≡ 0 → matches s own filter f ≡ s .promiscuous
   unfolding matches
-  by-broadcast p o = rw (p, o)
+  by-no-address z = rw z (or-false (s .promiscuous))
 
-  pub by-own-address : allOnes f ≡ false → isOwn own f ≡ true → matches s own filter f ≡ true
+  pub by-broadcast : s .promiscuous ≡ false → 0 < l → allOnes l f ≡ true → matches s own filter f ≡ not (s .nobroadcast)
   unfolding matches
-  by-own-address o w = or-right (s .promiscuous) _ (rw (o, w))
+  by-broadcast p z o = rw (p, lt-ltb 0 l z, o)
 
-  pub by-a-set-bit : allOnes f ≡ false → isGroup f ≡ true → isFiltered filter f ≡ true → matches s own filter f ≡ true
+  pub by-own-address : allOnes l f ≡ false → isOwn l own f ≡ true → matches s own filter f ≡ true
   unfolding matches
-  by-a-set-bit o g b = or-right (s .promiscuous) _ (rw o (or-right (isOwn own f) (isGroup f && isFiltered filter f) (rw (g, b))))
+  by-own-address o w = or-right (s .promiscuous) _ (rw (some l f o, o, w))
 
-  pub by-the-filter : s .promiscuous ≡ false → allOnes f ≡ false → isOwn own f ≡ false → matches s own filter f ≡ (isGroup f && isFiltered filter f)
+  pub by-a-set-bit : allOnes l f ≡ false → isGroup f ≡ true → isFiltered l filter f ≡ true → matches s own filter f ≡ true
   unfolding matches
-  by-the-filter p o w = rw (p, o, w)
+  by-a-set-bit o g b =
+      or-right (s .promiscuous) _ (rw (some l f o, o) (or-right (isOwn l own f) (isGroup f && isFiltered l filter f) (rw (g, b))))
+
+  pub by-the-filter : s .promiscuous ≡ false → allOnes l f ≡ false → isOwn l own f ≡ false
+      → matches s own filter f ≡ (isGroup f && isFiltered l filter f)
+  unfolding matches
+  by-the-filter p o w = rw (p, some l f o, o, w)

@@ -10,9 +10,19 @@ use Rattle.hash.specs.Hash.{shifted, step, bitsIn, register, selected}
 use Rattle.device.specs.declared.Settings.{Settings}
 use Rattle.filter.specs.Match.{agree, withBit, matches}
 
+-- by an address length
+abbrev settingsAt : (length : ℕ) → (promiscuous nobroadcast : Bool) → Settings
+settingsAt length promiscuous nobroadcast =
+    record {
+      savebad = false;
+      promiscuous = promiscuous;
+      nobroadcast = nobroadcast;
+      minimum = 64;
+      form = record { length = length; location = false };
+    }
+
 abbrev settings : (promiscuous nobroadcast : Bool) → Settings
-settings promiscuous nobroadcast =
-    record { savebad = false; promiscuous = promiscuous; nobroadcast = nobroadcast; minimum = 64 }
+settings promiscuous nobroadcast = settingsAt 6 promiscuous nobroadcast
 
 -- own address 02-01-01-01-01-01; the filter has bits 5 and 52, which 01-00-00-00-00-00 and 01-00-5E-00-00-01 fall on, and 59, that of all FFh
 abbrev own : List ℕ
@@ -54,6 +64,31 @@ byItsBit = tt
 pub notWithoutTheLowBit : T (not (matches (settings false true) own (2 ^ 64 - 1) (replicate 6 4)) && not (matches (settings false true) own 0 (group 0)))
 unfolding bitsAt hash.ones shifted step bitsIn register selected hash.hash agree matches
 notWithoutTheLowBit = tt
+
+-- ---- 02, Wish 4: addresses of other lengths
+
+-- "of the own address the first bytes, up to the length, count": two of its six, and those of the frame behind them are no address
+pub ownByItsFirst : T (matches (settingsAt 2 false true) own 0 (2 ∷ 1 ∷ 9 ∷ 9 ∷ 9 ∷ 9 ∷ []) && not (matches (settingsAt 2 false true) own 0 (2 ∷ 9 ∷ 1 ∷ 1 ∷ 1 ∷ 1 ∷ []))
+    && matches (settingsAt 1 false true) own 0 (2 ∷ 9 ∷ 9 ∷ 9 ∷ []))
+unfolding bitsAt hash.ones shifted step bitsIn register selected hash.hash agree matches
+ownByItsFirst = tt
+
+-- all FFh is so many bytes FFh; with broadcast disabled two bytes FFh are no own address, though that is six FFh
+pub broadcastOfItsLength : T (matches (settingsAt 2 false false) own 0 (255 ∷ 255 ∷ 0 ∷ 0 ∷ 0 ∷ 0 ∷ []) && not (matches (settingsAt 2 false true) ones 0 (255 ∷ 255 ∷ 0 ∷ 0 ∷ 0 ∷ 0 ∷ []))
+    && not (matches (settingsAt 3 false false) own 0 (255 ∷ 255 ∷ 0 ∷ 0 ∷ 0 ∷ 0 ∷ [])))
+unfolding bitsAt hash.ones shifted step bitsIn register selected hash.hash agree matches
+broadcastOfItsLength = tt
+
+-- the fold takes so many bytes: by 01-00 the frame's next bytes are none of it, and by the six of 01-00-00-00-00-00 it would be bit 5
+pub foldedToItsLength : T (matches (settingsAt 2 false true) own (2 ^ hash.hash (1 ∷ 0 ∷ [])) (1 ∷ 0 ∷ 7 ∷ 7 ∷ 7 ∷ 7 ∷ []) && not (matches (settingsAt 2 false true) own (2 ^ 5) (group 0)))
+unfolding bitsAt hash.ones shifted step bitsIn register selected hash.hash agree matches
+foldedToItsLength = tt
+
+-- at length 0 only promiscuous mode receives: the empty address is neither the own, nor all FFh, nor in a full filter
+pub nobodysAtNone : T (not (matches (settingsAt 0 false false) own (2 ^ 64 - 1) ones) && not (matches (settingsAt 0 false false) own (2 ^ 64 - 1) own)
+    && not (matches (settingsAt 0 false false) own (2 ^ 64 - 1) (group 0)) && matches (settingsAt 0 true true) own 0 (group 0))
+unfolding bitsAt hash.ones shifted step bitsIn register selected hash.hash agree matches
+nobodysAtNone = tt
 
 -- a bit that is set is set once, and the others stay
 pub setOnce : T (eqb (withBit (withBit 0 5) 5) 0x20 && eqb (withBit 0x28 3) 0x28 && eqb (withBit 0x20 3) 0x28)

@@ -16,7 +16,7 @@ use Rattle.memory.proofs.Fields.{word-same, bytes-other, length-digits}
 use Rattle.memory.proofs.Laws.{length-putBytes}
 use Rattle.memory.proofs.Power.{allowed}
 use Rattle.device.specs.Answers.{counterOf, reasonOf, counts, isHeld}
-use Rattle.device.specs.Limits.{header, fcs, heldFrom}
+use Rattle.device.specs.Limits.{fcs, heldFrom}
 use Rattle.device.specs.Numbers.{verdictOf}
 use Rattle.device.specs.State.{isHolding, goodBy}
 use Rattle.device.specs.Change.{withRu, withUnits}
@@ -32,7 +32,7 @@ use Rattle.device.specs.declared.Verdict.the-variants as verdict
 use Rattle.receive.specs.Arrival as receive
 use Rattle.chip.specs.Arrival as chip
 use Rattle.chip.specs.World.{World, Ran}
-use Rattle.frames.specs.Arrival.{RightLengths, inScb, shortBy, settingsOf, unitOf, isOurs, Ours, Good, Bad, short, crc, misaligned, OneMore, Counts, NotHeld, IsHeld, judgedAs, ArrivalFate}
+use Rattle.frames.specs.Arrival.{RightLengths, inScb, shortBy, settingsOf, headerIn, unitOf, isOurs, Ours, Good, Bad, short, crc, misaligned, OneMore, Counts, NotHeld, IsHeld, judgedAs, ArrivalFate}
 use Rattle.frames.specs.Arrival as classes
 
 -- ---- one more
@@ -160,20 +160,20 @@ bad-counter w f v c (misaligned n e) = rw (misaligned-verdict v e)
 in-unit : (w : World) (f : List ℕ) (v : ℕ) (u : Ru) (j : Frame) → Ours w f → unitOf w ≡ u → receive.judged (settingsOf w) f v ≡ j
     → fated w f v ≡ receive.fateIn u j
 unfolding fated receive.fateOf
-in-unit w f v u j o e g = rw (le-ltb (length f) header (o .enough), o .matched) (ap₂ receive.fateIn e g)
+in-unit w f v u j o e g = rw (le-ltb (length f) (headerIn w) (o .enough), o .matched) (ap₂ receive.fateIn e g)
 
 -- ---- the classes
 
--- under 14 bytes, dropped
-pub few : (w : World) (f : List ℕ) (v : ℕ) → RightLengths w f → length f < header → NotHeld w fate.TooFew reason.TooFew counter.Uncounted (chip.arrivalOf w f v)
+-- shorter than the header, dropped
+pub few : (w : World) (f : List ℕ) (v : ℕ) → RightLengths w f → length f < headerIn w → NotHeld w fate.TooFew reason.TooFew counter.Uncounted (chip.arrivalOf w f v)
 unfolding fated receive.fateOf
-few w f v l h = not-held fate.TooFew w f v refl l (rw (lt-ltb (length f) header h))
+few w f v l h = not-held fate.TooFew w f v refl l (rw (lt-ltb (length f) (headerIn w) h))
 
 -- no match, dropped
-pub unmatched : (w : World) (f : List ℕ) (v : ℕ) → RightLengths w f → header ≤ length f → isOurs w f ≡ false
+pub unmatched : (w : World) (f : List ℕ) (v : ℕ) → RightLengths w f → headerIn w ≤ length f → isOurs w f ≡ false
     → NotHeld w fate.NoMatch reason.NoMatch counter.Uncounted (chip.arrivalOf w f v)
 unfolding fated receive.fateOf
-unmatched w f v l h n = not-held fate.NoMatch w f v refl l (rw (le-ltb (length f) header h, n))
+unmatched w f v l h n = not-held fate.NoMatch w f v refl l (rw (le-ltb (length f) (headerIn w) h, n))
 
 -- RU Idle or Suspended, dropped
 pub idle : (w : World) (f : List ℕ) (v : ℕ) → RightLengths w f → Ours w f → unitOf w ≡ ru.Idle
@@ -278,15 +278,15 @@ our-class (ru.Filling s k) w f v l o u = classes.overrun o (ap isHolding u) (ove
 our-class (ru.Closing s free full) w f v l o u = classes.overrun o (ap isHolding u) (overrun w f v l o (ap isHolding u))
 our-class (ru.Lacking s) w f v l o u = classes.overrun o (ap isHolding u) (overrun w f v l o (ap isHolding u))
 
-class-by : (isFew matched : Bool) (w : World) (f : List ℕ) (v : ℕ) → RightLengths w f → ltb (length f) header ≡ isFew → isOurs w f ≡ matched
+class-by : (isFew matched : Bool) (w : World) (f : List ℕ) (v : ℕ) → RightLengths w f → ltb (length f) (headerIn w) ≡ isFew → isOurs w f ≡ matched
     → ArrivalFate w f v (chip.arrivalOf w f v)
 class-by true matched w f v l a b =
-    let n = ltb-true (length f) header a in classes.few n (few w f v l n)
+    let n = ltb-true (length f) (headerIn w) a in classes.few n (few w f v l n)
 class-by false false w f v l a b =
-    let n = ltb-false (length f) header a in classes.unmatched n b (unmatched w f v l n b)
+    let n = ltb-false (length f) (headerIn w) a in classes.unmatched n b (unmatched w f v l n b)
 class-by false true w f v l a b =
-    our-class (unitOf w) w f v l (record { enough = ltb-false (length f) header a; matched = b }) refl
+    our-class (unitOf w) w f v l (record { enough = ltb-false (length f) (headerIn w) a; matched = b }) refl
 
 -- whatever arrives, where the call is not refused
 pub arrival-fate : (w : World) (f : List ℕ) (v : ℕ) → RightLengths w f → ArrivalFate w f v (chip.arrivalOf w f v)
-arrival-fate w f v l = class-by (ltb (length f) header) (isOurs w f) w f v l refl refl
+arrival-fate w f v l = class-by (ltb (length f) (headerIn w)) (isOurs w f) w f v l refl refl

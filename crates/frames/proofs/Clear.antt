@@ -12,10 +12,11 @@ use Rattle.memory.specs.declared.Offset.{Offset}
 use Rattle.memory.specs.declared.RealAddress.{RealAddress}
 use Rattle.memory.proofs.Fields.{Apart}
 use Rattle.memory.proofs.Places.{place-up, place-down}
-use Rattle.device.specs.Limits.{header}
+use Rattle.device.specs.Header.{unbuffered}
 use Rattle.device.specs.State.{isGood}
 use Rattle.device.specs.declared.Ru.the-variants as ru
 use Rattle.device.specs.declared.Storing.{Storing}
+use Rattle.device.proofs.Header.{at-most-the-header}
 use Rattle.receive.specs.Begin.{isBare}
 use Rattle.chip.specs.World.{World}
 use Rattle.frames.specs.Arrival.{inScb}
@@ -99,8 +100,26 @@ less n (x ∷ xs) y ys h = (away-less n xs y ys x (h .0), less n xs y ys (h .1))
 
 -- ---- the premises of the facts at exit: all pieces at once, then without +6 if there is data
 
+-- the header's piece, as large as it may be, and as large as it is
+abbrev fullHeader : World → Storing → Piece
+fullHeader w s = piece (inFrame w s 8) 14
+
+abbrev itsHeader : World → Storing → Piece
+itsHeader w s = piece (inFrame w s 8) (unbuffered (s .frame .form))
+
+no-larger : (w : World) (s : Storing) → Clear w s → unbuffered (s .frame .form) ≤ 14
+no-larger w s c = omega (arith, at-most-the-header (s .frame .form), c .addresses)
+
+-- what is apart from a piece is apart from the beginning of it
+smaller-away : (n : ℕ) (ps : List Piece) (a j k : ℕ) → j ≤ k → Away n ps (piece a k) → Away n ps (piece a j)
+smaller-away n [] a j k l h = tt
+smaller-away n (p ∷ ps) a j k l h = ((λ x hx y hy e. h .0 x hx y (omega arith) e), smaller-away n ps a j k l (h .1))
+
+smaller : (w : World) (s : Storing) (ps : List Piece) → Clear w s → NoOverlap (size w) (fullHeader w s ∷ ps) → NoOverlap (size w) (itsHeader w s ∷ ps)
+smaller w s ps c h = (smaller-away (size w) ps (inFrame w s 8) (unbuffered (s .frame .form)) 14 (no-larger w s c) (h .0), h .1)
+
 abbrev front : World → Storing → List Piece → List Piece
-front w s rest = piece (inFrame w s 8) header ∷ piece (inFrame w s 0) 2 ∷ rest
+front w s rest = itsHeader w s ∷ piece (inFrame w s 0) 2 ∷ rest
 
 bare-less : (b : Bool) (w : World) (s : Storing) (ps : List Piece) → NoOverlap (size w) (front w s (piece (inFrame w s 6) 2 ∷ ps))
     → NoOverlap (size w) (front w s (barePiece b w s ++ ps))
@@ -109,7 +128,7 @@ bare-less false w s ps p = less (size w) (front w s []) (piece (inFrame w s 6) 2
 
 -- RSCERRS, the SCB status
 counted-all : (w : World) (s : Storing) → Clear w s → NoOverlap (size w) (front w s (piece (inFrame w s 6) 2 ∷ countPiece w ∷ statusPiece w ∷ []))
-counted-all w s c = (
+counted-all w s c = smaller w s (piece (inFrame w s 0) 2 ∷ piece (inFrame w s 6) 2 ∷ countPiece w ∷ statusPiece w ∷ []) c (
   (frame-up w s 0 2 8 14 c tt tt, (frame-up w s 6 2 8 14 c tt tt, (across w s 8 14 12 2 c tt tt, (across w s 8 14 0 2 c tt tt, tt)))),
   (
     (frame-down w s 6 2 0 2 c tt tt, (across w s 0 2 12 2 c tt tt, (across w s 0 2 0 2 c tt tt, tt))),
@@ -120,7 +139,7 @@ counted-all w s c = (
 -- +6 of the next frame descriptor, the SCB status
 onward-all : (w : World) (s : Storing) → Clear w s → NextClear w s
     → NoOverlap (size w) (front w s (piece (inFrame w s 6) 2 ∷ piece (nextFirst w s) 2 ∷ statusPiece w ∷ []))
-onward-all w s c k = (
+onward-all w s c k = smaller w s (piece (inFrame w s 0) 2 ∷ piece (inFrame w s 6) 2 ∷ piece (nextFirst w s) 2 ∷ statusPiece w ∷ []) c (
   (frame-up w s 0 2 8 14 c tt tt, (frame-up w s 6 2 8 14 c tt tt, (next-frame w s 8 14 k tt, (across w s 8 14 0 2 c tt tt, tt)))),
   (
     (frame-down w s 6 2 0 2 c tt tt, (next-frame w s 0 2 k tt, (across w s 0 2 0 2 c tt tt, tt))),
@@ -161,6 +180,10 @@ counterPiece w k = piece (inScb w k) 2
 frame-spares : (w : World) (s : Storing) (k f i : ℕ) → Clear w s → T (leb (k + 2) 16) → T (leb (f + i) 22) → Apart (size w) (inFrame w s f) i (inScb w k) 2
 frame-spares w s k f i c b a x hx y hy e = across w s f i k 2 c a b y hy x hx (sym e)
 
+header-spares : (w : World) (s : Storing) (k : ℕ) → Clear w s → T (leb (k + 2) 16)
+    → Apart (size w) (inFrame w s 8) (unbuffered (s .frame .form)) (inScb w k) 2
+header-spares w s k c b x hx y hy e = frame-spares w s k 8 14 c b tt x (omega (arith, hx, no-larger w s c)) y hy e
+
 status-spares : (w : World) (s : Storing) (k : ℕ) → Clear w s → T (leb 2 k) → T (leb (k + 2) 16) → Away (size w) (statusPiece w ∷ []) (counterPiece w k)
 status-spares w s k c a b =
     let room = c .room in
@@ -170,8 +193,8 @@ status-spares w s k c a b =
 -- what is written to the frame descriptor, if the rest spares the counter
 stored-spares : (b : Bool) (w : World) (s : Storing) (k : ℕ) (rest : List Piece) → Clear w s → T (leb (k + 2) 16) → Away (size w) rest (counterPiece w k)
     → Away (size w) (front w s (barePiece b w s ++ rest)) (counterPiece w k)
-stored-spares true w s k rest c a r = (frame-spares w s k 8 14 c a tt, (frame-spares w s k 0 2 c a tt, (frame-spares w s k 6 2 c a tt, r)))
-stored-spares false w s k rest c a r = (frame-spares w s k 8 14 c a tt, (frame-spares w s k 0 2 c a tt, r))
+stored-spares true w s k rest c a r = (header-spares w s k c a, (frame-spares w s k 0 2 c a tt, (frame-spares w s k 6 2 c a tt, r)))
+stored-spares false w s k rest c a r = (header-spares w s k c a, (frame-spares w s k 0 2 c a tt, r))
 
 onward-spares : (x : Bool) (w : World) (s : Storing) (k : ℕ) → Clear w s → (x ≡ false → NextClear w s) → T (leb 2 k) → T (leb (k + 2) 16)
     → Away (size w) (onwardPiece x w s ++ statusPiece w ∷ []) (counterPiece w k)

@@ -14,7 +14,8 @@ use Rattle.memory.proofs.Bytes.{Bytes, bytes-nil}
 use Rattle.memory.proofs.Power.{size-allowed}
 use Rattle.memory.specs.declared.Offset.{Offset}
 use Rattle.device.specs.Answers.{isHeld}
-use Rattle.device.specs.Limits.{header, heldFrom}
+use Rattle.device.specs.Header.{unbuffered}
+use Rattle.device.specs.Limits.{heldFrom}
 use Rattle.device.specs.Numbers.{verdictOf}
 use Rattle.device.specs.State.{heldIn}
 use Rattle.device.specs.declared.Counter.{Counter}
@@ -29,6 +30,7 @@ use Rattle.device.specs.declared.Storing.{Storing}
 use Rattle.device.specs.declared.Verdict.{Verdict}
 use Rattle.device.specs.declared.Verdict.the-variants as verdict
 use Rattle.device.specs.declared.Walk.{Walk}
+use Rattle.device.proofs.Header.{at-most-the-header}
 use Rattle.image.specs.Ranges.{inRange}
 use Rattle.phases.proofs.Units.{both as parts}
 use Rattle.receive.specs.Begin.{begunBy, toFirst, isBare}
@@ -47,7 +49,7 @@ use Rattle.traces.specs.Event.{Event, call, host, step}
 use Rattle.closure.proofs.Carried.{not-refused, carry, carry-shown}
 use Rattle.closure.proofs.Driven.{shows-said, fair-along}
 use Rattle.closure.proofs.Told.{fair-said}
-use Rattle.frames.specs.Arrival.{RightLengths, unitOf, judgedAs, shortBy, IsHeld, ArrivalFate}
+use Rattle.frames.specs.Arrival.{RightLengths, settingsOf, headerIn, unitOf, judgedAs, shortBy, IsHeld, ArrivalFate}
 use Rattle.frames.specs.Arrival as arrival
 use Rattle.frames.specs.Held.{loses, isServed, ends, endIsNext, begunUnit, bufferIn, dataTo, filledUnit, Serves, Waits, untouched, suspends, Meanwhile, served, unserved}
 use Rattle.frames.specs.Held as held
@@ -97,9 +99,9 @@ Sofar f area got (ru.Suspended fd) = ⊥
 Sofar f area got (ru.Ready fd) = ⊥
 Sofar f area got (ru.Held fd g p) = (g ≡ f) × (got ≡ [])
 Sofar f area got (ru.Filling s k) =
-    (s .frame ≡ f) × (header ≤ k .filled) × (k .filled < f .length) × (got ≡ dataWithin heldFrom header (k .filled) area)
+    (s .frame ≡ f) × (unbuffered (f .form) ≤ k .filled) × (k .filled < f .length) × (got ≡ dataWithin heldFrom (unbuffered (f .form)) (k .filled) area)
 Sofar f area got (ru.Closing s free full) = (s .frame ≡ f) × (got ≡ dataOf f area)
-Sofar f area got (ru.Lacking s) = (s .frame ≡ f) × ((n : ℕ) × (n < f .length - header) × (got ≡ take n (dataOf f area)))
+Sofar f area got (ru.Lacking s) = (s .frame ≡ f) × ((n : ℕ) × (n < f .length - unbuffered (f .form)) × (got ≡ take n (dataOf f area)))
 
 sofar-held : (f : Frame) (area got : List ℕ) (u : Ru) → Sofar f area got u → heldIn u ≡ f ∷ []
 sofar-held f area got ru.Idle h = absurd h
@@ -126,27 +128,31 @@ sofar-suspended f area got (ru.Lacking s) h = h
 begun-sofar : (bare none : Bool) (s : Storing) (first : Offset) (f : Frame) (area : List ℕ) → s .frame ≡ f → isBare f ≡ bare
     → Sofar f area [] (toFirst bare none s first)
 begun-sofar true none s first f area q b =
-    let l = leb-true (f .length) header b in
-    let z : f .length - header ≡ 0 = omega arith in
-    (q, ap (λ (n : ℕ). take n (drop (heldFrom + header) area)) (sym z))
+    let u = unbuffered (f .form) in
+    let l = leb-true (f .length) u b in
+    let z : f .length - u ≡ 0 = omega arith in
+    (q, ap (λ (n : ℕ). take n (drop (heldFrom + u) area)) (sym z))
 begun-sofar false true s first f area q b =
-    let l = leb-false (f .length) header b in (q, (0, omega arith, refl))
+    let l = leb-false (f .length) (unbuffered (f .form)) b in (q, (0, omega arith, refl))
 begun-sofar false false s first f area q b =
-    let l = leb-false (f .length) header b in (q, omega arith, omega arith, sym (none-yet heldFrom header area))
+    let u = unbuffered (f .form) in
+    let l = leb-false (f .length) u b in
+    let e : unbuffered (s .frame .form) ≡ u = ap (λ (x : Frame). unbuffered (x .form)) q in
+    (q, omega (arith, e), omega (arith, e), rw e (sym (none-yet heldFrom u area)))
 
 -- a buffer: all of the data has been written, or data is left
-left-over : (s : Storing) (n : ℕ) (f : Frame) (area : List ℕ) → s .frame ≡ f → header ≤ n → n < f .length
-    → Sofar f area (dataWithin heldFrom header n area) (ru.Lacking s)
-left-over s n f area q h l = (q, (n - header, omega arith, so-far heldFrom header n (f .length) area (omega arith)))
+left-over : (s : Storing) (n : ℕ) (f : Frame) (area : List ℕ) → s .frame ≡ f → unbuffered (f .form) ≤ n → n < f .length
+    → Sofar f area (dataWithin heldFrom (unbuffered (f .form)) n area) (ru.Lacking s)
+left-over s n f area q h l = let u = unbuffered (f .form) in (q, (n - u, omega arith, so-far heldFrom u n (f .length) area (omega arith)))
 
-filled-sofar : (done el none last : Bool) (s : Storing) (next : Walk) (f : Frame) (area : List ℕ) → s .frame ≡ f → header ≤ next .filled
+filled-sofar : (done el none last : Bool) (s : Storing) (next : Walk) (f : Frame) (area : List ℕ) → s .frame ≡ f → unbuffered (f .form) ≤ next .filled
     → next .filled ≤ f .length → leb (s .frame .length) (next .filled) ≡ done
-    → Sofar f area (dataWithin heldFrom header (next .filled) area) (afterBuffer done el none last s next)
+    → Sofar f area (dataWithin heldFrom (unbuffered (f .form)) (next .filled) area) (afterBuffer done el none last s next)
 filled-sofar true el none last s next f area q h l d =
     let t = leb-true (s .frame .length) (next .filled) d in
     let same : s .frame .length ≡ f .length = ap (λ (x : Frame). x .length) q in
     let e : next .filled ≡ f .length = omega arith in
-    (q, ap (λ (n : ℕ). dataWithin heldFrom header n area) e)
+    (q, ap (λ (n : ℕ). dataWithin heldFrom (unbuffered (f .form)) n area) e)
 filled-sofar false true none last s next f area q h l d =
     let t = leb-false (s .frame .length) (next .filled) d in
     let same : s .frame .length ≡ f .length = ap (λ (x : Frame). x .length) q in
@@ -177,11 +183,12 @@ buffer-on : (w : World) (s : Storing) (k : Walk) (f : Frame) (got : List ℕ) �
 buffer-on w s k f got h =
     let d = bufferIn w k in
     let same : s .frame .length ≡ f .length = ap (λ (x : Frame). x .length) (h .0) in
-    let least : header ≤ k .filled = h .1 in
+    let u = unbuffered (f .form) in
+    let least : u ≤ k .filled = h .1 in
     let most : k .filled < f .length = h .2 in
-    let e : got ++ (dataTo w s k .bytes ++ []) ≡ dataWithin heldFrom header (k .filled + count s k d) (w .holding) =
+    let e : got ++ (dataTo w s k .bytes ++ []) ≡ dataWithin heldFrom u (k .filled + count s k d) (w .holding) =
     ap₂ (λ (x y : List ℕ). x ++ y) (h .3) (append-nil (dataTo w s k .bytes))
-    ∙ so-much-further heldFrom header (k .filled) (count s k d) (w .holding) (h .1)
+    ∙ so-much-further heldFrom u (k .filled) (count s k d) (w .holding) (h .1)
     in
     subst (λ (x : List ℕ). Sofar f (w .holding) x (filledUnit w s k)) (sym e)
     (filled-sofar (isDone s (past s k d)) (d .el) _ _ s (past s k d) f (w .holding) (h .0) (omega arith) (omega arith) refl)
@@ -310,19 +317,21 @@ record Came (bs : List ℕ) (r : Ran) : Type 0 where
   fd : Offset
   frame : Frame
   unit : r .outcome .device .units .ru ≡ ru.Held fd frame false
+  form : frame .form ≡ r .outcome .device .units .settings .form
   bytes : frame .length ≡ length bs
-  enough : header ≤ length bs
+  enough : unbuffered (frame .form) ≤ length bs
   entered : take (length bs) (r .holding) ≡ bs
 
-is-held : (w : World) (bs : List ℕ) (fd : Offset) (v : Verdict) (short : Bool) (c : Counter) (r : Ran) → header ≤ length bs
+is-held : (w : World) (bs : List ℕ) (fd : Offset) (v : Verdict) (short : Bool) (c : Counter) (r : Ran) → headerIn w ≤ length bs
     → IsHeld w bs fd (judgedAs w bs v short) c r → Came bs r
 is-held w bs fd v short c r l h =
     record {
       fd = fd;
       frame = judgedAs w bs v short;
       unit = ap (λ (d : Device). d .units .ru) (h .device);
+      form = sym (ap (λ (d : Device). d .units .settings .form) (h .device));
       bytes = refl;
-      enough = l;
+      enough = omega (arith, at-most-the-header (settingsOf w .form));
       entered = h .entered;
     }
 
@@ -347,15 +356,16 @@ from-came : (bs : List ℕ) (r : Ran) (es : List Event) (report : ℕ) → Sound
     → ArrivedDelivered bs es (afterwards r) report
 from-came bs r es report s k m n =
     let d = sound-delivered (afterwards r) (k .fd) (k .frame) false es report s (k .unit) m n in
-    let whole : dataOf (k .frame) (r .holding) ≡ drop header bs =
-    ap (λ (n : ℕ). dataWithin heldFrom header n (r .holding)) (k .bytes) ∙ behind-header heldFrom header bs (r .holding) (k .enough) (k .entered)
+    let u = unbuffered (k .frame .form) in
+    let whole : dataOf (k .frame) (r .holding) ≡ drop u bs =
+    ap (λ (n : ℕ). dataWithin heldFrom u n (r .holding)) (k .bytes) ∙ behind-header heldFrom u bs (r .holding) (k .enough) (k .entered)
     in
     record {
       frame = k .frame;
       held = ap heldIn (k .unit);
       bytes = k .bytes;
-      first =
-          ap (take header) (d .holding) ∙ sym (take-take header (length bs) (r .holding) (k .enough)) ∙ ap (take header) (k .entered);
+      form = k .form;
+      first = ap (take u) (d .holding) ∙ sym (take-take u (length bs) (r .holding) (k .enough)) ∙ ap (take u) (k .entered);
       delivered = subst (λ (x : List ℕ). Delivered (k .frame) x es (afterwards r) report) whole d;
     }
 

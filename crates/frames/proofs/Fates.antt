@@ -10,7 +10,6 @@ use borrow.Author.Tests.{eqb-true, ltb-true, ltb-false, ne-eqb}
 use lib.Dec.{eqb, ltb}
 use lib.ListN.{length, drop}
 use Rattle.device.specs.Answers.{isHeld}
-use Rattle.device.specs.Limits.{header}
 use Rattle.device.specs.State.{heldIn, isGood}
 use Rattle.device.specs.declared.Fate.{Fate}
 use Rattle.device.specs.declared.Fate.the-variants as fate
@@ -24,7 +23,7 @@ use Rattle.chip.specs.World.{World, Ran, resetOf}
 use Rattle.filter.specs.Match.{matches}
 use Rattle.progress.specs.Trace.{run}
 use Rattle.traces.specs.Event.{Event, call, host}
-use Rattle.frames.specs.Arrival.{unitOf, settingsOf}
+use Rattle.frames.specs.Arrival.{unitOf, settingsOf, headerIn}
 use Rattle.frames.specs.Held.{ofHeld, isLoss, chosen, heldFates, FatesOfHeld, loses, ends, Lost, by-reset, by-resetting, by-abort, GoodFate, BadFate}
 use Rattle.frames.specs.Held as held
 use Rattle.frames.specs.Fates.{Deed, event, alter, worldAfter, Scene, opening, Noted, noted, numbersOf, numbered, Way, by-call, by-altering, Ended, heldAs, still, begunIf, begun}
@@ -96,7 +95,7 @@ balance-arrival : (f : List ℕ) (v : ℕ) (s : Scene) → Balanced (event (call
 unfolding Balanced Joins chip.arrivalOf chip.arrival arrivals.arrival arrivals.fateOf
 balance-arrival f v s =
     let w = s .world in
-    let few = ltb (length f) header in
+    let few = ltb (length f) (headerIn w) in
     let m = matches (settingsOf w) (w .device .own) (w .device .filter) f in
     let j = arrivals.judged (settingsOf w) f v in
     let x = arrivals.fateBy few m (unitOf w) j in
@@ -170,7 +169,7 @@ all-fates ds w r = fates-sound ds w (in-range-sound (w .device) r)
 arrival-fates : (w : World) (f : List ℕ) (v : ℕ) → heldFates (chip.arrivalOf w f v .outcome .fates) ≡ []
 unfolding chip.arrivalOf chip.arrival arrivals.arrival arrivals.fateOf
 arrival-fates w f v =
-    let few = ltb (length f) header in
+    let few = ltb (length f) (headerIn w) in
     let m = matches (settingsOf w) (w .device .own) (w .device .filter) f in
     let j = arrivals.judged (settingsOf w) f v in
     ap (λ (b : Bool). chosen b (arrivals.fateBy few m (unitOf w) j) []) (arrival-new few m (unitOf w) j)

@@ -10,15 +10,15 @@ use Rattle.memory.specs.Address.{place}
 use Rattle.memory.specs.Memory.{wordAt, wordTo}
 use Rattle.scb.specs.Words.{bit, resets}
 use Rattle.hash.specs.Hash.{hash}
-use Rattle.device.specs.Limits.{addressLength}
 use Rattle.device.specs.Numbers.{transmit}
 use Rattle.device.specs.declared.Action.{Action}
 use Rattle.device.specs.declared.Action.the-variants as action
 use Rattle.device.specs.declared.Begun.{Begun}
+use Rattle.device.specs.declared.Settings.{Settings}
 use Rattle.device.specs.declared.Cu.{Cu}
 use Rattle.device.specs.declared.Cu.the-variants as cu
 use Rattle.device.specs.declared.Device.{Device}
-use Rattle.filter.specs.Match.{allOnes, isOwn, isGroup, isFiltered}
+use Rattle.filter.specs.Match.{allOnes, isOwn, isGroup, isFiltered, matches}
 use Rattle.filter.proofs.Laws as match
 use Rattle.actions.specs.Actions.{countOf, act, done, sent}
 use Rattle.actions.specs.Block.{blockStatusAt, blockCommandAt}
@@ -48,7 +48,7 @@ use Rattle.calls.specs.Calls.{Areas}
 use Rattle.traces.specs.Bytes.{called, isRefused}
 use Rattle.traces.specs.Areas.{FrameBytes, AreBytes, Holds, worldIn}
 use Rattle.closure.proofs.Carried.{holds-back, holds-length, carry}
-use Rattle.frames.specs.Arrival.{settingsOf, isOurs}
+use Rattle.frames.specs.Arrival.{lengthIn, settingsOf, isOurs}
 use Rattle.frames.specs.Filtered.{EndsMcSetup, leftBy, FallsIn, SetUpBy, FilterAfter, kept, by-reset, by-resetting, by-mc-setup}
 use Rattle.frames.specs.Held.{commandOf}
 
@@ -57,6 +57,10 @@ use Rattle.frames.specs.Held.{commandOf}
 module _ (w : World) (b : Begun) (report : ℕ) (e : EndsMcSetup w b) where
   abbrev left : World
   left = leftBy w report
+
+  -- the address length in force
+  abbrev l : ℕ
+  l = lengthIn w
 
   -- the setup that it leaves is the action's
   setup-left : setupOf (left .device) ≡ act action.McSetup (w .device .units .base) (setupOf (w .device)) (b .block) (w .memory) .setup
@@ -77,9 +81,16 @@ module _ (w : World) (b : Begun) (report : ℕ) (e : EndsMcSetup w b) where
         only = λ k h. filtered.only base s (b .block) (w .memory) k (ap (λ (n : ℕ). bit n k) (sym filter-left) ∙ h);
       }
 
-  -- a count of 0 empties the filter
-  pub emptied : countOf (w .device .units .base) (b .block) (w .memory) < addressLength → left .device .filter ≡ 0
-  emptied l = filter-left ∙ filtered.emptied (w .device .units .base) (setupOf (w .device)) (b .block) (w .memory) l
+  -- a count of 0 empties the filter, and so does length 0
+  pub emptied : countOf (w .device .units .base) (b .block) (w .memory) < l → left .device .filter ≡ 0
+  emptied n = filter-left ∙ filtered.emptied (w .device .units .base) (setupOf (w .device)) (b .block) (w .memory) n
+
+  pub emptied-at-none : l ≡ 0 → left .device .filter ≡ 0
+  emptied-at-none z = filter-left ∙ filtered.emptied-at-none (w .device .units .base) (setupOf (w .device)) (b .block) (w .memory) z
+
+  -- the settings being as they were, a frame is ours by them
+  ours-left : (f : List ℕ) → isOurs left f ≡ matches (settingsOf w) (left .device .own) (left .device .filter) f
+  ours-left f = ap (λ (s : Settings). matches s (left .device .own) (left .device .filter) f) (set-up .settings)
 
   -- A000h goes to the block, and nothing else
   pub status-done : service (partOf (w .device) (w .outgoing)) (w .memory) report .writes
@@ -88,17 +99,17 @@ module _ (w : World) (b : Begun) (report : ℕ) (e : EndsMcSetup w b) where
   status-done = rw (e .begun)
 
   -- a frame to a group on whose bit an address falls is ours
-  pub passes : (f : List ℕ) → allOnes f ≡ false → isGroup f ≡ true → FallsIn w b (hash (take addressLength f)) → isOurs left f ≡ true
-  passes f o g l =
-      match.by-a-set-bit (settingsOf left) (left .device .own) (left .device .filter) f o g (set-up .set (hash (take addressLength f)) l)
+  pub passes : (f : List ℕ) → allOnes l f ≡ false → isGroup f ≡ true → FallsIn w b (hash (take l f)) → isOurs left f ≡ true
+  passes f o g n =
+      ours-left f ∙ match.by-a-set-bit (settingsOf w) (left .device .own) (left .device .filter) f o g (set-up .set (hash (take l f)) n)
 
   -- and no other is that is not ours by another rule
-  pub passed : (f : List ℕ) → settingsOf left .promiscuous ≡ false → allOnes f ≡ false → isOwn (left .device .own) f ≡ false
-      → isOurs left f ≡ true → (isGroup f ≡ true) × FallsIn w b (hash (take addressLength f))
+  pub passed : (f : List ℕ) → settingsOf w .promiscuous ≡ false → allOnes l f ≡ false → isOwn l (left .device .own) f ≡ false
+      → isOurs left f ≡ true → (isGroup f ≡ true) × FallsIn w b (hash (take l f))
   passed f p o n h =
-      let x = match.by-the-filter (settingsOf left) (left .device .own) (left .device .filter) f p o n in
-      let y = and-eq-true-iff (isGroup f) (isFiltered (left .device .filter) f) .0 (sym x ∙ h) in
-      (y .0, set-up .only (hash (take addressLength f)) (y .1))
+      let x = ours-left f ∙ match.by-the-filter (settingsOf w) (left .device .own) (left .device .filter) f p o n in
+      let y = and-eq-true-iff (isGroup f) (isFiltered l (left .device .filter) f) .0 (sym x ∙ h) in
+      (y .0, set-up .only (hash (take l f)) (y .1))
 
 -- ---- every call
 

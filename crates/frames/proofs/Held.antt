@@ -14,7 +14,7 @@ use Rattle.scb.specs.declared.Events.{Events}
 use Rattle.scb.proofs.Raising.{raise-none}
 use Rattle.device.specs.Answers.{isHeld}
 use Rattle.device.specs.Change.{withEvents, withUnits}
-use Rattle.device.specs.Limits.{header}
+use Rattle.device.specs.Header.{header, unbuffered}
 use Rattle.device.specs.State.{cuState, ruState, isHolding, heldIn, isGood, fresh, cuWorks, ruWorks}
 use Rattle.device.proofs.Laws.{some-held}
 use Rattle.device.specs.declared.Device.{Device}
@@ -25,7 +25,7 @@ use Rattle.device.specs.declared.Ru.the-variants as ru
 use Rattle.device.specs.declared.Storing.{Storing}
 use Rattle.device.specs.declared.Units.{Units}
 use Rattle.device.specs.declared.Walk.{Walk}
-use Rattle.image.specs.Ranges.{inRange, sized, hasNext, cuFits, initialisedOrFresh, unitsFresh, unitsIdle, settingsFresh, addressingFresh, unitsFit, ruFits, frameFits}
+use Rattle.image.specs.Ranges.{formFits, sizedFrom, hasData, inRange, hasNext, cuFits, initialisedOrFresh, unitsFresh, unitsIdle, settingsFresh, addressingFresh, unitsFit, ruFits, frameFits}
 use Rattle.phases.proofs.Units.{both as parts}
 use Rattle.receive.specs.Arrival as arrivals
 use Rattle.receive.specs.Part as receive
@@ -44,7 +44,7 @@ use Rattle.chip.specs.World.{World, Ran, writing, resetOf}
 use Rattle.chip.proofs.Status.{receive-due}
 use Rattle.filter.specs.Match.{matches}
 use Rattle.traces.specs.Event.{call, isCalm}
-use Rattle.frames.specs.Arrival.{inScb, unitOf, settingsOf}
+use Rattle.frames.specs.Arrival.{inScb, unitOf, settingsOf, headerIn}
 use Rattle.frames.specs.Held.{ofHeld, chosen, heldFates, forEach, commandOf, loses, endIsNext, isServed, ends, StaysHeld, begunTo, begunUnit, dataTo, filledTo, filledUnit, OnlyWrites, Serves, suspendsAt, Waits, untouched, suspends, Meanwhile, served, unserved, Lost, by-reset, by-resetting, by-abort, GoodFate, BadFate}
 use Rattle.frames.specs.Held as held
 use Rattle.frames.proofs.End.{part, turned, Closed, closed, Both, both, OnlyCounted, only-counted, Kept, kept}
@@ -97,39 +97,37 @@ held-initialised d r h =
     or-left (d .units .initialised) (unitsFresh (d .units) && addressingFresh d) (parts (unitsFit (d .units)) (initialisedOrFresh d) r .1)
     (λ i. fresh-idle (d .units) h (parts (unitsFresh (d .units)) (addressingFresh d) i .0))
 
--- a bad frame is held only to be saved
-frame-saved : (f : Frame) → frameFits f ≡ true → (isGood f || f .savebad) ≡ true
-unfolding frameFits
-frame-saved f h = parts (sized (f .length)) (isGood f || f .savebad) h .1
-
-unit-saved : (u : Ru) (f : Frame) → heldIn u ≡ f ∷ [] → ruFits u ≡ true → (isGood f || f .savebad) ≡ true
+-- a frame that is held is in range
+unit-fits : (u : Ru) (f : Frame) → heldIn u ≡ f ∷ [] → ruFits u ≡ true → frameFits f ≡ true
 unfolding ruFits
-unit-saved ru.Idle f h r = absurd (none≢one h)
-unit-saved ru.NoResources f h r = absurd (none≢one h)
-unit-saved (ru.Suspended fd) f h r = absurd (none≢one h)
-unit-saved (ru.Ready fd) f h r = absurd (none≢one h)
-unit-saved (ru.Held fd g p) f h r = frame-saved f (ap frameFits (sym (same-frame f g h)) ∙ r)
-unit-saved (ru.Filling s w) f h r =
-    frame-saved f
-    (ap frameFits (sym (same-frame f (s .frame) h))
+unit-fits ru.Idle f h r = absurd (none≢one h)
+unit-fits ru.NoResources f h r = absurd (none≢one h)
+unit-fits (ru.Suspended fd) f h r = absurd (none≢one h)
+unit-fits (ru.Ready fd) f h r = absurd (none≢one h)
+unit-fits (ru.Held fd g p) f h r = ap frameFits (sym (same-frame f g h)) ∙ r
+unit-fits (ru.Filling s w) f h r =
+    let least = leb (unbuffered (s .frame .form)) (w .filled) in
+    ap frameFits (sym (same-frame f (s .frame) h))
     ∙ parts (frameFits (s .frame)) (hasNext w)
-    (parts (frameFits (s .frame) && hasNext w) (leb header (w .filled))
-    (parts (frameFits (s .frame) && hasNext w && leb header (w .filled)) (ltb (w .filled) (s .frame .length)) r .0)
-    .0)
-    .0)
-unit-saved (ru.Closing s free full) f h r =
-    frame-saved f
-    (ap frameFits (sym (same-frame f (s .frame) h)) ∙ parts (frameFits (s .frame)) (ltb header (s .frame .length) || not full) r .0)
-unit-saved (ru.Lacking s) f h r =
-    frame-saved f (ap frameFits (sym (same-frame f (s .frame) h)) ∙ parts (frameFits (s .frame)) (ltb header (s .frame .length)) r .0)
+    (parts (frameFits (s .frame) && hasNext w) least (parts (frameFits (s .frame) && hasNext w && least) (ltb (w .filled) (s .frame .length)) r .0) .0)
+    .0
+unit-fits (ru.Closing s free full) f h r =
+    ap frameFits (sym (same-frame f (s .frame) h)) ∙ parts (frameFits (s .frame)) (hasData (s .frame) || not full) r .0
+unit-fits (ru.Lacking s) f h r = ap frameFits (sym (same-frame f (s .frame) h)) ∙ parts (frameFits (s .frame)) (hasData (s .frame)) r .0
 
 units-fit : (u : Units) → unitsFit u ≡ true → ruFits (u .ru) ≡ true
 unfolding unitsFit
-units-fit u h = parts (ltb (u .base .0) 16777216 && cuFits (u .cu)) (ruFits (u .ru)) h .1
+units-fit u h =
+    parts (ltb (u .base .0) 16777216 && formFits (u .settings .form) && cuFits (u .settings .form) (u .cu)) (ruFits (u .ru)) h .1
 
-pub held-saved : (d : Device) (f : Frame) → inRange d ≡ true → heldIn (d .units .ru) ≡ f ∷ [] → (isGood f || f .savebad) ≡ true
+pub held-fits : (d : Device) (f : Frame) → inRange d ≡ true → heldIn (d .units .ru) ≡ f ∷ [] → frameFits f ≡ true
 unfolding inRange
-held-saved d f r h = unit-saved (d .units .ru) f h (units-fit (d .units) (parts (unitsFit (d .units)) (initialisedOrFresh d) r .0))
+held-fits d f r h = unit-fits (d .units .ru) f h (units-fit (d .units) (parts (unitsFit (d .units)) (initialisedOrFresh d) r .0))
+
+-- a bad one is held only to be saved
+pub held-saved : (d : Device) (f : Frame) → inRange d ≡ true → heldIn (d .units .ru) ≡ f ∷ [] → (isGood f || f .savebad) ≡ true
+unfolding frameFits
+held-saved d f r h = parts (formFits (f .form) && sizedFrom (header (f .form .length)) (f .length)) (isGood f || f .savebad) (held-fits d f r h) .1
 
 -- ---- what every held frame can come to, good or bad
 
@@ -161,7 +159,7 @@ arrival-fate false true (ru.Lacking s) j f h = (refl, refl)
 at-arrival : (w : World) (f : Frame) (bs : List ℕ) (v : ℕ) → heldIn (unitOf w) ≡ f ∷ [] → StaysHeld f w (chip.arrivalOf w bs v)
 unfolding chip.arrivalOf chip.arrival arrivals.arrival arrivals.fateOf
 at-arrival w f bs v h =
-    let few = ltb (length bs) header in
+    let few = ltb (length bs) (headerIn w) in
     let matched = matches (settingsOf w) (w .device .own) (w .device .filter) bs in
     let j = arrivals.judged (settingsOf w) bs v in
     let k = arrival-fate few matched (unitOf w) j f h in
@@ -172,7 +170,7 @@ arrival-untouched : (w : World) (f : Frame) (bs : List ℕ) (v : ℕ) → heldIn
     → chip.arrivalOf w bs v .outcome .device .units .ru ≡ unitOf w
 unfolding chip.arrivalOf chip.arrival arrivals.arrival arrivals.fateOf
 arrival-untouched w f bs v h =
-    let few = ltb (length bs) header in
+    let few = ltb (length bs) (headerIn w) in
     let matched = matches (settingsOf w) (w .device .own) (w .device .filter) bs in
     rw (arrival-fate few matched (unitOf w) (arrivals.judged (settingsOf w) bs v) f h .0)
 

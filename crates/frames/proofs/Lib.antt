@@ -1,6 +1,6 @@
 -- Demand 2 of frames. Which are addressed to us: `Filtered`. At an arrival: `Arrival.arrival-fate`, and a theorem for each class of frames; why it is
 -- dropped: `Reasons`. At every call while a frame is held: `Held.good-held`, `Held.bad-held`; as facts about memory at exit `Stands.good-exit`,
--- `Stands.bad-exit`, and when their premise is met, `Clear`.
+-- `Stands.bad-exit`, and when their premise is met, `Clear`; the header in the descriptor, part by part, `Parts`.
 -- What the buffers get, put together: `Data.delivered`, `Data.arrived`, on bytes `Data.delivered-on-bytes`, `Data.arrived-on-bytes`.
 -- Over whole traces: `Fates.conserved`, `Fates.exactly-one`, `Fates.all-fates`, `Fates.all-proper`.
 -- Over calls on the areas that are lent: an arrival, `Arrived`; all, `OnBytes`.
@@ -12,6 +12,7 @@ pub mod Filtered
 pub mod Sound
 pub mod Stands
 pub mod Clear
+pub mod Parts
 pub mod Data
 pub mod Fates
 pub mod Arrived

@@ -11,7 +11,6 @@ use Rattle.memory.specs.declared.Offset.{Offset}
 use Rattle.scb.specs.Control.{Code, codeOf, start, resume, suspend, abort, other}
 use Rattle.scb.specs.Words.{resets, ruc, cuNumber, ruNumber, eventBits}
 use Rattle.device.specs.Answers.{isHeld}
-use Rattle.device.specs.Limits.{header}
 use Rattle.device.specs.State.{cuState, ruState, heldIn, isGood, fresh, cuWorks, ruWorks}
 use Rattle.device.proofs.Laws.{none-held}
 use Rattle.device.specs.declared.Counter.{Counter}
@@ -34,7 +33,7 @@ use Rattle.chip.specs.Call.{Call, reset, attention, arrive, turn, ran}
 use Rattle.chip.specs.Turn.{servedBy, turnBy, turnOf, commandTurn, receiveTurn, concluded}
 use Rattle.chip.specs.World.{World, Ran, resetOf}
 use Rattle.filter.specs.Match.{matches}
-use Rattle.frames.specs.Arrival.{unitOf, settingsOf}
+use Rattle.frames.specs.Arrival.{unitOf, settingsOf, headerIn}
 use Rattle.frames.specs.Held.{ofHeld, chosen, heldFates, FatesOfHeld, commandOf, loses, unitAfter, Lost, by-resetting, by-abort, GoodFate, BadFate}
 use Rattle.frames.specs.Held as held
 use Rattle.frames.proofs.End.{none-after, none-left}
@@ -362,7 +361,7 @@ arrival-saved few matched u j s (comes k e g) =
 arrival-sound : (w : World) (f : List ℕ) (v : ℕ) → Sound (w .device) → Sound (chip.arrivalOf w f v .outcome .device)
 unfolding chip.arrivalOf chip.arrival arrivals.arrival arrivals.fateOf arrived
 arrival-sound w f v s =
-    let few = ltb (length f) header in
+    let few = ltb (length f) (headerIn w) in
     let m = matches (settingsOf w) (w .device .own) (w .device .filter) f in
     let j = arrivals.judged (settingsOf w) f v in
     record {

@@ -13,7 +13,8 @@ use Rattle.memory.proofs.Laws.{apply-append, length-apply, length-putBytes}
 use Rattle.memory.proofs.Power.{allowed}
 use Rattle.memory.specs.declared.Offset.{Offset}
 use Rattle.scb.specs.Words.{bit, scbStatusAt}
-use Rattle.device.specs.Limits.{header, holdingSize}
+use Rattle.device.specs.Header.{unbuffered}
+use Rattle.device.specs.Limits.{holdingSize}
 use Rattle.device.specs.State.{heldIn, isGood}
 use Rattle.device.specs.declared.Frame.{Frame}
 use Rattle.device.specs.declared.Ru.{Ru}
@@ -22,6 +23,8 @@ use Rattle.device.specs.declared.Storing.{Storing}
 use Rattle.device.specs.declared.Verdict.{Verdict}
 use Rattle.device.specs.declared.Verdict.the-variants as verdict
 use Rattle.image.specs.Ranges.{inRange}
+use Rattle.image.proofs.Exact.{frame-form}
+use Rattle.closure.proofs.Units.{unbuffered-most}
 use Rattle.receive.specs.Begin.{isBare}
 use Rattle.receive.specs.End.{frameStatus, bareMark}
 use Rattle.chip.specs.Call.{Call, ran}
@@ -32,7 +35,7 @@ use Rattle.frames.specs.Held as held
 use Rattle.frames.specs.Stands.{Separate, StoredStands, Piece, piece, Away, NoOverlap, nextFirst, barePiece, onwardPiece, countPiece}
 use Rattle.frames.specs.Stands.{statusPiece, lackingPieces, pieces, CounterStands, CountersStand, CountedStands, GoodExit, BadExit}
 use Rattle.frames.specs.Stands as exit
-use Rattle.frames.proofs.Held.{good-held, bad-held}
+use Rattle.frames.proofs.Held.{held-fits, good-held, bad-held}
 
 -- ---- what is written stands at the end, if no later write meets it
 
@@ -100,11 +103,13 @@ word-by false false verdict.Misaligned f a b = rw (a, b)
 
 pub stored-stands : (lacking : Bool) (s : Storing) (rest : List Write) (w : World) (r : Ran) → Stored lacking s rest w r
     → length (w .holding) ≡ holdingSize
-    → header ≤ length (w .memory)
+    → unbuffered (s .frame .form) ≤ 14
+    → 14 ≤ length (w .memory)
     → Separate (length (w .memory)) (headerTo w s ∷ markTo w s (frameStatus lacking (s .frame)) ∷ rest)
     → StoredStands lacking s w r
-stored-stands lacking s rest w r x h l p =
-    let n = length-take-le header (w .holding) (omega arith) in
+stored-stands lacking s rest w r x h f l p =
+    let u = unbuffered (s .frame .form) in
+    let n = length-take-le u (w .holding) (omega arith) in
     let status = frameStatus lacking (s .frame) in
     let d = length-digits 2 status in
     let e : wordAt (r .memory) (inFrame w s 0) ≡ status =
@@ -115,11 +120,11 @@ stored-stands lacking s rest w r x h l p =
     in
     record {
       bytes =
-          ap (λ (m : List ℕ). bytesAt m (inFrame w s 8) header) (x .memory)
+          ap (λ (m : List ℕ). bytesAt m (inFrame w s 8) u) (x .memory)
           ∙ subst
-          (λ (k : ℕ). bytesAt (apply (headerTo w s ∷ markTo w s status ∷ rest) (w .memory)) (inFrame w s 8) k ≡ take header (w .holding))
+          (λ (k : ℕ). bytesAt (apply (headerTo w s ∷ markTo w s status ∷ rest) (w .memory)) (inFrame w s 8) k ≡ take u (w .holding))
           n
-          (stands [] (headerTo w s) (markTo w s status ∷ rest) (w .memory) (omega arith) (p .0));
+          (stands [] (headerTo w s) (markTo w s status ∷ rest) (w .memory) (omega (arith, n)) (p .0));
       status = e;
       complete = ap (λ (k : ℕ). bit k 15) e ∙ x .complete;
       lacks = ap (λ (k : ℕ). bit k 9) e ∙ x .lacks;
@@ -167,9 +172,10 @@ word-piece : (a v : ℕ) → pieceOf (wordTo a v) ≡ piece a 2
 unfolding pieceOf
 word-piece a v = ap (piece a) (length-digits 2 v)
 
-header-piece : (w : World) (s : Storing) → length (w .holding) ≡ holdingSize → pieceOf (headerTo w s) ≡ piece (inFrame w s 8) header
+header-piece : (w : World) (s : Storing) → length (w .holding) ≡ holdingSize → unbuffered (s .frame .form) ≤ 14
+    → pieceOf (headerTo w s) ≡ piece (inFrame w s 8) (unbuffered (s .frame .form))
 unfolding pieceOf
-header-piece w s h = ap (piece (inFrame w s 8)) (length-take-le header (w .holding) (omega arith))
+header-piece w s h f = ap (piece (inFrame w s 8)) (length-take-le (unbuffered (s .frame .form)) (w .holding) (omega arith))
 
 status-piece : (w : World) (r : Ran) → piecesOf (statusAfter w r) ≡ statusPiece w ∷ []
 unfolding piecesOf
@@ -184,13 +190,14 @@ front3 x y z t = ap₂ (λ (p : Piece) (l : List Piece). p ∷ l) x (front2 y z 
 -- ---- the writes of an end turn lie where the pieces are
 
 ending-pieces : (b : Bool) (w : World) (s : Storing) (status : ℕ) (rest : List Write) (ps : List Piece) → length (w .holding) ≡ holdingSize
+    → unbuffered (s .frame .form) ≤ 14
     → piecesOf rest ≡ ps
     → piecesOf (headerTo w s ∷ markTo w s status ∷ (bareMark b (inFrame w s 6) ++ rest))
-    ≡ piece (inFrame w s 8) header ∷ piece (inFrame w s 0) 2 ∷ (barePiece b w s ++ ps)
+    ≡ piece (inFrame w s 8) (unbuffered (s .frame .form)) ∷ piece (inFrame w s 0) 2 ∷ (barePiece b w s ++ ps)
 unfolding piecesOf
-ending-pieces true w s status rest ps h e =
-    front3 (header-piece w s h) (word-piece (inFrame w s 0) status) (word-piece (inFrame w s 6) 0xFFFF) e
-ending-pieces false w s status rest ps h e = front2 (header-piece w s h) (word-piece (inFrame w s 0) status) e
+ending-pieces true w s status rest ps h u e =
+    front3 (header-piece w s h u) (word-piece (inFrame w s 0) status) (word-piece (inFrame w s 6) 0xFFFF) e
+ending-pieces false w s status rest ps h u e = front2 (header-piece w s h u) (word-piece (inFrame w s 0) status) e
 
 onward-pieces : (x : Bool) (w : World) (r : Ran) (s : Storing) (free : Offset)
     → piecesOf (onwardBy x w s free ++ statusAfter w r) ≡ onwardPiece x w s ++ statusPiece w ∷ []
@@ -203,12 +210,13 @@ unfolding piecesOf
 count-pieces w r v = ap₂ (λ (a : Piece) (l : List Piece). a ∷ l) (word-piece (inScb w 12) v) (status-piece w r)
 
 -- all being stored; out of buffers, a good frame and a bad one
-closing-pieces : (w : World) (r : Ran) (s : Storing) (free : Offset) (full : Bool) → length (w .holding) ≡ holdingSize → unitOf w ≡ ru.Closing s free full
+closing-pieces : (w : World) (r : Ran) (s : Storing) (free : Offset) (full : Bool) → length (w .holding) ≡ holdingSize → unbuffered (s .frame .form) ≤ 14
+    → unitOf w ≡ ru.Closing s free full
     → piecesOf (headerTo w s ∷ markTo w s (frameStatus false (s .frame)) ∷ (bareTo w s ++ (onward w s free full ++ statusAfter w r))) ≡ pieces (unitOf w) w
-closing-pieces w r s free full h e =
+closing-pieces w r s free full h u e =
     let x = s .el || full in
     ending-pieces (isBare (s .frame)) w s (frameStatus false (s .frame)) (onward w s free full ++ statusAfter w r)
-    (onwardPiece x w s ++ statusPiece w ∷ []) h (onward-pieces x w r s free)
+    (onwardPiece x w s ++ statusPiece w ∷ []) h u (onward-pieces x w r s free)
     ∙ sym (ap (λ (u : Ru). pieces u w) e)
 
 lacking-pieces : (w : World) (s : Storing) (f : Frame) (good saved : Bool) → unitOf w ≡ ru.Lacking s → s .frame ≡ f → isGood f ≡ good → f .savebad ≡ saved
@@ -223,19 +231,19 @@ unfolding piecesOf
 counted-pieces w r s f v e q g b =
     front2 (word-piece (inFrame w s 0) 0x0000) (word-piece (inScb w 12) v) (status-piece w r) ∙ lacking-pieces w s f true false e q g b
 
-both-pieces : (w : World) (r : Ran) (s : Storing) (f : Frame) (v : ℕ) → length (w .holding) ≡ holdingSize → unitOf w ≡ ru.Lacking s → s .frame ≡ f
+both-pieces : (w : World) (r : Ran) (s : Storing) (f : Frame) (v : ℕ) → length (w .holding) ≡ holdingSize → unbuffered (s .frame .form) ≤ 14 → unitOf w ≡ ru.Lacking s → s .frame ≡ f
     → isGood f ≡ true → f .savebad ≡ true
     → piecesOf (headerTo w s ∷ markTo w s (frameStatus true (s .frame)) ∷ (bareTo w s ++ (wordTo (inScb w 12) v ∷ statusAfter w r))) ≡ pieces (unitOf w) w
-both-pieces w r s f v h e q g b =
+both-pieces w r s f v h u e q g b =
     ending-pieces (isBare (s .frame)) w s (frameStatus true (s .frame)) (wordTo (inScb w 12) v ∷ statusAfter w r)
-    (countPiece w ∷ statusPiece w ∷ []) h (count-pieces w r v)
+    (countPiece w ∷ statusPiece w ∷ []) h u (count-pieces w r v)
     ∙ lacking-pieces w s f true true e q g b
 
-saved-pieces : (w : World) (r : Ran) (s : Storing) (f : Frame) → length (w .holding) ≡ holdingSize → unitOf w ≡ ru.Lacking s → s .frame ≡ f
+saved-pieces : (w : World) (r : Ran) (s : Storing) (f : Frame) → length (w .holding) ≡ holdingSize → unbuffered (s .frame .form) ≤ 14 → unitOf w ≡ ru.Lacking s → s .frame ≡ f
     → isGood f ≡ false
     → piecesOf (headerTo w s ∷ markTo w s (frameStatus true (s .frame)) ∷ (bareTo w s ++ statusAfter w r)) ≡ pieces (unitOf w) w
-saved-pieces w r s f h e q g =
-    ending-pieces (isBare (s .frame)) w s (frameStatus true (s .frame)) (statusAfter w r) (statusPiece w ∷ []) h (status-piece w r)
+saved-pieces w r s f h u e q g =
+    ending-pieces (isBare (s .frame)) w s (frameStatus true (s .frame)) (statusAfter w r) (statusPiece w ∷ []) h u (status-piece w r)
     ∙ lacking-pieces w s f false (f .savebad) e q g refl
 
 -- ---- so where no piece lies over another what is written stands, and so does a counter that no piece lies over
@@ -280,24 +288,30 @@ cleared w r s x l p =
 
 -- ---- the demand, as facts about memory at exit
 
-exit-of : (c : Call) (w : World) (f : Frame) → length (w .holding) ≡ holdingSize → header ≤ length (w .memory) → isGood f ≡ true
+-- the frame that is being stored is the one that is held
+as-it-is : (f : Frame) (s : Storing) → s .frame ≡ f → unbuffered (f .form) ≤ 14 → unbuffered (s .frame .form) ≤ 14
+as-it-is f s q u = subst (λ (x : Frame). unbuffered (x .form) ≤ 14) (sym q) u
+
+exit-of : (c : Call) (w : World) (f : Frame) → length (w .holding) ≡ holdingSize → unbuffered (f .form) ≤ 14 → 14 ≤ length (w .memory) → isGood f ≡ true
     → NoOverlap (length (w .memory)) (pieces (unitOf w) w)
     → GoodFate f c w
     → GoodExit f c w
-exit-of c w f h l g p (held.stays a b k m) = exit.stays a b k m
-exit-of c w f h l g p (held.stored s free full n e q x k z) =
-    let o = closing-pieces w (ran c w) s free full h e in
-    exit.stored s free full n e q x (stored-stands false s _ w (ran c w) k h l (separate-at (length (w .memory)) _ (pieces (unitOf w) w) o p))
+exit-of c w f h u l g p (held.stays a b k m) = exit.stays a b k m
+exit-of c w f h u l g p (held.stored s free full n e q x k z) =
+    let v = as-it-is f s q u in
+    let o = closing-pieces w (ran c w) s free full h v e in
+    exit.stored s free full n e q x (stored-stands false s _ w (ran c w) k h v l (separate-at (length (w .memory)) _ (pieces (unitOf w) w) o p))
     (counters-stand _ w (ran c w) o (k .memory)) z
-exit-of c w f h l g p (held.counted s n e q b x k z) =
+exit-of c w f h u l g p (held.counted s n e q b x k z) =
     let o = counted-pieces w (ran c w) s f _ e q g b in
     exit.counted s n e q b x (cleared w (ran c w) s k (omega arith) (separate-at (length (w .memory)) _ (pieces (unitOf w) w) o p))
     (counted-stands (markTo w s 0x0000 ∷ []) w (ran c w) k (omega arith) o p) z
-exit-of c w f h l g p (held.both s n e q b x k j z) =
-    let o = both-pieces w (ran c w) s f ((wordAt (apply (described true w s) (w .memory)) (inScb w 12) + 1) % 65536) h e q g b in
-    exit.both s n e q b x (stored-stands true s _ w (ran c w) k h l (separate-at (length (w .memory)) _ (pieces (unitOf w) w) o p))
+exit-of c w f h u l g p (held.both s n e q b x k j z) =
+    let v = as-it-is f s q u in
+    let o = both-pieces w (ran c w) s f ((wordAt (apply (described true w s) (w .memory)) (inScb w 12) + 1) % 65536) h v e q g b in
+    exit.both s n e q b x (stored-stands true s _ w (ran c w) k h v l (separate-at (length (w .memory)) _ (pieces (unitOf w) w) o p))
     (counted-stands (described true w s) w (ran c w) j (omega arith) o p) z
-exit-of c w f h l g p (held.lost a k) = exit.lost a k
+exit-of c w f h u l g p (held.lost a k) = exit.lost a k
 
 -- every call that is not refused, while a good frame is held, where no piece that is written lies over another
 pub good-exit : (c : Call) (w : World) (f : Frame) → RightLengths w [] → inRange (w .device) ≡ true → heldIn (unitOf w) ≡ f ∷ [] → isGood f ≡ true
@@ -305,24 +319,26 @@ pub good-exit : (c : Call) (w : World) (f : Frame) → RightLengths w [] → inR
     → GoodExit f c w
 good-exit c w f l r h g p =
     let least = allowed (length (w .memory)) (l .size) .least in
-    exit-of c w f (l .area) (omega arith) g p (good-held c w f r h g)
+    exit-of c w f (l .area) (unbuffered-most (f .form) (frame-form f (held-fits (w .device) f r h))) (omega arith) g p (good-held c w f r h g)
 
 -- ---- a bad frame
 
-bad-exit-of : (c : Call) (w : World) (f : Frame) → length (w .holding) ≡ holdingSize → header ≤ length (w .memory) → isGood f ≡ false
+bad-exit-of : (c : Call) (w : World) (f : Frame) → length (w .holding) ≡ holdingSize → unbuffered (f .form) ≤ 14 → 14 ≤ length (w .memory) → isGood f ≡ false
     → NoOverlap (length (w .memory)) (pieces (unitOf w) w)
     → BadFate f c w
     → BadExit f c w
-bad-exit-of c w f h l g p (held.stays a b k m) = exit.stays a b k m
-bad-exit-of c w f h l g p (held.stored s free full n e q x k z) =
-    let o = closing-pieces w (ran c w) s free full h e in
-    exit.stored s free full n e q x (stored-stands false s _ w (ran c w) k h l (separate-at (length (w .memory)) _ (pieces (unitOf w) w) o p))
+bad-exit-of c w f h u l g p (held.stays a b k m) = exit.stays a b k m
+bad-exit-of c w f h u l g p (held.stored s free full n e q x k z) =
+    let v = as-it-is f s q u in
+    let o = closing-pieces w (ran c w) s free full h v e in
+    exit.stored s free full n e q x (stored-stands false s _ w (ran c w) k h v l (separate-at (length (w .memory)) _ (pieces (unitOf w) w) o p))
     (counters-stand _ w (ran c w) o (k .memory)) z
-bad-exit-of c w f h l g p (held.lacking s n e q x k z) =
-    let o = saved-pieces w (ran c w) s f h e q g in
-    exit.lacking s n e q x (stored-stands true s _ w (ran c w) k h l (separate-at (length (w .memory)) _ (pieces (unitOf w) w) o p))
+bad-exit-of c w f h u l g p (held.lacking s n e q x k z) =
+    let v = as-it-is f s q u in
+    let o = saved-pieces w (ran c w) s f h v e q g in
+    exit.lacking s n e q x (stored-stands true s _ w (ran c w) k h v l (separate-at (length (w .memory)) _ (pieces (unitOf w) w) o p))
     (counters-stand _ w (ran c w) o (k .memory)) z
-bad-exit-of c w f h l g p (held.lost a k) = exit.lost a k
+bad-exit-of c w f h u l g p (held.lost a k) = exit.lost a k
 
 -- every call that is not refused, while a bad frame is held, where no piece that is written lies over another
 pub bad-exit : (c : Call) (w : World) (f : Frame) → RightLengths w [] → inRange (w .device) ≡ true → heldIn (unitOf w) ≡ f ∷ [] → isGood f ≡ false
@@ -330,4 +346,4 @@ pub bad-exit : (c : Call) (w : World) (f : Frame) → RightLengths w [] → inRa
     → BadExit f c w
 bad-exit c w f l r h g p =
     let least = allowed (length (w .memory)) (l .size) .least in
-    bad-exit-of c w f (l .area) (omega arith) g p (bad-held c w f r h g)
+    bad-exit-of c w f (l .area) (unbuffered-most (f .form) (frame-form f (held-fits (w .device) f r h))) (omega arith) g p (bad-held c w f r h g)

@@ -10,7 +10,8 @@ use Rattle.memory.specs.declared.Offset.{Offset}
 use Rattle.memory.proofs.Fields.{Apart}
 use Rattle.device.specs.Answers.{arrived}
 use Rattle.device.specs.Change.{withRu, withUnits}
-use Rattle.device.specs.Limits.{header, holdingSize, fcs}
+use Rattle.device.specs.Header.{header}
+use Rattle.device.specs.Limits.{holdingSize, fcs}
 use Rattle.device.specs.Numbers.{verdictOf}
 use Rattle.device.specs.State.{isHolding}
 use Rattle.device.specs.declared.Counter.{Counter}
@@ -41,6 +42,13 @@ pub record RightLengths (w : World) (f : List ℕ) : Type 0 where
 abbrev pub settingsOf : World → Settings
 settingsOf w = w .device .units .settings
 
+-- the address length in force, and the header by it
+abbrev pub lengthIn : World → ℕ
+lengthIn w = settingsOf w .form .length
+
+abbrev pub headerIn : World → ℕ
+headerIn w = header (lengthIn w)
+
 abbrev pub unitOf : World → Ru
 unitOf w = w .device .units .ru
 
@@ -48,9 +56,9 @@ unitOf w = w .device .units .ru
 abbrev pub isOurs : World → List ℕ → Bool
 isOurs w f = matches (settingsOf w) (w .device .own) (w .device .filter) f
 
--- addressed to us, of 14 bytes or more
+-- addressed to us, not shorter than the header
 pub record Ours (w : World) (f : List ℕ) : Type 0 where
-  pub enough : header ≤ length f
+  pub enough : headerIn w ≤ length f
   pub matched : isOurs w f ≡ true
 
 -- short: bytes plus 4 below the minimum, by the settings at arrival
@@ -118,14 +126,15 @@ shortBy counter.Overruns = false
 
 -- how a frame is judged: once, by the settings at arrival
 abbrev pub judgedAs : World → List ℕ → Verdict → Bool → Frame
-judgedAs w f v isShort = record { length = length f; verdict = v; short = isShort; savebad = settingsOf w .savebad }
+judgedAs w f v isShort =
+    record { length = length f; verdict = v; short = isShort; savebad = settingsOf w .savebad; form = settingsOf w .form }
 
 -- ---- every class of frames, in the order of the rules, and what it comes to
 
 pub data ArrivalFate (w : World) (f : List ℕ) (v : ℕ) (r : Ran) : Type 0 where
-  -- under 14 bytes, dropped. No match, dropped. RU Idle or Suspended, dropped
-  few : length f < header → NotHeld w fate.TooFew reason.TooFew counter.Uncounted r → ArrivalFate w f v r
-  unmatched : header ≤ length f → isOurs w f ≡ false → NotHeld w fate.NoMatch reason.NoMatch counter.Uncounted r → ArrivalFate w f v r
+  -- shorter than the header, dropped. No match, dropped. RU Idle or Suspended, dropped
+  few : length f < headerIn w → NotHeld w fate.TooFew reason.TooFew counter.Uncounted r → ArrivalFate w f v r
+  unmatched : headerIn w ≤ length f → isOurs w f ≡ false → NotHeld w fate.NoMatch reason.NoMatch counter.Uncounted r → ArrivalFate w f v r
   idle : Ours w f → unitOf w ≡ ru.Idle → NotHeld w fate.UnitIdle reason.UnitIdle counter.Uncounted r → ArrivalFate w f v r
   suspended : (fd : Offset) → Ours w f → unitOf w ≡ ru.Suspended fd → NotHeld w fate.UnitSuspended reason.UnitSuspended counter.Uncounted r → ArrivalFate w f v r
   -- a frame already held: OVRNERRS, which is no reason

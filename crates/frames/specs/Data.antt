@@ -7,7 +7,8 @@ use Prim.Native.Nat.{ℕ, _+_, _-_, _<_}
 use lib.ListN.{length, take, drop}
 use Rattle.memory.specs.Memory.{Write}
 use Rattle.memory.specs.declared.Offset.{Offset}
-use Rattle.device.specs.Limits.{header, heldFrom}
+use Rattle.device.specs.Header.{unbuffered}
+use Rattle.device.specs.Limits.{heldFrom}
 use Rattle.device.specs.State.{heldIn, isGood}
 use Rattle.device.specs.declared.Frame.{Frame}
 use Rattle.device.specs.declared.Ru.{Ru}
@@ -23,7 +24,7 @@ use Rattle.traces.specs.Bytes.{called, isRefused}
 use Rattle.traces.specs.Driven.{Lending, hostOf, eventsOf}
 use Rattle.traces.specs.Event.{Event, call, host, step}
 use Rattle.traces.specs.Told.{AllSaid}
-use Rattle.frames.specs.Arrival.{unitOf}
+use Rattle.frames.specs.Arrival.{settingsOf, unitOf}
 use Rattle.frames.specs.Held.{loses, ends, isServed, dataTo, Meanwhile, GoodFate, BadFate}
 
 -- ---- which events leave the frame held, and its bytes alone
@@ -70,20 +71,20 @@ AllMeanwhile f (host m h out ∷ es) w = AllMeanwhile f es (step (host m h out) 
 
 -- ---- the data of a frame
 
--- of a frame that begins at `at` in an area: what of its first n bytes stands behind its header of h bytes
+-- of a frame that begins at `at` in an area: what of its first n bytes stands behind h bytes, which go to no buffer
 abbrev pub dataWithin : (at h n : ℕ) → List ℕ → List ℕ
 dataWithin at h n area = take (n - h) (drop (at + h) area)
 
--- all of it
+-- all of it: what is behind the header; with location 1 the whole frame
 abbrev pub dataOf : Frame → List ℕ → List ℕ
-dataOf f area = dataWithin heldFrom header (f .length) area
+dataOf f area = dataWithin heldFrom (unbuffered (f .form)) (f .length) area
 
 -- ---- when the end turn is next
 
 -- buffers enough: the buffers got all of the data. Out of buffers: so many bytes of it from its beginning, and fewer than it has
 pub data Got (f : Frame) (whole got : List ℕ) (u : Ru) : Type 0 where
   all : (s : Storing) (free : Offset) (full : Bool) → u ≡ ru.Closing s free full → s .frame ≡ f → got ≡ whole → Got f whole got u
-  beginning : (s : Storing) (n : ℕ) → u ≡ ru.Lacking s → s .frame ≡ f → n < f .length - header → got ≡ take n whole
+  beginning : (s : Storing) (n : ℕ) → u ≡ ru.Lacking s → s .frame ≡ f → n < f .length - unbuffered (f .form) → got ≡ take n whole
       → Got f whole got u
 
 -- the frame f, whose data is `whole`, was held along the events of a trace, and the turn that comes next ends it: that turn finds its bytes in the
@@ -95,14 +96,16 @@ pub record Delivered (f : Frame) (whole : List ℕ) (es : List Event) (w : World
   pub good : isGood f ≡ true → GoodFate f (turn report) (run step es w)
   pub bad : isGood f ≡ false → BadFate f (turn report) (run step es w)
 
--- the same of the very bytes that arrived, w being the world after their arrival: the data is what they have behind the header, and the header bytes
--- that the end writes, the first of the holding area, are their first
+-- the same of the very bytes that arrived, w being the world after their arrival: 02, Wish 4: "A held frame is stored by the length and location it
+-- arrived under, whatever Configure has said since". The data is what they have behind the header, with location 1 all of them, and the header bytes that
+-- the end writes, the first of the holding area, are their first
 pub record ArrivedDelivered (bs : List ℕ) (es : List Event) (w : World) (report : ℕ) : Type 0 where
   pub frame : Frame
   pub held : heldIn (unitOf w) ≡ frame ∷ []
   pub bytes : frame .length ≡ length bs
-  pub first : take header (run step es w .holding) ≡ take header bs
-  pub delivered : Delivered frame (drop header bs) es w report
+  pub form : frame .form ≡ settingsOf w .form
+  pub first : take (unbuffered (frame .form)) (run step es w .holding) ≡ take (unbuffered (frame .form)) bs
+  pub delivered : Delivered frame (drop (unbuffered (frame .form)) bs) es w report
 
 -- ---- on the calls, each with what it is lent
 

@@ -16,7 +16,7 @@ use Rattle.chip.specs.Call.{Call, reset, attention, arrive, turn, ran}
 use Rattle.chip.specs.Turn.{servedOf, isCommand, turnOf}
 use Rattle.chip.specs.World.{World, afterwards}
 use Rattle.chip.specs.declared.Served.the-variants as served
-use Rattle.frames.specs.Arrival.{settingsOf}
+use Rattle.frames.specs.Arrival.{settingsOf, lengthIn}
 use Rattle.frames.specs.Held.{commandOf}
 
 -- ---- a turn that ends an MC-Setup
@@ -30,11 +30,12 @@ pub record EndsMcSetup (w : World) (b : Begun) : Type 0 where
 abbrev pub leftBy : World → ℕ → World
 leftBy w report = afterwards (turnOf w report)
 
--- one of the addresses in its block falls on bit k
+-- one of the addresses in its block, of the length in force, falls on bit k
 abbrev pub FallsIn : World → Begun → ℕ → Type 0
 FallsIn w b k =
     let base = w .device .units .base in
-    Falls (w .memory) (place base (b .block) destinationAt) (groups base (b .block) (w .memory)) k
+    let l = lengthIn w in
+    Falls l (w .memory) (place base (b .block) destinationAt) (groups l base (b .block) (w .memory)) k
 
 -- settings and own address are as they were; of the filter a bit is set exactly if an address falls on it, whatever the old one had
 pub record SetUpBy (w : World) (b : Begun) (after : World) : Type 0 where

@@ -13,7 +13,8 @@ use Rattle.scb.specs.Words.{bit, scbStatusAt, scbCommandAt, statusWord, resets,
 use Rattle.scb.specs.declared.Events.{Events}
 use Rattle.device.specs.Answers.{answered}
 use Rattle.device.specs.Change.{withRu, servedRu, withUnits}
-use Rattle.device.specs.Limits.{header, heldFrom, mostBuffers}
+use Rattle.device.specs.Header.{unbuffered}
+use Rattle.device.specs.Limits.{heldFrom, mostBuffers}
 use Rattle.device.specs.State.{cuState, ruState, isReady, heldIn, fresh}
 use Rattle.device.specs.declared.Fate.{Fate}
 use Rattle.device.specs.declared.Fate.the-variants as fate
@@ -202,9 +203,9 @@ pub record FatesOfHeld (w : World) (r : Ran) : Type 0 where
 abbrev pub inFrame : World → Storing → ℕ → ℕ
 inFrame w s field = place (w .device .units .base) (s .fd) field
 
--- fourteen header bytes, from the holding area; the status
+-- the header bytes, by the form that the frame arrived under (with location 1 none), from the holding area; the status
 abbrev pub headerTo : World → Storing → Write
-headerTo w s = bytesTo (inFrame w s 8) (take header (w .holding))
+headerTo w s = bytesTo (inFrame w s 8) (take (unbuffered (s .frame .form)) (w .holding))
 
 abbrev pub markTo : World → Storing → ℕ → Write
 markTo w s status = wordTo (inFrame w s 0) status
@@ -236,7 +237,7 @@ statusAfter w r =
 
 -- ---- stored, counted
 
--- stored: the turn's writes contain the 14 header bytes from the holding area and the status word with C (and bit 9 exactly if out of buffers)
+-- stored: the turn's writes contain the header bytes from the holding area and the status word with C (and bit 9 exactly if out of buffers)
 pub record Stored (lacking : Bool) (s : Storing) (rest : List Write) (w : World) (r : Ran) : Type 0 where
   pub memory : r .memory ≡ apply (headerTo w s ∷ markTo w s (frameStatus lacking (s .frame)) ∷ rest) (w .memory)
   pub complete : bit (frameStatus lacking (s .frame)) 15 ≡ true

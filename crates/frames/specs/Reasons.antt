@@ -6,7 +6,6 @@ use Prim.Native.Nat.{ℕ, _≤_, _<_}
 use lib.ListN.{length}
 use Rattle.memory.specs.declared.Offset.{Offset}
 use Rattle.memory.proofs.Bytes.{Bytes}
-use Rattle.device.specs.Limits.{header}
 use Rattle.device.specs.Numbers.{reasonNumber}
 use Rattle.device.specs.State.{isHolding}
 use Rattle.device.specs.declared.Counter.{Counter}
@@ -20,7 +19,7 @@ use Rattle.calls.specs.Calls.{Areas}
 use Rattle.traces.specs.Areas.{AreBytes}
 use Rattle.traces.specs.Bytes.{called, isRefused}
 use Rattle.traces.specs.Bytes.{reason as reasonIn}
-use Rattle.frames.specs.Arrival.{settingsOf, unitOf, isOurs, Ours, Good, Bad}
+use Rattle.frames.specs.Arrival.{settingsOf, headerIn, unitOf, isOurs, Ours, Good, Bad}
 
 -- the reason that the answer gives
 abbrev pub whyOf : World → List ℕ → ℕ → Reason
@@ -40,10 +39,10 @@ pub data NotDropped (w : World) (f : List ℕ) (v : ℕ) : Type 0 where
   lost : unitOf w ≡ ru.NoResources → Good w f v → NotDropped w f v
   saved : (fd : Offset) (c : Counter) → unitOf w ≡ ru.Ready fd → settingsOf w .savebad ≡ true → Bad w f v c → NotDropped w f v
 
--- "under 14 bytes, dropped. No match, dropped. RU Idle or Suspended, dropped"; no frame held, and bad: whichever counter it adds to
+-- "shorter than the header" (02, Wish 4), "dropped. No match, dropped. RU Idle or Suspended, dropped"; no frame held, and bad: whichever counter it adds to
 abbrev pub Reached : Reason → World → List ℕ → ℕ → Type 0
-Reached reason.TooFew w f v = length f < header
-Reached reason.NoMatch w f v = (header ≤ length f) × (isOurs w f ≡ false)
+Reached reason.TooFew w f v = length f < headerIn w
+Reached reason.NoMatch w f v = (headerIn w ≤ length f) × (isOurs w f ≡ false)
 Reached reason.UnitIdle w f v = Ours w f × (unitOf w ≡ ru.Idle)
 Reached reason.UnitSuspended w f v = Ours w f × ((fd : Offset) × (unitOf w ≡ ru.Suspended fd))
 Reached reason.Bad w f v = Ours w f × (NotSaved w × ((c : Counter) × Bad w f v c))

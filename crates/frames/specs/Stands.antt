@@ -10,7 +10,8 @@ use Rattle.memory.specs.Memory.{Write, wordAt, bytesAt}
 use Rattle.memory.specs.declared.Offset.{Offset}
 use Rattle.memory.proofs.Fields.{Apart, AllApart}
 use Rattle.scb.specs.Words.{bit, scbStatusAt}
-use Rattle.device.specs.Limits.{header}
+use Rattle.device.specs.Header.{unbuffered}
+use Rattle.device.specs.Limits.{longestAddress}
 use Rattle.device.specs.State.{isGood}
 use Rattle.device.specs.declared.Fate.the-variants as fate
 use Rattle.device.specs.declared.Frame.{Frame}
@@ -31,7 +32,7 @@ Separate n (x ∷ xs) = AllApart n xs (x .to) (length (x .bytes)) × Separate n 
 
 -- the header bytes and the status word, with C, and with bit 9 exactly if out of buffers, stand in the frame descriptor
 pub record StoredStands (lacking : Bool) (s : Storing) (w : World) (r : Ran) : Type 0 where
-  pub bytes : bytesAt (r .memory) (inFrame w s 8) header ≡ take header (w .holding)
+  pub bytes : bytesAt (r .memory) (inFrame w s 8) (unbuffered (s .frame .form)) ≡ take (unbuffered (s .frame .form)) (w .holding)
   pub status : wordAt (r .memory) (inFrame w s 0) ≡ frameStatus lacking (s .frame)
   pub complete : bit (wordAt (r .memory) (inFrame w s 0)) 15 ≡ true
   pub lacks : bit (wordAt (r .memory) (inFrame w s 0)) 9 ≡ lacking
@@ -68,9 +69,10 @@ abbrev pub onwardPiece : (exhausted : Bool) → World → Storing → List Piece
 onwardPiece true w s = []
 onwardPiece false w s = piece (nextFirst w s) 2 ∷ []
 
--- what is written to a frame descriptor if the frame is stored, and the rest
+-- what is written to a frame descriptor if the frame is stored, and the rest; the header's piece is empty with location 1
 abbrev pub storedPieces : World → Storing → List Piece → List Piece
-storedPieces w s rest = piece (inFrame w s 8) header ∷ piece (inFrame w s 0) 2 ∷ (barePiece (isBare (s .frame)) w s ++ rest)
+storedPieces w s rest =
+    piece (inFrame w s 8) (unbuffered (s .frame .form)) ∷ piece (inFrame w s 0) 2 ∷ (barePiece (isBare (s .frame)) w s ++ rest)
 
 -- RSCERRS, the SCB status
 abbrev pub countPiece : World → Piece
@@ -177,8 +179,9 @@ pub data BadExit (f : Frame) (c : Call) (w : World) : Type 0 where
 
 -- ---- when that is so
 
--- the frame descriptor's 22 bytes and the SCB's 16 have no byte in common
+-- the frame descriptor's 22 bytes and the SCB's 16 have no byte in common; the frame's addresses have at most six bytes, as in every state in range
 pub record Clear (w : World) (s : Storing) : Type 0 where
+  pub addresses : s .frame .form .length ≤ longestAddress
   pub room : 22 ≤ length (w .memory)
   pub apart : Apart (length (w .memory)) (inFrame w s 0) 22 (inScb w 0) 16
 

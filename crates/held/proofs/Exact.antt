@@ -8,6 +8,7 @@ use native.Mathlib.Omega.{arith}
 use lib.Dec.{T, lit≤}
 use lib.ListN.{replicate}
 use Rattle.memory.specs.Memory.{wordAt}
+use Rattle.device.specs.State.{freshForm}
 use Rattle.device.specs.declared.Fate.{Fate}
 use Rattle.device.specs.declared.Fate.the-variants as fate
 use Rattle.device.specs.declared.Frame.{Frame}
@@ -45,7 +46,7 @@ begun =
     (writes (0x32 is 0xF110 ∷ []) (step (call attention) given))
 
 abbrev pub frame : Frame
-frame = record { length = 60; verdict = verdict.Good; short = false; savebad = false }
+frame = record { length = 60; verdict = verdict.Good; short = false; savebad = false; form = freshForm }
 
 pub its-frame : framesIn begun ≡ frame ∷ []
 unfolding begun passes

@@ -19,6 +19,7 @@ use Rattle.device.specs.declared.Answer.{Answer}
 use Rattle.device.specs.declared.Device.{Device}
 use Rattle.device.specs.declared.Refusal.the-variants as refusal
 use Rattle.numerals.specs.Places as places
+use Rattle.phases.specs.Forms.{formNumber}
 use Rattle.phases.specs.Phases.{cuWord, ruWord}
 use Rattle.image.specs.Image.{imageOf, headShaped, shaped, decodeFull, decodeOf}
 use Rattle.image.specs.Ranges.{cuFits, frameFits, ruFits, unitsFit, initialisedOrFresh, inRange, Wide}
@@ -117,7 +118,7 @@ unfolding device begun passes inRange unitsFit cuFits ruFits frameFits initialis
 device-range = refl
 
 device-wide : Wide device
-unfolding device begun passes cuWord ruWord
+unfolding device begun passes formNumber cuWord ruWord
 device-wide =
     record {
       scb = lit≤ tt;

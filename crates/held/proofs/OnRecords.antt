@@ -9,7 +9,7 @@ use borrow.Author.Tests.{eqb-true}
 use lib.Dec.{eqb, leb, ltb, lit≤}
 use lib.ListN.{length}
 use Rattle.memory.proofs.Bytes.{Bytes}
-use Rattle.device.specs.Limits.{header, recordSize}
+use Rattle.device.specs.Limits.{recordSize}
 use Rattle.device.specs.Numbers.{refusalNumber}
 use Rattle.device.specs.State.{isHolding, heldIn}
 use Rattle.device.specs.declared.Device.{Device}
@@ -22,7 +22,7 @@ use Rattle.device.specs.declared.Ru.the-variants as ru
 use Rattle.device.specs.declared.Units.{Units}
 use Rattle.phases.proofs.Units.{both}
 use Rattle.image.specs.Image.{decodeOf, deviceFrom, deviceAt}
-use Rattle.image.specs.Ranges.{sized, hasNext, cuFits, frameFits, ruFits, unitsFit, initialisedOrFresh, inRange, Wide}
+use Rattle.image.specs.Ranges.{inRange, Wide}
 use Rattle.image.specs.Found.{Found}
 use Rattle.image.specs.Found as is
 use Rattle.image.proofs.Exact.{Image, exact, decode-image}
@@ -39,6 +39,7 @@ use Rattle.traces.specs.Bytes.{called, isRefused}
 use Rattle.traces.specs.Event.{call, step, isTurn, WhileHeld}
 use Rattle.traces.specs.Areas.{FrameBytes, AreBytes, unitsBy, unitsIn, worldSaid}
 use Rattle.traces.specs.Driven.{Lending, lending, refusedAt, leftBy, left, isTaken, Lends, Fair, AllFair}
+use Rattle.frames.proofs.Held.{held-saved}
 use Rattle.held.specs.Held.{framesIn, isToHold}
 use Rattle.held.specs.Held as held
 use Rattle.held.specs.OnRecords.{framesKept, fatesBy, fatesAt, HeldAlong, MeanwhileBy, AllMeanwhileOn, Settled, Within}
@@ -101,34 +102,8 @@ image : (a : Areas) → AreBytes a → decodeOf (a .kept) ≡ is.Units (unitsIn 
 image a b e = exact (a .kept) (long (a .kept) _ e) (b .kept) (unitsIn (a .kept)) e
 
 -- a state in range holds no frame but a good one or one to be saved
-frame-to-hold : (f : Frame) → frameFits f ≡ true → isToHold f ≡ true
-unfolding frameFits
-frame-to-hold f e = both (sized (f .length)) (isToHold f) e .1
-
-unit-to-hold : (u : Ru) (f : Frame) → ruFits u ≡ true → heldIn u ≡ f ∷ [] → isToHold f ≡ true
-unfolding ruFits
-unit-to-hold ru.Idle f e h = absurd (nil≢cons h)
-unit-to-hold ru.NoResources f e h = absurd (nil≢cons h)
-unit-to-hold (ru.Suspended o) f e h = absurd (nil≢cons h)
-unit-to-hold (ru.Ready o) f e h = absurd (nil≢cons h)
-unit-to-hold (ru.Held o g p) f e h = rw (← head-eq-of-cons-eq h) (frame-to-hold g e)
-unit-to-hold (ru.Filling s w) f e h =
-    let g = frameFits (s .frame) in
-    let x = both (g && hasNext w && leb header (w .filled)) (ltb (w .filled) (s .frame .length)) e .0 in
-    let y = both g (hasNext w) (both (g && hasNext w) (leb header (w .filled)) x .0) .0 in
-    rw (← head-eq-of-cons-eq h) (frame-to-hold (s .frame) y)
-unit-to-hold (ru.Closing s o full) f e h =
-    rw (← head-eq-of-cons-eq h)
-    (frame-to-hold (s .frame) (both (frameFits (s .frame)) (ltb header (s .frame .length) || not full) e .0))
-unit-to-hold (ru.Lacking s) f e h =
-    rw (← head-eq-of-cons-eq h) (frame-to-hold (s .frame) (both (frameFits (s .frame)) (ltb header (s .frame .length)) e .0))
-
 pub to-hold : (d : Device) (f : Frame) → inRange d ≡ true → heldIn (d .units .ru) ≡ f ∷ [] → isToHold f ≡ true
-unfolding inRange unitsFit
-to-hold d f e h =
-    let u = d .units in
-    let x = both (unitsFit u) (initialisedOrFresh d) e .0 in
-    unit-to-hold (u .ru) f (both (ltb (u .base .0) 16777216 && cuFits (u .cu)) (ruFits (u .ru)) x .1) h
+to-hold = held-saved
 
 -- ---- the premise: a call leaves a state in range, from a state in range and on areas of bytes
 

@@ -5,7 +5,7 @@ use mathlib.Core.List.{List, [], _∷_}
 use Prim.Native.Nat.{ℕ}
 use lib.Dec.{ltb}
 use lib.ListN.{length}
-use Rattle.device.specs.Limits.{header}
+use Rattle.device.specs.Header.{header}
 use Rattle.device.specs.State.{isHolding, heldIn, cuWorks, ruWorks}
 use Rattle.device.proofs.Laws.{some-held}
 use Rattle.device.specs.Answers.{isHeld}
@@ -106,7 +106,7 @@ unfolding chip-arrival.arrivalOf chip-arrival.arrival arrivals.arrival arrivals.
 arrival-unit w f v h =
     let u = w .device .units in
     let g = arrivals.judged (u .settings) f v in
-    let few = ltb (length f) header in
+    let few = ltb (length f) (header (u .settings .form .length)) in
     let matched = matches (u .settings) (w .device .own) (w .device .filter) f in
     unit-stays (isHeld (arrivals.fateBy few matched (u .ru) g)) (u .ru) g (not-held few matched (u .ru) g h)
 

@@ -17,6 +17,7 @@ use Rattle.scb.specs.Words.{one, joined, noEvents, eventBits, anyOf, cuNumber, 
 use Rattle.scb.specs.declared.Events.{Events}
 use Rattle.scb.proofs.Below.{below}
 use Rattle.scb.proofs.Status.{events-below, any-bits}
+use Rattle.device.specs.Header.{header, unbuffered}
 use Rattle.device.specs.State.{fresh, freshUnits, cuState, ruState, isGood}
 use Rattle.device.specs.declared.Cu.{Cu}
 use Rattle.device.specs.declared.Cu.the-variants as cu
@@ -30,13 +31,16 @@ use Rattle.actions.specs.Setup.{setupOf}
 use Rattle.numerals.specs.Places.{bytesFrom, field}
 use Rattle.numerals.proofs.Laws.{field-below, piece, fit, digits-zero, from-append, from-bytes, from-cons, length-from, whole, first-of, second-of, one as field-one}
 use Rattle.phases.specs.Fields.{flagsOf, odd}
-use Rattle.phases.specs.Phases.{numberOf, cuTag, cuWord, cuShaped, ruTag, ruWord, ruShaped, FillingWide}
-use Rattle.phases.proofs.Units.{both, never, one-below, flag1, flag2, flag3, flag4, bits3, number-below, wide-of, cu-shaped, cu-same, rest-below, ru-shaped, ru-same, Same, RuSame}
+use Rattle.phases.specs.Forms.{FormWide}
+use Rattle.phases.specs.Phases.{numberOf, cuTag, cuWord, cuShaped, ruTag, ruWord, ruShaped, HoldingWide}
+use Rattle.phases.proofs.Units.{both, never, one-below, flag1, flag2, flag3, flag4, form-below, form-back, form-number, form-shaped, number-below, wide-of, cu-shaped, cu-same, rest-below, ru-shaped, ru-same, Same, RuSame}
 use Rattle.packed.specs.Packed.{marksBy, marksOf, statusOf, packedOf, statusIs, marksIn, cuTagIn, ruTagIn, UnitsWide, PackedIs}
-use Rattle.packed.specs.SetUp.{settingsByte, setupBytes}
+use Rattle.packed.specs.SetUp.{settingsByte, settingsShaped, setupBytes}
 use Rattle.packed.specs.declared.Packed.{Packed}
 use Rattle.packed.proofs.Laws.{cu-tag-below, ru-tag-below, marks-below, scb-is, base-is, cu-is, ru-is, cu-of, ru-of, events-is, initialised-is, rulast-is}
-use Rattle.image.specs.Ranges.{settingsFresh, unitsIdle, addressingFresh, sized, unitsFit, cuFits, frameFits, ruFits, unitsFresh, initialisedOrFresh, inRange, Wide}
+use Rattle.packed.proofs.SetUps.{saves-in, promiscuous-in, broadcast-in, form-in-settings}
+use Rattle.packed.proofs.Words.{one-odd}
+use Rattle.image.specs.Ranges.{settingsFresh, unitsIdle, addressingFresh, formFits, sizedFrom, formFresh, unitsFit, cuFits, frameFits, ruFits, unitsFresh, initialisedOrFresh, inRange, Wide}
 use Rattle.image.specs.Found as is
 use Rattle.image.specs.Image.{front, unitBytes, imageOf, packedAt, eventsOf, settingsOf, unitsBy, unitsAt, deviceFrom, deviceAt, headShaped, unitsShaped, spareZero, shaped, rangeFrom, decodeFull, decodeOf}
 use Rattle.image.proofs.Steps.{full-taken, full-out, full-other, decode-full, device-full, length-units, length-image}
@@ -61,23 +65,11 @@ events-same : (n : ℕ) → n < 16 → eventBits (eventsOf n) ≡ n
 events-same n h =
     bits-of (eventsOf n) ∙ eqb→eq _ n (below (λ k. eqb (flagsOf (odd k) (odd (k / 2)) (odd (k / 4)) (odd (k / 8)) false false) k) 16 tt n h)
 
-byte-bits : (s : Settings) → settingsByte s ≡ flagsOf (s .savebad) (s .promiscuous) (s .nobroadcast) false false false
-byte-bits s = omega arith
+pub settings-back : (s : Settings) → FormWide (s .form) → settingsOf (settingsByte s) (s .minimum) ≡ s
+settings-back s f = rw (saves-in s, promiscuous-in s, broadcast-in s, form-in-settings s, form-back (s .form) f)
 
-pub settings-back : (s : Settings) → settingsOf (settingsByte s) (s .minimum) ≡ s
-settings-back s =
-    rw (
-      byte-bits s,
-      flag1 (s .savebad) (s .promiscuous) (s .nobroadcast) false false false,
-      flag2 (s .savebad) (s .promiscuous) (s .nobroadcast) false false false,
-      flag3 (s .savebad) (s .promiscuous) (s .nobroadcast) false false false,
-    )
-
-pub settings-same : (b m : ℕ) → b < 8 → settingsByte (settingsOf b m) ≡ b
-settings-same b m h = byte-bits (settingsOf b m) ∙ bits3 b h
-
-setting-below : (s : Settings) → settingsByte s < 8
-setting-below s = omega (arith, one-below (s .savebad), one-below (s .promiscuous), one-below (s .nobroadcast))
+setting-below : (s : Settings) → settingsByte s < 128
+setting-below s = omega (arith, one-below (s .savebad), one-below (s .promiscuous), one-below (s .nobroadcast), form-below (s .form))
 
 -- ---- the parts of a status, in plain variables: events, tag, marks, tag, offset, base
 
@@ -107,6 +99,14 @@ low-byte e c m r s b h = omega arith
 -- one digit of a number in mixed radix, and all of a status
 digit : (s a k : ℕ) → s / (a * k) * k + s / a % k ≡ s / a
 digit s a k = rw (← div-div-eq-div-mul) (div-add-mod' (s / a) k)
+
+bit-sum : (n a b c x y z : ℕ) → a * 2 + x ≡ n → b * 2 + y ≡ a → c * 2 + z ≡ b → x + 2 * (y + 2 * z) + 8 * c ≡ n
+bit-sum n a b c x y z p q r = omega arith
+
+pub settings-same : (b m : ℕ) → settingsShaped b ≡ true → settingsByte (settingsOf b m) ≡ b
+settings-same b m h =
+    rw (one-odd b, one-odd (b / 2), one-odd (b / 4), form-number (b / 8) h)
+    (bit-sum b (b / 2) (b / 4) (b / 8) (b % 2) (b / 2 % 2) (b / 4 % 2) (div-add-mod' b 2) (digit b 2 2) (digit b 4 2))
 
 sum : (n a b c d f g h e x t y m z v o : ℕ) → a * 16 + x ≡ n → b * 16 + e ≡ a → c * 8 + t ≡ b → d * 2 + y ≡ c → f * 4 + m ≡ d → g * 4 + z ≡ f
     → h * 256 + v ≡ g → x ≡ 0 → y ≡ 0 → z ≡ 0
@@ -198,35 +198,50 @@ module _ (d : Device) where
 -- ---- an image is decoded to its state
 
 -- what a range says of a frame, and of one being filled
-frame-length : (f : Frame) → frameFits f ≡ true → f .length ≤ 2048
-unfolding frameFits
-frame-length f e = leb-true _ _ (both (leb 14 (f .length)) (leb (f .length) 2048) (both (sized (f .length)) (isGood f || f .savebad) e .0) .1)
+module _ (f : Frame) (e : frameFits f ≡ true) where
+  frame-sized : (formFits (f .form) ≡ true) × (sizedFrom (header (f .form .length)) (f .length) ≡ true)
+  unfolding frameFits
+  frame-sized = both (formFits (f .form)) (sizedFrom (header (f .form .length)) (f .length)) (both _ (isGood f || f .savebad) e .0)
 
-pub filling-wide : (u : Ru) → ruFits u ≡ true → FillingWide u
+  pub frame-form : FormWide (f .form)
+  frame-form = leb-true _ _ (frame-sized .0)
+
+  frame-length : f .length ≤ 2048
+  frame-length = leb-true _ _ (both (leb (header (f .form .length)) (f .length)) (leb (f .length) 2048) (frame-sized .1) .1)
+
+pub holding-wide : (u : Ru) → ruFits u ≡ true → HoldingWide u
 unfolding ruFits
-filling-wide ru.Idle e = tt
-filling-wide ru.NoResources e = tt
-filling-wide (ru.Suspended o) e = tt
-filling-wide (ru.Ready o) e = tt
-filling-wide (ru.Held o f p) e = tt
-filling-wide (ru.Filling s w) e =
+holding-wide ru.Idle e = tt
+holding-wide ru.NoResources e = tt
+holding-wide (ru.Suspended o) e = tt
+holding-wide (ru.Ready o) e = tt
+holding-wide (ru.Held o f p) e = frame-form f e
+holding-wide (ru.Filling s w) e =
     let x = both _ (ltb (w .filled) (s .frame .length)) e in
-    let y = both _ (leb 14 (w .filled)) (x .0) in
+    let y = both _ (leb (unbuffered (s .frame .form)) (w .filled)) (x .0) in
     let z = both (frameFits (s .frame)) _ (y .0) in
     let p : w .filled < s .frame .length = ltb-true _ _ (x .1) in
     let q : s .frame .length ≤ 2048 = frame-length (s .frame) (z .0) in
     let t : w .used ≤ 63 = leb-true _ _ (both (leb (w .used) 63) (not (isNone (w .next))) (z .1) .0) in
-    (omega arith, omega arith)
-filling-wide (ru.Closing s o full) e = tt
-filling-wide (ru.Lacking s) e = tt
+    (frame-form (s .frame) (z .0), omega arith, omega arith)
+holding-wide (ru.Closing s o full) e = frame-form (s .frame) (both (frameFits (s .frame)) _ e .0)
+holding-wide (ru.Lacking s) e = frame-form (s .frame) (both (frameFits (s .frame)) _ e .0)
 
 pub fit-base : (u : Units) → unitsFit u ≡ true → u .base .0 < 16777216
 unfolding unitsFit
-fit-base u e = ltb-true _ _ (both (ltb (u .base .0) 16777216) (cuFits (u .cu)) (both _ (ruFits (u .ru)) e .0) .0)
+fit-base u e =
+    let x = both (ltb (u .base .0) 16777216 && formFits (u .settings .form)) (cuFits (u .settings .form) (u .cu)) (both _ (ruFits (u .ru)) e .0) in
+    ltb-true _ _ (both (ltb (u .base .0) 16777216) (formFits (u .settings .form)) (x .0) .0)
+
+pub fit-form : (u : Units) → unitsFit u ≡ true → FormWide (u .settings .form)
+unfolding unitsFit
+fit-form u e =
+    let x = both (ltb (u .base .0) 16777216 && formFits (u .settings .form)) (cuFits (u .settings .form) (u .cu)) (both _ (ruFits (u .ru)) e .0) in
+    leb-true _ _ (both (ltb (u .base .0) 16777216) (formFits (u .settings .form)) (x .0) .1)
 
 pub fit-ru : (u : Units) → unitsFit u ≡ true → ruFits (u .ru) ≡ true
 unfolding unitsFit
-fit-ru u e = both (ltb (u .base .0) 16777216 && cuFits (u .cu)) (ruFits (u .ru)) e .1
+fit-ru u e = both (ltb (u .base .0) 16777216 && formFits (u .settings .form) && cuFits (u .settings .form) (u .cu)) (ruFits (u .ru)) e .1
 
 -- the numbers of a state have eight bytes
 module _ (u : Units) (h : UnitsWide u) where
@@ -266,7 +281,7 @@ module _ (d : Device) (h : Wide d) (e : unitsFit (d .units) ≡ true) where
         base-wide = fit-base (d .units) e;
         cu-wide = h .cu;
         ru-wide = h .ru;
-        filling-wide = filling-wide (d .units .ru) (fit-ru (d .units) e);
+        holding-wide = holding-wide (d .units .ru) (fit-ru (d .units) e);
       }
 
   kept-back : packedAt (imageOf d) ≡ packedOf (d .units)
@@ -276,7 +291,7 @@ module _ (d : Device) (h : Wide d) (e : unitsFit (d .units) ≡ true) where
         at5 d ∙ fit 8 _ (status-tests (d .units) wide-units .3),
         at16 d ∙ fit 8 _ (number-below (cuWord (d .units .cu)) (h .cu)),
         at24 d ∙ fit 8 _ (number-below (ruWord (d .units .ru)) (h .ru)),
-        at32 d ∙ fit 8 _ (omega (arith, rest-below (d .units .ru) (wide-units .filling-wide))),
+        at32 d ∙ fit 8 _ (omega (arith, rest-below (d .units .ru) (wide-units .holding-wide))),
       )
 
   -- the numbers that stand in it are the state's
@@ -285,7 +300,7 @@ module _ (d : Device) (h : Wide d) (e : unitsFit (d .units) ≡ true) where
 
   pub units-back : unitsAt (imageOf d) ≡ d .units
   unfolding unitsAt
-  units-back = rw (at240 d, at241 d, settings-back (d .units .settings)) (units-by (d .units) (packedAt (imageOf d)) kept-is)
+  units-back = rw (at240 d, at241 d, settings-back (d .units .settings) (fit-form (d .units) e)) (units-by (d .units) (packedAt (imageOf d)) kept-is)
 
   is5 : field (imageOf d) 5 8 ≡ statusOf (d .units)
   unfolding packedOf
@@ -302,7 +317,8 @@ module _ (d : Device) (h : Wide d) (e : unitsFit (d .units) ≡ true) where
         eq-eqb _ 0 (t .1),
         eq-eqb _ 0 (t .2),
         at240 d,
-        lt-ltb _ 8 (setting-below (d .units .settings)),
+        form-in-settings (d .units .settings),
+        form-shaped (d .units .settings .form),
       )
 
   units-true : unitsShaped (imageOf d) ≡ true
@@ -317,7 +333,7 @@ module _ (d : Device) (h : Wide d) (e : unitsFit (d .units) ≡ true) where
         v .word-is,
         v .rest-is,
         cu-shaped (d .units .cu) (h .cu),
-        ru-shaped (d .units .ru) (h .ru) (rest-below (d .units .ru) (wide-units .filling-wide)),
+        ru-shaped (d .units .ru) (h .ru) (rest-below (d .units .ru) (wide-units .holding-wide)),
       )
 
   spare-true : spareZero (imageOf d) ≡ true
@@ -375,15 +391,6 @@ cut : (r : List ℕ)
 unfolding bytesFrom
 cut r = refl
 
--- a bit as a number
-one-mod : (n : ℕ) → one (odd n) ≡ n % 2
-one-mod n = at-bit (n % 2) (omega arith)
-  where
-    at-bit : (k : ℕ) → k < 2 → one (eqb k 1) ≡ k
-    at-bit zero h = refl
-    at-bit (suc zero) h = refl
-    at-bit (suc (suc k)) h = absurd (omega arith)
-
 marks-same : (m e : ℕ) → m < 4 → e < 16 → let f = m + 16 * e in marksBy (odd f) (odd (f / 2)) (eventsOf (f / 16)) ≡ f
 marks-same m e p q =
     let f = m + 16 * e in
@@ -392,7 +399,7 @@ marks-same m e p q =
     let h : f / 2 ≡ m / 2 + 8 * e = omega arith in
     let z : f / 2 % 2 ≡ m / 2 % 2 = rw h (omega arith) in
     let w : one (odd f) + 2 * one (odd (f / 2)) + 16 * eventBits (eventsOf (f / 16)) ≡ f % 2 + 2 * (f / 2 % 2) + 16 * e =
-    rw (one-mod f, one-mod (f / 2), x, events-same e q) in
+    rw (one-odd f, one-odd (f / 2), x, events-same e q) in
     w ∙ omega arith
 
 module _ (r : List ℕ) (e : shaped r ≡ true) where
@@ -411,15 +418,15 @@ module _ (r : List ℕ) (e : shaped r ≡ true) where
   -- the tests of the head, one by one
   pub front-test : field r 0 8 % 1099511627776 ≡ 0x0001544742
   unfolding headShaped
-  front-test = eqb-true _ _ (both (eqb (field r 0 8 % 1099511627776) 0x0001544742) (statusIs (field r 5 8)) (both _ (ltb (field r 240 1) 8) head-is .0) .0)
+  front-test = eqb-true _ _ (both (eqb (field r 0 8 % 1099511627776) 0x0001544742) (statusIs (field r 5 8)) (both _ (settingsShaped (field r 240 1)) head-is .0) .0)
 
   status-test : statusIs (field r 5 8) ≡ true
   unfolding headShaped
-  status-test = both (eqb (field r 0 8 % 1099511627776) 0x0001544742) (statusIs (field r 5 8)) (both _ (ltb (field r 240 1) 8) head-is .0) .1
+  status-test = both (eqb (field r 0 8 % 1099511627776) 0x0001544742) (statusIs (field r 5 8)) (both _ (settingsShaped (field r 240 1)) head-is .0) .1
 
-  pub settings-test : field r 240 1 < 8
+  pub settings-test : settingsShaped (field r 240 1) ≡ true
   unfolding headShaped
-  settings-test = ltb-true _ _ (both (eqb (field r 0 8 % 1099511627776) 0x0001544742 && statusIs (field r 5 8)) (ltb (field r 240 1) 8) head-is .1)
+  settings-test = both (eqb (field r 0 8 % 1099511627776) 0x0001544742 && statusIs (field r 5 8)) (settingsShaped (field r 240 1)) head-is .1
 
   pub cu-shape : cuShaped (cuTagIn (packedAt r)) (packedAt r .cu) ≡ true
   unfolding unitsShaped
@@ -638,7 +645,9 @@ units-fresh u i e =
     let base = both _ (eqb (u .base .0) 0) (scb .0) in
     let last = both (eqb (eventBits (u .events)) 0) (not (u .rulast)) (base .0) in
     let s = u .settings in
-    let minimum = both _ (eqb (s .minimum) 64) (settings .1) in
+    let form = both _ (formFresh (s .form)) (settings .1) in
+    let length = both (eqb (s .form .length) 6) (not (s .form .location)) (form .1) in
+    let minimum = both _ (eqb (s .minimum) 64) (form .0) in
     let broadcast = both _ (not (s .nobroadcast)) (minimum .0) in
     let save = both (not (s .savebad)) (not (s .promiscuous)) (broadcast .0) in
     let units = both (eqb (cuNumber (cuState (u .cu))) 0) (eqb (ruNumber (ruState (u .ru))) 0) (idle .1) in
@@ -652,6 +661,8 @@ units-fresh u i e =
       not-true (s .promiscuous) (save .1),
       not-true (s .nobroadcast) (broadcast .1),
       eqb-true (s .minimum) 64 (minimum .1),
+      eqb-true (s .form .length) 6 (length .0),
+      not-true (s .form .location) (length .1),
       idle-cu (u .cu) (units .0),
       idle-ru (u .ru) (units .1),
     )

@@ -12,6 +12,7 @@ use Rattle.device.specs.declared.Device.{Device}
 use Rattle.device.specs.declared.Ru.the-variants as ru
 use Rattle.device.specs.declared.Units.{Units}
 use Rattle.device.specs.declared.Verdict.the-variants as verdict
+use Rattle.phases.specs.Forms.{formNumber}
 use Rattle.phases.specs.Phases.{numberOf, cuWord, ruWord, ruRest}
 use Rattle.packed.specs.Packed.{packedOf}
 use Rattle.packed.specs.SetUp.{setupBytes}
@@ -21,10 +22,11 @@ use Rattle.image.specs.Image.{front, unitBytes, imageOf}
 -- ---- the fresh record
 
 pub fresh-record : imageOf fresh ≡ 0x42 ∷ 0x47 ∷ 0x54 ∷ 0x01 ∷ replicate 237 0 ++ (0x40 ∷ replicate 6 0xFF ++ replicate 8 0)
-unfolding imageOf unitBytes front setupBytes packedOf digits eventBits joined numberOf cuWord ruWord ruRest
+unfolding imageOf unitBytes front setupBytes packedOf digits eventBits joined formNumber numberOf cuWord ruWord ruRest
 fresh-record = refl
 
--- ---- a record at work: a Transmit at its descriptors, and a bad frame that is being saved
+-- ---- a record at work: a Transmit at its descriptors, with addresses of two bytes and location 1; and a bad frame that is being saved, which arrived under
+-- three bytes and location 0
 
 abbrev pub units : Units
 units =
@@ -34,7 +36,7 @@ units =
       scb = record { 0 = 0x0100 };
       events = record { cx = false; fr = true; cna = false; rnr = false };
       rulast = true;
-      settings = record { savebad = true; promiscuous = false; nobroadcast = false; minimum = 64 };
+      settings = record { savebad = true; promiscuous = false; nobroadcast = false; minimum = 64; form = record { length = 2; location = true } };
       cu =
           cu.Sending (record { block = record { 0 = 0x0200 }; el = true; suspend = false; interrupt = true; pausing = false })
           (record { next = record { 0 = 0x0340 }; used = 2; filled = 110 });
@@ -45,7 +47,7 @@ units =
             el = false;
             suspend = true;
             pausing = true;
-            frame = record { length = 60; verdict = verdict.Crc; short = false; savebad = true };
+            frame = record { length = 60; verdict = verdict.Crc; short = false; savebad = true; form = record { length = 3; location = false } };
           })
           (record { next = record { 0 = 0x0520 }; used = 1; filled = 34 });
     }
@@ -60,11 +62,11 @@ working =
 
 pub working-record : imageOf working
     ≡ 0x42 ∷ 0x47 ∷ 0x54 ∷ 0x01 ∷ 0x00 ∷ 0x40 ∷ 0x34 ∷ 0x05 ∷ 0x00 ∷ 0x01 ∷ 0x45 ∷ 0x23 ∷ 0x01 ∷ 0x00 ∷ 0x00 ∷ 0x00
-    ∷ 0x00 ∷ 0x02 ∷ 0x05 ∷ 0x02 ∷ 0x6E ∷ 0x00 ∷ 0x40 ∷ 0x03 ∷ 0x00 ∷ 0x04 ∷ 0x0D ∷ 0x01 ∷ 0x3C ∷ 0x00 ∷ 0x20 ∷ 0x05
+    ∷ 0x00 ∷ 0x02 ∷ 0x05 ∷ 0x02 ∷ 0x6E ∷ 0x00 ∷ 0x40 ∷ 0x03 ∷ 0x00 ∷ 0x04 ∷ 0x0D ∷ 0x0D ∷ 0x3C ∷ 0x00 ∷ 0x20 ∷ 0x05
     ∷ 0x22 ∷ 0x00 ∷ 0x01 ∷ 0x00 ∷ 0x00 ∷ 0x00 ∷ 0x00 ∷ 0x00
     ∷ replicate 200 0
-    ++ (0x01 ∷ 0x40 ∷ 0x02 ∷ 0x07 ∷ 0x01 ∷ 0x00 ∷ 0x00 ∷ 0x2A ∷ 0x00 ∷ 0x00 ∷ 0x00 ∷ 0x00 ∷ 0x00 ∷ 0x00 ∷ 0x10 ∷ 0x00 ∷ [])
-unfolding imageOf unitBytes front setupBytes packedOf digits eventBits joined numberOf cuWord ruWord ruRest
+    ++ (0x61 ∷ 0x40 ∷ 0x02 ∷ 0x07 ∷ 0x01 ∷ 0x00 ∷ 0x00 ∷ 0x2A ∷ 0x00 ∷ 0x00 ∷ 0x00 ∷ 0x00 ∷ 0x00 ∷ 0x00 ∷ 0x10 ∷ 0x00 ∷ [])
+unfolding imageOf unitBytes front setupBytes packedOf digits eventBits joined formNumber numberOf cuWord ruWord ruRest
 working-record = refl
 
 pub working-range : inRange working ≡ true

@@ -11,6 +11,7 @@ use Rattle.memory.proofs.Bytes.{Bytes}
 use Rattle.device.specs.declared.Device.{Device}
 use Rattle.device.specs.declared.Units.{Units}
 use Rattle.actions.specs.Setup.{Setup, setupOf}
+use Rattle.phases.specs.Forms.{FormWide}
 use Rattle.packed.specs.Packed.{packedOf, PackedIs}
 use Rattle.packed.specs.SetUp.{setupBytes, SetIs}
 use Rattle.packed.specs.declared.Packed.{Packed}
@@ -20,7 +21,7 @@ use Rattle.image.specs.Found as is
 use Rattle.image.specs.Image.{front, unitBytes, imageOf, deviceFrom, deviceAt, decodeOf, decodedBy, putPacked}
 use Rattle.image.specs.declared.Decoded.{Decoded}
 use Rattle.image.specs.declared.Decoded.the-variants as code
-use Rattle.image.proofs.Exact.{Image, exact, wide-units, fits}
+use Rattle.image.proofs.Exact.{Image, exact, wide-units, fits, fit-form}
 
 -- ---- what is decoded
 
@@ -59,8 +60,8 @@ module _ (d : Device) where
   unfolding imageOf unitBytes front digits
   last-part = refl
 
-  pub setup-is : Wide d → SetIs (setupOf d) (drop 240 (imageOf d))
-  setup-is h = record { bytes-are = last-part; minimum-wide = h .minimum; own-wide = h .own; filter-wide = h .filter }
+  pub setup-is : Wide d → FormWide (d .units .settings .form) → SetIs (setupOf d) (drop 240 (imageOf d))
+  setup-is h f = record { bytes-are = last-part; minimum-wide = h .minimum; form-wide = f; own-wide = h .own; filter-wide = h .filter }
 
 -- ---- the same of a record that was decoded
 
@@ -73,7 +74,10 @@ module _ (r : List ℕ) (u : Units) (l : length r ≡ 256) (b : Bytes r) (e : de
   its-numbers k q = record { same = q; wide = wide-units (deviceAt r u) (its-image .wide) (fits (deviceAt r u) (its-image .wide) (its-image .range)) }
 
   pub its-setup : SetIs (setupOf (deviceAt r u)) (drop 240 r)
-  its-setup = let s = setup-is (deviceAt r u) (its-image .wide) in subst (λ (x : List ℕ). SetIs (setupOf (deviceAt r u)) (drop 240 x)) (sym (its-image .same)) s
+  its-setup =
+      let d = deviceAt r u in
+      let s = setup-is d (its-image .wide) (fit-form (d .units) (fits d (its-image .wide) (its-image .range))) in
+      subst (λ (x : List ℕ). SetIs (setupOf d) (drop 240 x)) (sym (its-image .same)) s
 
 -- ---- what is put back
 

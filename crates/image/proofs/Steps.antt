@@ -15,6 +15,7 @@ use Rattle.device.specs.declared.Units.{Units}
 use Rattle.actions.specs.Setup.{Setup, setupOf}
 use Rattle.numerals.specs.Places.{bytesFrom, field}
 use Rattle.numerals.proofs.Laws.{sets-whole}
+use Rattle.phases.specs.Forms.{formNumber}
 use Rattle.phases.specs.Phases.{numberOf, cuWord, ruWord, ruRest}
 use Rattle.packed.specs.Packed.{packedOf}
 use Rattle.packed.specs.SetUp.{setupBytes}
@@ -43,7 +44,7 @@ length-image d p = simp length-append (omega (arith, length-units (packedOf (d .
 -- the fresh image, over zeros
 fresh-over : sets (sets (sets (sets (sets (replicate 256 0) 0 (digits 3 0x544742)) 3 (digits 2 1)) 241 (digits 1 64)) 242 (digits 3 0xFFFFFF)) 245 (digits 3 0xFFFFFF)
     ≡ imageOf fresh
-unfolding imageOf unitBytes front setupBytes packedOf eventBits joined numberOf cuWord ruWord ruRest digits
+unfolding imageOf unitBytes front setupBytes packedOf eventBits joined formNumber numberOf cuWord ruWord ruRest digits
 fresh-over = refl
 
 pub fresh-stores : (r : List ℕ) → length r ≡ 256

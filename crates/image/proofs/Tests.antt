@@ -4,8 +4,8 @@ use mathlib.Core.Bool.{Bool, true, false, _&&_, _||_}
 use mathlib.Core.List.{List}
 use Prim.Native.Nat.{ℕ, _+_, _*_, _/_, _%_, _<_}
 use native.Mathlib.Omega.{arith}
-use borrow.Author.Tests.{eqb-true, lt-ltb, eq-eqb, ne-eqb}
-use lib.Dec.{eqb, ltb}
+use borrow.Author.Tests.{eqb-true, lt-ltb, le-leb, eq-eqb, ne-eqb}
+use lib.Dec.{eqb, leb, ltb}
 use lib.ListN.{length}
 use Rattle.memory.specs.Memory.{value}
 use Rattle.scb.specs.Words.{joined, eventBits}
@@ -13,14 +13,15 @@ use Rattle.device.specs.State.{freshUnits}
 use Rattle.device.specs.declared.Units.{Units}
 use Rattle.numerals.specs.Places.{bytesFrom, field}
 use Rattle.phases.specs.Fields.{odd}
+use Rattle.phases.specs.Forms.{formNumber, formOf}
 use Rattle.phases.specs.Phases.{wordOf, cuOf, cuShaped, ruOf, ruShaped}
-use Rattle.phases.proofs.Units.{both}
+use Rattle.phases.proofs.Units.{both, form-wide}
 use Rattle.packed.specs.Packed.{statusOf, statusIs, marksIn, cuTagIn, ruTagIn}
-use Rattle.packed.specs.SetUp.{settingsByte}
+use Rattle.packed.specs.SetUp.{settingsByte, settingsShaped}
 use Rattle.image.specs.Ranges.{cuFits, ruFits, unitsFit, unitsFresh, addressingFresh, initialisedOrFresh, inRange}
 use Rattle.image.specs.Found as is
 use Rattle.image.specs.Image.{packedAt, unitsBy, unitsAt, deviceFrom, frontIs, headShaped, unitsShaped, spareZero, shaped, rangeFrom, imaged, decodeFull, decodeOf, decodedBy}
-use Rattle.image.specs.Numbers.{cuIs, ruIs, wordsAre, freshAt, tested}
+use Rattle.image.specs.Numbers.{formIs, cuIs, ruIs, wordsAre, freshAt, tested}
 use Rattle.image.specs.declared.Decoded.the-variants as code
 use Rattle.image.proofs.Steps.{decode-full, decode-other, full-taken}
 use Rattle.image.proofs.Units.{same}
@@ -45,7 +46,7 @@ module _ (r : List ℕ) where
 
   -- before the first attention: the state is fresh exactly if the bytes are
   fresh-state : unitsAt r .initialised ≡ false → shaped r ≡ true → (unitsFresh (unitsAt r) && addressingFresh (deviceFrom r (unitsAt r))) ≡ true → freshAt r ≡ true
-  unfolding freshAt deviceFrom field packedAt eventBits joined
+  unfolding freshAt deviceFrom field packedAt eventBits joined formNumber
   fresh-state i h e =
       let x = both (unitsFresh (unitsAt r)) (addressingFresh (deviceFrom r (unitsAt r))) e in
       let y = both (eqb (value (bytesFrom r 242 6)) 0xFFFFFFFFFFFF) (eqb (field r 248 8) 0) (x .1) in
@@ -60,7 +61,7 @@ module _ (r : List ℕ) where
   own-is h = h
 
   fresh-bytes : freshAt r ≡ true → (unitsFresh (unitsAt r) && addressingFresh (deviceFrom r (unitsAt r))) ≡ true
-  unfolding freshAt unitsFresh unitsAt unitsBy packedAt deviceFrom cuOf ruOf eventBits joined
+  unfolding freshAt unitsFresh unitsAt unitsBy packedAt deviceFrom cuOf ruOf eventBits joined formOf
   fresh-bytes e =
       let v = both _ (eqb (field r 248 8) 0) e in
       let w = both _ (eqb (field r 242 6) 0xFFFFFFFFFFFF) (v .0) in
@@ -78,12 +79,18 @@ module _ (r : List ℕ) where
       ∙ ap (λ (x : Bool). x || freshAt r) initialised-at
 
   -- the units fit if their numbers do: the base has no more than 24 bits
-  fit-same : field r 5 8 < 18446744073709551616 → cuFits (cuOf (cuTagIn (packedAt r)) (wordOf (packedAt r .cu))) ≡ true
+  fit-same : field r 5 8 < 18446744073709551616 → cuFits (formOf (formIs r)) (cuOf (cuTagIn (packedAt r)) (wordOf (packedAt r .cu))) ≡ true
       → ruFits (ruOf (ruTagIn (packedAt r)) (wordOf (packedAt r .ru)) (packedAt r .rest)) ≡ true → unitsFit (unitsAt r) ≡ true
   unfolding unitsFit unitsAt unitsBy packedAt
-  fit-same w c v = rw (lt-ltb (field r 5 8 / 1099511627776) 16777216 (omega arith), c, v)
+  fit-same w c v =
+      rw (
+        lt-ltb (field r 5 8 / 1099511627776) 16777216 (omega arith),
+        le-leb (formOf (formIs r) .length) 6 (form-wide (formIs r)),
+        c,
+        v,
+      )
 
-  shape : frontIs (field r 0 8) ≡ true → statusIs (packedAt r .status) ≡ true → ltb (field r 240 1) 8 ≡ true
+  shape : frontIs (field r 0 8) ≡ true → statusIs (packedAt r .status) ≡ true → settingsShaped (field r 240 1) ≡ true
       → cuShaped (cuTagIn (packedAt r)) (packedAt r .cu) ≡ true → ruShaped (ruTagIn (packedAt r)) (packedAt r .ru) (packedAt r .rest) ≡ true
       → spareZero r ≡ true → shaped r ≡ true
   unfolding shaped headShaped unitsShaped packedAt
@@ -98,14 +105,14 @@ module _ (r : List ℕ) where
   unfolding tested wordsAre cuIs ruIs rangeFrom inRange
   tested-shaped e w =
       let k = packedAt r in
-      let a = both (wordsAre (field r 0 8) k) _ e in
+      let a = both (wordsAre (field r 0 8) (formIs r) k) _ e in
       let b = both (frontIs (field r 0 8) && statusIs (k .status)) _ (a .0) in
       let f = both (frontIs (field r 0 8)) (statusIs (k .status)) (b .0) in
-      let u = both (cuIs (cuTagIn k) (k .cu)) (ruIs (ruTagIn k) (k .ru) (k .rest)) (b .1) in
-      let c = both (cuShaped (cuTagIn k) (k .cu)) (cuFits (cuOf (cuTagIn k) (wordOf (k .cu)))) (u .0) in
+      let u = both (cuIs (formIs r) (cuTagIn k) (k .cu)) (ruIs (ruTagIn k) (k .ru) (k .rest)) (b .1) in
+      let c = both (cuShaped (cuTagIn k) (k .cu)) (cuFits (formOf (formIs r)) (cuOf (cuTagIn k) (wordOf (k .cu)))) (u .0) in
       let v = both (ruShaped (ruTagIn k) (k .ru) (k .rest)) (ruFits (ruOf (ruTagIn k) (wordOf (k .ru)) (k .rest))) (u .1) in
-      let s = both (spareZero r && ltb (field r 240 1) 8) (odd (marksIn (packedAt r)) || freshAt r) (a .1) in
-      let t = both (spareZero r) (ltb (field r 240 1) 8) (s .0) in
+      let s = both (spareZero r && settingsShaped (field r 240 1)) (odd (marksIn (packedAt r)) || freshAt r) (a .1) in
+      let t = both (spareZero r) (settingsShaped (field r 240 1)) (s .0) in
       let h = shape (f .0) (f .1) (t .1) (c .0) (v .0) (t .0) in
       let g : unitsFit (deviceFrom r (unitsAt r) .units) ≡ true = at-device (fit-same w (c .1) (v .1)) in
       rw (h, g) (fresh-same h ∙ s .1)
@@ -115,22 +122,24 @@ module _ (r : List ℕ) where
   at-units h = h
 
   parts : unitsFit (unitsAt r) ≡ true
-      → (cuFits (cuOf (cuTagIn (packedAt r)) (wordOf (packedAt r .cu))) ≡ true) × (ruFits (ruOf (ruTagIn (packedAt r)) (wordOf (packedAt r .ru)) (packedAt r .rest)) ≡ true)
+      → (cuFits (formOf (formIs r)) (cuOf (cuTagIn (packedAt r)) (wordOf (packedAt r .cu))) ≡ true) × (ruFits (ruOf (ruTagIn (packedAt r)) (wordOf (packedAt r .ru)) (packedAt r .rest)) ≡ true)
   unfolding unitsFit unitsAt unitsBy
   parts h =
       let k = packedAt r in
-      let x = both (ltb (k .status / 1099511627776) 16777216 && cuFits (cuOf (cuTagIn k) (wordOf (k .cu)))) (ruFits (ruOf (ruTagIn k) (wordOf (k .ru)) (k .rest))) h in
-      (both (ltb (k .status / 1099511627776) 16777216) (cuFits (cuOf (cuTagIn k) (wordOf (k .cu)))) (x .0) .1, x .1)
+      let c = cuFits (formOf (formIs r)) (cuOf (cuTagIn k) (wordOf (k .cu))) in
+      let low = ltb (k .status / 1099511627776) 16777216 && leb (formOf (formIs r) .length) 6 in
+      let x = both (low && c) (ruFits (ruOf (ruTagIn k) (wordOf (k .ru)) (k .rest))) h in
+      (both low c (x .0) .1, x .1)
 
   pieces : shaped r ≡ true
       → (frontIs (field r 0 8) ≡ true) × (statusIs (packedAt r .status) ≡ true) × (cuShaped (cuTagIn (packedAt r)) (packedAt r .cu) ≡ true)
-      × (ruShaped (ruTagIn (packedAt r)) (packedAt r .ru) (packedAt r .rest) ≡ true) × (spareZero r ≡ true) × (ltb (field r 240 1) 8 ≡ true)
+      × (ruShaped (ruTagIn (packedAt r)) (packedAt r .ru) (packedAt r .rest) ≡ true) × (spareZero r ≡ true) × (settingsShaped (field r 240 1) ≡ true)
   unfolding shaped headShaped unitsShaped packedAt
   pieces h =
       let k = packedAt r in
       let x = both (headShaped r && unitsShaped r) (spareZero r) h in
       let y = both (headShaped r) (unitsShaped r) (x .0) in
-      let z = both (frontIs (field r 0 8) && statusIs (k .status)) (ltb (field r 240 1) 8) (y .0) in
+      let z = both (frontIs (field r 0 8) && statusIs (k .status)) (settingsShaped (field r 240 1)) (y .0) in
       let w = both (frontIs (field r 0 8)) (statusIs (k .status)) (z .0) in
       let u = both (cuShaped (cuTagIn k) (k .cu)) (ruShaped (ruTagIn k) (k .ru) (k .rest)) (y .1) in
       (w .0, w .1, u .0, u .1, x .1, z .1)
@@ -149,20 +158,20 @@ module _ (r : List ℕ) where
 
   -- what each branch of the code's test comes to
   module _ (w : field r 5 8 < 18446744073709551616) where
-    pub image-words : wordsAre (field r 0 8) (packedAt r) ≡ false → false ≡ imaged r
+    pub image-words : wordsAre (field r 0 8) (formIs r) (packedAt r) ≡ false → false ≡ imaged r
     unfolding tested
     image-words a = rw a at (tested-is w)
 
-    module _ (a : wordsAre (field r 0 8) (packedAt r) ≡ true) where
-      pub image-spare : (spareZero r && ltb (field r 240 1) 8) ≡ false → false ≡ imaged r
+    module _ (a : wordsAre (field r 0 8) (formIs r) (packedAt r) ≡ true) where
+      pub image-spare : (spareZero r && settingsShaped (field r 240 1)) ≡ false → false ≡ imaged r
       unfolding tested
       image-spare b = rw (a, b) at (tested-is w)
 
-      pub image-working : (spareZero r && ltb (field r 240 1) 8) ≡ true → odd (marksIn (packedAt r)) ≡ true → true ≡ imaged r
+      pub image-working : (spareZero r && settingsShaped (field r 240 1)) ≡ true → odd (marksIn (packedAt r)) ≡ true → true ≡ imaged r
       unfolding tested
       image-working b i = rw (a, b, i) at (tested-is w)
 
-      pub image-fresh : (spareZero r && ltb (field r 240 1) 8) ≡ true → odd (marksIn (packedAt r)) ≡ false → freshAt r ≡ imaged r
+      pub image-fresh : (spareZero r && settingsShaped (field r 240 1)) ≡ true → odd (marksIn (packedAt r)) ≡ false → freshAt r ≡ imaged r
       unfolding tested
       image-fresh b i = rw (a, b, i) at (tested-is w)
 

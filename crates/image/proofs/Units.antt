@@ -8,14 +8,16 @@ use borrow.Author.Tests.{eqb-true, ltb-true, leb-true, lt-ltb, le-leb, lt-leb, l
 use lib.Bits.{bitOr}
 use lib.Dec.{eqb, leb, ltb}
 use Rattle.memory.proofs.Laws.{below-or-not}
+use Rattle.device.specs.Header.{header}
 use Rattle.device.specs.Numbers.{verdictOf}
 use Rattle.device.specs.State.{goodBy}
 use Rattle.phases.specs.Fields.{flagsIn, kindIn, sizeIn, filledIn, aboveFilled, usedIn}
+use Rattle.phases.specs.Forms.{verdictIn, formIn, formOf, formShaped, kindShaped}
 use Rattle.phases.specs.Phases.{wordOf, cuOf, cuMost, cuKind, cuShaped, frameOf, ruOf, ruMost, ruFlags, restMost, ruShaped}
-use Rattle.phases.proofs.Units.{both}
+use Rattle.phases.proofs.Units.{both, form-wide}
 use Rattle.numerals.proofs.Laws.{or-zero}
 use Rattle.image.specs.Ranges.{cuFits, ruFits, frameFits}
-use Rattle.image.specs.Numbers.{sizedIn, hasNextIn, actingIs, sendingIs, endingIs, begunIs, frameIs, heldIs, fillingIs, closingIs, lackingIs, holdingIs, cuIs, ruIs}
+use Rattle.image.specs.Numbers.{unbufferedIn, formOfKind, hasDataIn, sizedIn, hasNextIn, actingIs, sendingIs, endingIs, begunIs, frameIs, heldIs, fillingIs, closingIs, lackingIs, holdingIs, cuIs, ruIs}
 
 -- ---- tests
 
@@ -50,66 +52,67 @@ or-swap false false = refl
 
 -- ---- the command unit
 
-module _ (n : ℕ) where
+-- by the number f of the form in force
+module _ (f n : ℕ) where
   low-flags : (m : ℕ) → m ≤ 0xFFFFF → leb n m ≡ true → ltb (flagsIn n) 16 ≡ true
   low-flags m h e = let p : n ≤ m = leb-true _ _ e in lt-ltb (flagsIn n) 16 (omega arith)
 
-  cu-none : leb n 0 ≡ cuIs 0 n
+  cu-none : leb n 0 ≡ cuIs f 0 n
   unfolding cuIs cuShaped cuMost cuKind cuFits cuOf
   cu-none = sym (and-true _ ∙ and-true _ ∙ implied (leb n 0) (ltb (flagsIn n) 16) (low-flags 0 (omega arith)))
 
-  cu-suspended : leb n 0xFFFF ≡ cuIs 1 n
+  cu-suspended : leb n 0xFFFF ≡ cuIs f 1 n
   unfolding cuIs cuShaped cuMost cuKind cuFits cuOf
   cu-suspended = sym (and-true _ ∙ and-true _ ∙ implied (leb n 0xFFFF) (ltb (flagsIn n) 16) (low-flags 0xFFFF (omega arith)))
 
-  cu-waiting : leb n 0xFFFF ≡ cuIs 2 n
+  cu-waiting : leb n 0xFFFF ≡ cuIs f 2 n
   unfolding cuIs cuShaped cuMost cuKind cuFits cuOf
   cu-waiting = sym (and-true _ ∙ and-true _ ∙ implied (leb n 0xFFFF) (ltb (flagsIn n) 16) (low-flags 0xFFFF (omega arith)))
 
-  cu-acting : actingIs n ≡ cuIs 3 n
+  cu-acting : actingIs n ≡ cuIs f 3 n
   unfolding actingIs cuIs cuShaped cuMost cuKind cuFits cuOf
   cu-acting = sym (and-true _)
 
-  cu-sending : n < 18446744073709551616 → sendingIs n ≡ cuIs 4 n
+  cu-sending : n < 18446744073709551616 → sendingIs f n ≡ cuIs f 4 n
   unfolding sendingIs cuIs cuShaped cuMost cuKind cuFits cuOf wordOf
   cu-sending h =
       rw (le-leb n 0xFFFFFFFFFFFFFFFF (omega arith))
-      (and-and (ltb (flagsIn n) 16) (hasNextIn n (kindIn n)) (sizedIn n)
-      ∙ ap (λ (x : Bool). x && (hasNextIn n (kindIn n) && sizedIn n)) (sym (and-true (ltb (flagsIn n) 16))))
+      (and-and (ltb (flagsIn n) 16) (hasNextIn n (kindIn n)) (sizedIn (unbufferedIn f) n)
+      ∙ ap (λ (x : Bool). x && (hasNextIn n (kindIn n) && sizedIn (unbufferedIn f) n)) (sym (and-true (ltb (flagsIn n) 16))))
 
-  cu-ending : endingIs n ≡ cuIs 5 n
+  cu-ending : endingIs f n ≡ cuIs f 5 n
   unfolding endingIs cuIs cuShaped cuMost cuKind cuFits cuOf wordOf
   cu-ending = refl
 
-  cu-failing : leb n 0xFFFFF ≡ cuIs 6 n
+  cu-failing : leb n 0xFFFFF ≡ cuIs f 6 n
   unfolding cuIs cuShaped cuMost cuKind cuFits cuOf
   cu-failing = sym (and-true _ ∙ and-true _ ∙ implied (leb n 0xFFFFF) (ltb (flagsIn n) 16) (low-flags 0xFFFFF (omega arith)))
 
-  cu-beyond : (t : ℕ) → 7 ≤ t → false ≡ cuIs t n
+  cu-beyond : (t : ℕ) → 7 ≤ t → false ≡ cuIs f t n
   unfolding cuIs cuShaped cuKind
   cu-beyond t h =
       let k : cuKind t (kindIn n) ≡ false = rw (ne-eqb t 3 (λ e. omega arith), ne-eqb t 5 (λ e. omega arith), le-ltb t 7 h) in
       rw (k, and-false (leb n (cuMost t) && ltb (flagsIn n) 16))
 
-pub cu-low : (t n : ℕ) → t < 3 → leb n (cond (eqb t 0) 0 0xFFFF) ≡ cuIs t n
-cu-low zero n h = cu-none n
-cu-low (suc zero) n h = cu-suspended n
-cu-low (suc (suc zero)) n h = cu-waiting n
-cu-low (suc (suc (suc t))) n h = absurd (omega arith)
+pub cu-low : (f t n : ℕ) → t < 3 → leb n (cond (eqb t 0) 0 0xFFFF) ≡ cuIs f t n
+cu-low f zero n h = cu-none f n
+cu-low f (suc zero) n h = cu-suspended f n
+cu-low f (suc (suc zero)) n h = cu-waiting f n
+cu-low f (suc (suc (suc t))) n h = absurd (omega arith)
 
-pub cu-begun : (t n : ℕ) → n < 18446744073709551616 → 3 ≤ t → begunIs t n ≡ cuIs t n
+pub cu-begun : (f t n : ℕ) → n < 18446744073709551616 → 3 ≤ t → begunIs f t n ≡ cuIs f t n
 unfolding begunIs
-cu-begun zero n h g = absurd (omega arith)
-cu-begun (suc zero) n h g = absurd (omega arith)
-cu-begun (suc (suc zero)) n h g = absurd (omega arith)
-cu-begun (suc (suc (suc zero))) n h g = cu-acting n
-cu-begun (suc (suc (suc (suc zero)))) n h g = cu-sending n h
-cu-begun (suc (suc (suc (suc (suc zero))))) n h g = cu-ending n
-cu-begun (suc (suc (suc (suc (suc (suc zero)))))) n h g = cu-failing n
-cu-begun (suc (suc (suc (suc (suc (suc (suc t))))))) n h g =
+cu-begun f zero n h g = absurd (omega arith)
+cu-begun f (suc zero) n h g = absurd (omega arith)
+cu-begun f (suc (suc zero)) n h g = absurd (omega arith)
+cu-begun f (suc (suc (suc zero))) n h g = cu-acting f n
+cu-begun f (suc (suc (suc (suc zero)))) n h g = cu-sending f n h
+cu-begun f (suc (suc (suc (suc (suc zero))))) n h g = cu-ending f n
+cu-begun f (suc (suc (suc (suc (suc (suc zero)))))) n h g = cu-failing f n
+cu-begun f (suc (suc (suc (suc (suc (suc (suc t))))))) n h g =
     let s = suc (suc (suc (suc (suc (suc (suc t)))))) in
     rw (ne-eqb s 3 (λ e. omega arith), ne-eqb s 4 (λ e. omega arith), ne-eqb s 5 (λ e. omega arith), ne-eqb s 6 (λ e. omega arith))
-    (cu-beyond n s (omega arith))
+    (cu-beyond f n s (omega arith))
 
 -- ---- the receive unit
 
@@ -118,7 +121,7 @@ record RuFacts (t n rest : ℕ) : Type 0 where
   tag : t < 8
   most : n ≤ ruMost t
   flags : flagsIn n < ruFlags t
-  kind : kindIn n < 3
+  kind : kindShaped (kindIn n) ≡ true
   second : rest ≤ restMost t
   fits : ruFits (ruOf t (wordOf n) rest) ≡ true
 
@@ -128,14 +131,14 @@ module _ (t n rest : ℕ) where
   ru-facts e =
       let v = both _ (ruFits (ruOf t (wordOf n) rest)) e in
       let x = both _ (leb rest (restMost t)) (v .0) in
-      let y = both _ (ltb (kindIn n) 3) (x .0) in
+      let y = both _ (kindShaped (kindIn n)) (x .0) in
       let z = both _ (ltb (flagsIn n) (ruFlags t)) (y .0) in
       let w = both (ltb t 8) (leb n (ruMost t)) (z .0) in
       record {
         tag = ltb-true _ _ (w .0);
         most = leb-true _ _ (w .1);
         flags = ltb-true _ _ (z .1);
-        kind = ltb-true _ _ (y .1);
+        kind = y .1;
         second = leb-true _ _ (x .1);
         fits = v .1;
       }
@@ -147,10 +150,14 @@ module _ (t n rest : ℕ) where
         lt-ltb t 8 (f .tag),
         le-leb n (ruMost t) (f .most),
         lt-ltb (flagsIn n) (ruFlags t) (f .flags),
-        lt-ltb (kindIn n) 3 (f .kind),
+        f .kind,
         le-leb rest (restMost t) (f .second),
         f .fits,
       )
+
+kind-none : kindShaped 0 ≡ true
+unfolding kindShaped formShaped
+kind-none = refl
 
 -- an offset alone, or nothing
 ru-plain : (t n rest most : ℕ) → t < 8 → most ≤ 0xFFFF → ruMost t ≡ most → ruFlags t ≡ 32 → restMost t ≡ 0 → ruFits (ruOf t (wordOf n) rest) ≡ true
@@ -161,7 +168,8 @@ ru-plain t n rest most b m p q k fits =
     let x = both (leb n most) (eqb rest 0) e in
     let y : n ≤ most = leb-true _ _ (x .0) in
     let z : rest ≡ 0 = eqb-true _ _ (x .1) in
-    ru-true t n rest (record { tag = b; most = omega arith; flags = omega arith; kind = omega arith; second = omega arith; fits = fits }))
+    let i : kindIn n ≡ 0 = omega arith in
+    ru-true t n rest (record { tag = b; most = omega arith; flags = omega arith; kind = rw i kind-none; second = omega arith; fits = fits }))
     (λ e. let f = ru-facts t n rest e in rw (le-leb n most (omega (arith, f .most)), eq-eqb rest 0 (omega (arith, f .second))))
 
 ru-low : (t n rest : ℕ) → t < 4 → (leb n (cond (eqb (t % 2) 0) 0 0xFFFF) && eqb rest 0) ≡ ruIs t n rest
@@ -195,29 +203,41 @@ good false (suc zero) h = refl
 good false (suc (suc zero)) h = refl
 good false (suc (suc (suc k))) h = absurd (omega arith)
 
+-- a number that is one of a verdict and a form
+shaped-verdict : (k : ℕ) → kindShaped k ≡ true → verdictIn k < 3
+unfolding kindShaped
+shaped-verdict k e = ltb-true _ _ (both (ltb (verdictIn k) 3) (formShaped (formIn k)) e .0)
+
 module _ (n most : ℕ) where
   saved : Bool
-  saved = frameOf (wordOf n) .savebad || (not (frameOf (wordOf n) .short) && eqb (kindIn n) 0)
+  saved = frameOf (wordOf n) .savebad || (not (frameOf (wordOf n) .short) && eqb (verdictIn (kindIn n)) 0)
 
-  frame-same : kindIn n < 3 → (sizedIn n && saved) ≡ frameFits (frameOf (wordOf n))
-  unfolding saved frameFits wordOf
+  least : ℕ
+  least = header (formOf (formOfKind n) .length)
+
+  frame-same : kindShaped (kindIn n) ≡ true → (sizedIn least n && saved) ≡ frameFits (frameOf (wordOf n))
+  unfolding saved least frameFits wordOf
   frame-same h =
-      rw (good (frameOf (wordOf n) .short) (kindIn n) h, or-swap (not (frameOf (wordOf n) .short) && eqb (kindIn n) 0) (frameOf (wordOf n) .savebad))
+      let k = verdictIn (kindIn n) in
+      rw (
+        le-leb (formOf (formOfKind n) .length) 6 (form-wide (formOfKind n)),
+        good (frameOf (wordOf n) .short) k (shaped-verdict (kindIn n) h),
+        or-swap (not (frameOf (wordOf n) .short) && eqb k 0) (frameOf (wordOf n) .savebad),
+      )
 
-  frame-facts : frameIs n most ≡ true → (flagsIn n < most) × (kindIn n < 3) × (frameFits (frameOf (wordOf n)) ≡ true)
-  unfolding frameIs saved
+  frame-facts : frameIs n most ≡ true → (flagsIn n < most) × (kindShaped (kindIn n) ≡ true) × (frameFits (frameOf (wordOf n)) ≡ true)
+  unfolding frameIs saved least
   frame-facts e =
       let x = both _ saved e in
-      let y = both _ (sizedIn n) (x .0) in
-      let z = both (ltb (flagsIn n) most) (ltb (kindIn n) 3) (y .0) in
-      let k : kindIn n < 3 = ltb-true _ _ (z .1) in
-      (ltb-true _ _ (z .0), k, sym (frame-same k) ∙ rw (y .1, x .1))
+      let y = both _ (sizedIn least n) (x .0) in
+      let z = both (ltb (flagsIn n) most) (kindShaped (kindIn n)) (y .0) in
+      (ltb-true _ _ (z .0), z .1, sym (frame-same (z .1)) ∙ rw (y .1, x .1))
 
-  frame-true : flagsIn n < most → kindIn n < 3 → frameFits (frameOf (wordOf n)) ≡ true → frameIs n most ≡ true
-  unfolding frameIs saved
+  frame-true : flagsIn n < most → kindShaped (kindIn n) ≡ true → frameFits (frameOf (wordOf n)) ≡ true → frameIs n most ≡ true
+  unfolding frameIs saved least
   frame-true p k e =
-      let x = both (sizedIn n) saved (frame-same k ∙ e) in
-      rw (lt-ltb (flagsIn n) most p, lt-ltb (kindIn n) 3 k, x .0, x .1)
+      let x = both (sizedIn least n) saved (frame-same k ∙ e) in
+      rw (lt-ltb (flagsIn n) most p, k, x .0, x .1)
 
 module _ (n rest : ℕ) (h : n < 18446744073709551616) where
   held-same : heldIs n rest ≡ ruIs 4 n rest
@@ -240,7 +260,7 @@ module _ (n rest : ℕ) (h : n < 18446744073709551616) where
       same (fillingIs n rest) (ruIs 5 n rest)
       (λ e.
       let v = both _ (ltb (filledIn rest) (sizeIn n)) e in
-      let w = both _ (leb 14 (filledIn rest)) (v .0) in
+      let w = both _ (leb (unbufferedIn (formOfKind n)) (filledIn rest)) (v .0) in
       let x = both _ (hasNextIn n (aboveFilled rest)) (w .0) in
       let y = both (leb rest 0xFFFFFF) (frameIs n 32) (x .0) in
       let f = frame-facts n 32 (y .1) in
@@ -253,7 +273,7 @@ module _ (n rest : ℕ) (h : n < 18446744073709551616) where
       let m : rest ≤ 0xFFFFFF = f .second in
       let u : usedIn rest ≡ aboveFilled rest = omega arith in
       let v = both _ (ltb (filledIn rest) (sizeIn n)) (f .fits) in
-      let w = both _ (leb 14 (filledIn rest)) (v .0) in
+      let w = both _ (leb (unbufferedIn (formOfKind n)) (filledIn rest)) (v .0) in
       let x = both (frameFits (frameOf (wordOf n))) (hasNextIn n (usedIn rest)) (w .0) in
       let g : hasNextIn n (aboveFilled rest) ≡ true = rw (← u) (x .1) in
       rw (le-leb rest 0xFFFFFF m, frame-true n 32 (f .flags) (f .kind) (x .0), g, w .1, v .1))
@@ -263,7 +283,7 @@ module _ (n rest : ℕ) (h : n < 18446744073709551616) where
   closing-same =
       same (closingIs n rest) (ruIs 6 n rest)
       (λ e.
-      let x = both _ (ltb 14 (sizeIn n) || not (wordOf n .sixth)) e in
+      let x = both _ (hasDataIn n || not (wordOf n .sixth)) e in
       let y = both (eqb rest 0) (frameIs n 64) (x .0) in
       let f = frame-facts n 64 (y .1) in
       let z : rest ≡ 0 = eqb-true _ _ (y .0) in
@@ -271,7 +291,7 @@ module _ (n rest : ℕ) (h : n < 18446744073709551616) where
       (record { tag = omega arith; most = omega arith; flags = f .0; kind = f .1; second = omega arith; fits = rw (f .2, x .1) }))
       (λ e.
       let f = ru-facts 6 n rest e in
-      let x = both (frameFits (frameOf (wordOf n))) (ltb 14 (sizeIn n) || not (wordOf n .sixth)) (f .fits) in
+      let x = both (frameFits (frameOf (wordOf n))) (hasDataIn n || not (wordOf n .sixth)) (f .fits) in
       rw (eq-eqb rest 0 (omega (arith, f .second)), frame-true n 64 (f .flags) (f .kind) (x .0), x .1))
 
   lacking-same : lackingIs n rest ≡ ruIs 7 n rest
@@ -279,7 +299,7 @@ module _ (n rest : ℕ) (h : n < 18446744073709551616) where
   lacking-same =
       same (lackingIs n rest) (ruIs 7 n rest)
       (λ e.
-      let x = both _ (ltb 14 (sizeIn n)) e in
+      let x = both _ (hasDataIn n) e in
       let y = both _ (frameIs n 32) (x .0) in
       let w = both (leb n 0xFFFFFFFFFFFF) (eqb rest 0) (y .0) in
       let f = frame-facts n 32 (y .1) in
@@ -288,7 +308,7 @@ module _ (n rest : ℕ) (h : n < 18446744073709551616) where
       (record { tag = omega arith; most = leb-true _ _ (w .0); flags = f .0; kind = f .1; second = omega arith; fits = rw (f .2, x .1) }))
       (λ e.
       let f = ru-facts 7 n rest e in
-      let x = both (frameFits (frameOf (wordOf n))) (ltb 14 (sizeIn n)) (f .fits) in
+      let x = both (frameFits (frameOf (wordOf n))) (hasDataIn n) (f .fits) in
       rw (le-leb n 0xFFFFFFFFFFFF (f .most), eq-eqb rest 0 (omega (arith, f .second)), frame-true n 32 (f .flags) (f .kind) (x .0), x .1))
 
   ru-beyond : (t : ℕ) → 8 ≤ t → false ≡ ruIs t n rest

@@ -7,7 +7,7 @@ use lib.ListN.{length, replicate}
 use lib.Seq.{sets}
 use Rattle.memory.specs.Memory.{digits}
 use Rattle.scb.specs.declared.Events.{Events}
-use Rattle.device.specs.Limits.{addressLength, recordSize}
+use Rattle.device.specs.Limits.{longestAddress, recordSize}
 use Rattle.device.specs.declared.Cu.{Cu}
 use Rattle.device.specs.declared.Device.{Device}
 use Rattle.device.specs.declared.Ru.{Ru}
@@ -16,9 +16,10 @@ use Rattle.device.specs.declared.Units.{Units}
 use Rattle.actions.specs.Setup.{setupOf}
 use Rattle.numerals.specs.Places.{bytesFrom, field}
 use Rattle.phases.specs.Fields.{odd, flagAt}
+use Rattle.phases.specs.Forms.{formOf}
 use Rattle.phases.specs.Phases.{wordOf, cuOf, cuShaped, ruOf, ruShaped}
 use Rattle.packed.specs.Packed.{packedOf, statusIs, baseIn, scbIn, marksIn, cuTagIn, ruTagIn}
-use Rattle.packed.specs.SetUp.{setupBytes, settingsEnd, filterSize, settingsAt, minimumAt, ownAt, filterAt}
+use Rattle.packed.specs.SetUp.{setupBytes, formAt, settingsShaped, filterSize, settingsAt, minimumAt, ownAt, filterAt}
 use Rattle.packed.specs.Record.{lettersAt, statusAt, cuAt, ruAt, restAt, gapAt, gapSize, spareAt, spareSize, setupAt}
 use Rattle.packed.specs.declared.Packed.{Packed}
 use Rattle.image.specs.Ranges.{inRange}
@@ -52,7 +53,8 @@ abbrev pub eventsOf : ℕ → Events
 eventsOf n = record { cx = flagAt 3 n; fr = flagAt 2 n; cna = flagAt 1 n; rnr = odd n }
 
 abbrev pub settingsOf : ℕ → ℕ → Settings
-settingsOf s minimum = record { savebad = odd s; promiscuous = flagAt 1 s; nobroadcast = flagAt 2 s; minimum = minimum }
+settingsOf s minimum =
+    record { savebad = odd s; promiscuous = flagAt 1 s; nobroadcast = flagAt 2 s; minimum = minimum; form = formOf (formAt s) }
 
 -- the units of their numbers
 abbrev pub cuBy : Packed → Cu
@@ -84,7 +86,7 @@ unitsAt r = unitsBy (packedAt r) (settingsIn r)
 
 -- units with the own address and the filter of a record: bytes 242-247, bytes 248-255
 unfoldable pub deviceFrom : List ℕ → Units → Device
-deviceFrom r u = record { units = u; own = bytesFrom r (setupAt + ownAt) addressLength; filter = field r (setupAt + filterAt) filterSize }
+deviceFrom r u = record { units = u; own = bytesFrom r (setupAt + ownAt) longestAddress; filter = field r (setupAt + filterAt) filterSize }
 
 -- a record of another length is read as an empty one: its own address and its filter are zero
 unfoldable pub deviceAt : List ℕ → Units → Device
@@ -96,9 +98,9 @@ deviceAt r u = deviceFrom (cond (eqb (length r) recordSize) r []) u
 abbrev pub frontIs : ℕ → Bool
 frontIs n = eqb (n % 2 ^ 40) 0x0001544742
 
--- front, status, and settings of three bits
+-- front, status, and a form in the settings
 unfoldable pub headShaped : List ℕ → Bool
-headShaped r = frontIs (field r lettersAt 8) && statusIs (field r statusAt 8) && ltb (field r (setupAt + settingsAt) 1) settingsEnd
+headShaped r = frontIs (field r lettersAt 8) && statusIs (field r statusAt 8) && settingsShaped (field r (setupAt + settingsAt) 1)
 
 -- each unit's tag and words are those of a unit
 abbrev pub wordsShaped : Packed → Bool

@@ -7,11 +7,13 @@ use lib.ListN.{length, getD}
 use Rattle.memory.specs.Address.{isNone}
 use Rattle.memory.specs.Memory.{value}
 use Rattle.scb.specs.Words.{cuNumber, ruNumber, eventBits}
-use Rattle.device.specs.Limits.{addressLength, header, longest, filterBits}
+use Rattle.device.specs.Header.{header, unbuffered}
+use Rattle.device.specs.Limits.{longestAddress, longest, filterBits}
 use Rattle.device.specs.State.{cuState, ruState, isGood}
 use Rattle.device.specs.declared.Cu.{Cu}
 use Rattle.device.specs.declared.Cu.the-variants as cu
 use Rattle.device.specs.declared.Device.{Device}
+use Rattle.device.specs.declared.Form.{Form}
 use Rattle.device.specs.declared.Frame.{Frame}
 use Rattle.device.specs.declared.Ru.{Ru}
 use Rattle.device.specs.declared.Ru.the-variants as ru
@@ -21,43 +23,54 @@ use Rattle.device.specs.declared.Units.{Units}
 use Rattle.device.specs.declared.Walk.{Walk}
 use Rattle.phases.specs.Phases.{cuWord, ruWord, WordWide}
 
--- a frame has 14 to 2,048 bytes
-abbrev pub sized : ℕ → Bool
-sized n = leb header n && leb n longest
+-- an address has at most six bytes
+abbrev pub formFits : Form → Bool
+formFits f = leb (f .length) longestAddress
+
+-- so many bytes at least, and 2,048 at most
+abbrev pub sizedFrom : ℕ → ℕ → Bool
+sizedFrom least n = leb least n && leb n longest
 
 -- a walk goes on: fewer than 64 descriptors are used, and there is a next one
 abbrev pub hasNext : Walk → Bool
 hasNext w = leb (w .used) 63 && not (isNone (w .next))
 
--- a Transmit at its descriptors has its header and no more than a frame in the outgoing area
-abbrev pub sendingFits : Walk → Bool
-sendingFits w = hasNext w && sized (w .filled)
+-- a Transmit has in the outgoing area what the buffers do not bring, by the form in force, and no more than a frame
+abbrev pub sentFits : Form → ℕ → Bool
+sentFits f n = sizedFrom (unbuffered f) n
+
+abbrev pub sendingFits : Form → Walk → Bool
+sendingFits f w = hasNext w && sentFits f (w .filled)
 
 -- the command unit is in range
-unfoldable pub cuFits : Cu → Bool
-cuFits cu.Idle = true
-cuFits (cu.Suspended o) = true
-cuFits (cu.Waiting o) = true
-cuFits (cu.Acting b a) = true
-cuFits (cu.Sending b w) = sendingFits w
-cuFits (cu.Ending b n) = sized n
-cuFits (cu.Failing b) = true
+unfoldable pub cuFits : Form → Cu → Bool
+cuFits f cu.Idle = true
+cuFits f (cu.Suspended o) = true
+cuFits f (cu.Waiting o) = true
+cuFits f (cu.Acting b a) = true
+cuFits f (cu.Sending b w) = sendingFits f w
+cuFits f (cu.Ending b n) = sentFits f n
+cuFits f (cu.Failing b) = true
 
--- a bad frame is held only to be saved
+-- a held frame has its header, by its own form; a bad one is held only to be saved
 unfoldable pub frameFits : Frame → Bool
-frameFits f = sized (f .length) && (isGood f || f .savebad)
+frameFits f = formFits (f .form) && sizedFrom (header (f .form .length)) (f .length) && (isGood f || f .savebad)
+
+-- it has data for the buffers: with location 1 always
+abbrev pub hasData : Frame → Bool
+hasData f = ltb (unbuffered (f .form)) (f .length)
 
 -- what is being filled has data left
 abbrev pub fillingFits : Storing → Walk → Bool
-fillingFits s w = frameFits (s .frame) && hasNext w && leb header (w .filled) && ltb (w .filled) (s .frame .length)
+fillingFits s w = frameFits (s .frame) && hasNext w && leb (unbuffered (s .frame .form)) (w .filled) && ltb (w .filled) (s .frame .length)
 
 -- a frame without data fills no buffer, so the last one used cannot have had EL
 abbrev pub closingFits : Storing → Bool → Bool
-closingFits s full = frameFits (s .frame) && (ltb header (s .frame .length) || not full)
+closingFits s full = frameFits (s .frame) && (hasData (s .frame) || not full)
 
 -- nor can one without data be out of buffers
 abbrev pub lackingFits : Storing → Bool
-lackingFits s = frameFits (s .frame) && ltb header (s .frame .length)
+lackingFits s = frameFits (s .frame) && hasData (s .frame)
 
 -- the receive unit is in range
 unfoldable pub ruFits : Ru → Bool
@@ -70,15 +83,19 @@ ruFits (ru.Filling s w) = fillingFits s w
 ruFits (ru.Closing s o full) = closingFits s full
 ruFits (ru.Lacking s) = lackingFits s
 
--- the units are, and the base has 24 bits
+-- the units are, the base has 24 bits, and the form in force is one
 unfoldable pub unitsFit : Units → Bool
-unitsFit u = ltb (u .base .0) (2 ^ 24) && cuFits (u .cu) && ruFits (u .ru)
+unitsFit u = ltb (u .base .0) (2 ^ 24) && formFits (u .settings .form) && cuFits (u .settings .form) (u .cu) && ruFits (u .ru)
 
 -- ---- before the first attention nothing can change: all is as after reset
 
+-- address length 6, and location 0
+abbrev pub formFresh : Form → Bool
+formFresh f = eqb (f .length) longestAddress && not (f .location)
+
 -- those bits 0, and 64 for minimum length
 abbrev pub settingsFresh : Settings → Bool
-settingsFresh s = not (s .savebad) && not (s .promiscuous) && not (s .nobroadcast) && eqb (s .minimum) 64
+settingsFresh s = not (s .savebad) && not (s .promiscuous) && not (s .nobroadcast) && eqb (s .minimum) 64 && formFresh (s .form)
 
 -- both units Idle
 abbrev pub unitsIdle : Cu → Ru → Bool
@@ -114,6 +131,6 @@ pub record Wide (d : Device) : Type 0 where
   pub minimum : d .units .settings .minimum < 2 ^ 8
   pub cu : WordWide (cuWord (d .units .cu))
   pub ru : WordWide (ruWord (d .units .ru))
-  pub own : length (d .own) ≡ addressLength
+  pub own : length (d .own) ≡ longestAddress
   pub own-bytes : (i : ℕ) → getD (d .own) i 0 < 2 ^ 8
   pub filter : d .filter < 2 ^ filterBits

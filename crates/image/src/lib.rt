@@ -2,6 +2,7 @@
 // Where everything stands is `packed`'s to say. `is_image` asks for 256 bytes; the others take a slice of every length.
 use packed::Packed;
 use packed::cu;
+use packed::form;
 use packed::record;
 use packed::ru;
 use packed::setup;
@@ -11,7 +12,8 @@ ghost use lib.ListN.{length};
 ghost use Rattle.device.specs.Limits.{recordSize};
 ghost use Rattle.device.specs.State as device;
 ghost use Rattle.numerals.specs.Places.{field};
-ghost use Rattle.phases.specs.Fields.{offsetMost};
+ghost use Rattle.phases.specs.Fields.{kindIn, offsetMost};
+ghost use Rattle.phases.specs.Forms.{kindShaped};
 ghost use Rattle.packed.specs.Record.{lettersAt, statusAt, cuAt, ruAt, restAt};
 ghost use Rattle.image.specs.Image as image;
 ghost use Rattle.image.specs.Numbers as numbers;
@@ -31,9 +33,7 @@ const HALF_ONES: u64 = 0xFFFFFF;
 
 const MINIMUM: u8 = 64;
 
-// A frame's header, the most bytes of a frame, and how many descriptors a walk that goes on may have used.
-const HEADER: u64 = 14;
-
+// The most bytes of a frame, and how many descriptors a walk that goes on may have used.
 const LONGEST: u64 = 2048;
 
 const LAST: u64 = 63;
@@ -47,12 +47,12 @@ const VERDICTS: u64 = 3;
 
 // ---- a unit's word
 
-// A frame has 14 to 2,048 bytes.
-fn is_sized(n: u64) -> bool
-    ensures { λ x. ⌜ x ≡ numbers.sizedIn n ⌝ }
+// So many bytes at least, and 2,048 at most.
+fn is_sized(n: u64, least: u64) -> bool
+    ensures { λ x. ⌜ x ≡ numbers.sizedIn least n ⌝ }
 {
     let size = packed::size_of(n);
-    (HEADER <= size) & (size <= LONGEST)
+    (least <= size) & (size <= LONGEST)
 }
 
 // A walk goes on: fewer than 64 descriptors are used, and there is a next one.
@@ -79,55 +79,71 @@ fn acting_is(n: u64) -> bool
         & (packed::kind_of(n) != TRANSMIT)
 }
 
-fn sending_is(n: u64) -> bool
-    ensures { λ x. ⌜ x ≡ numbers.sendingIs n ⌝ }
+// A Transmit has in the outgoing area what the buffers do not bring, by the form in force.
+fn sending_is(f: u64, n: u64) -> bool
+    ensures { λ x. ⌜ x ≡ numbers.sendingIs f n ⌝ }
 {
-    (packed::flags_of(n) < cu::BEGUN_FLAGS) & has_next(n, packed::kind_of(n)) & is_sized(n)
+    (packed::flags_of(n) < cu::BEGUN_FLAGS)
+        & has_next(n, packed::kind_of(n))
+        & is_sized(n, form::unbuffered(f))
 }
 
-fn ending_is(n: u64) -> bool
-    ensures { λ x. ⌜ x ≡ numbers.endingIs n ⌝ }
+fn ending_is(f: u64, n: u64) -> bool
+    ensures { λ x. ⌜ x ≡ numbers.endingIs f n ⌝ }
 {
     (n <= packed::SIZED_MOST)
         & (packed::flags_of(n) < cu::BEGUN_FLAGS)
         & (packed::kind_of(n) == 0)
-        & is_sized(n)
+        & is_sized(n, form::unbuffered(f))
 }
 
 // A command that is begun: what its phase does not use is zero.
-fn begun_is(tag: u64, n: u64) -> bool
-    ensures { λ x. ⌜ x ≡ numbers.begunIs tag n ⌝ }
+fn begun_is(f: u64, tag: u64, n: u64) -> bool
+    ensures { λ x. ⌜ x ≡ numbers.begunIs f tag n ⌝ }
 {
     match tag {
         cu::ACTING => acting_is(n),
-        cu::SENDING => sending_is(n),
-        cu::ENDING => ending_is(n),
+        cu::SENDING => sending_is(f, n),
+        cu::ENDING => ending_is(f, n),
         cu::FAILING => n <= cu::BEGUN_MOST,
         _ => false,
     }
 }
 
 // Whether a tag and a word are those of a command unit in range: most records have an offset alone, or nothing.
-fn cu_is(tag: u64, n: u64) -> bool
-    ensures { λ x. ⌜ x ≡ numbers.cuIs tag n ⌝ }
+fn cu_is(f: u64, tag: u64, n: u64) -> bool
+    ensures { λ x. ⌜ x ≡ numbers.cuIs f tag n ⌝ }
 {
     if tag < cu::ACTING {
         return n <= offset_most(tag == cu::IDLE);
     }
-    begun_is(tag, n)
+    begun_is(f, tag, n)
 }
 
 // ---- the receive unit
 
-// A frame's word; a bad frame is held only to be saved.
+// The number of a verdict and a form.
+fn kind_is(n: u64) -> bool
+    ensures { λ x. ⌜ x ≡ kindShaped (kindIn n) ⌝ }
+{
+    (ru::verdict(n) < VERDICTS) & form::is_form(ru::form(n))
+}
+
+// A frame's word: it has its header, by its own form; a bad frame is held only to be saved.
 fn frame_is(n: u64, most: u64) -> bool
     ensures { λ x. ⌜ x ≡ numbers.frameIs n most ⌝ }
 {
-    let verdict = packed::kind_of(n);
     (packed::flags_of(n) < most)
-        & (verdict < VERDICTS)
-        & is_sized(n)
-        & (ru::save_bad(n) | (!ru::short(n) & (verdict == GOOD)))
+        & kind_is(n)
+        & is_sized(n, form::header(ru::form(n)))
+        & (ru::save_bad(n) | (!ru::short(n) & (ru::verdict(n) == GOOD)))
+}
+
+// It has data for the buffers.
+fn has_data(n: u64) -> bool
+    ensures { λ x. ⌜ x ≡ numbers.hasDataIn n ⌝ }
+{
+    form::unbuffered(ru::form(n)) < packed::size_of(n)
 }
 
 fn held_is(n: u64, rest: u64) -> bool
@@ -143,23 +159,20 @@ fn filling_is(n: u64, rest: u64) -> bool
     (rest <= ru::FILLED_MOST)
         & frame_is(n, ru::STORING_FLAGS)
         & has_next(n, ru::above_filled(rest))
-        & (HEADER <= ru::filled(rest))
+        & (form::unbuffered(ru::form(n)) <= ru::filled(rest))
         & (ru::filled(rest) < packed::size_of(n))
 }
 
 fn closing_is(n: u64, rest: u64) -> bool
     ensures { λ x. ⌜ x ≡ numbers.closingIs n rest ⌝ }
 {
-    (rest == 0) & frame_is(n, ru::CLOSING_FLAGS) & ((HEADER < packed::size_of(n)) | !ru::full(n))
+    (rest == 0) & frame_is(n, ru::CLOSING_FLAGS) & (has_data(n) | !ru::full(n))
 }
 
 fn lacking_is(n: u64, rest: u64) -> bool
     ensures { λ x. ⌜ x ≡ numbers.lackingIs n rest ⌝ }
 {
-    (n <= packed::SIZED_MOST)
-        & (rest == 0)
-        & frame_is(n, ru::STORING_FLAGS)
-        & (HEADER < packed::size_of(n))
+    (n <= packed::SIZED_MOST) & (rest == 0) & frame_is(n, ru::STORING_FLAGS) & has_data(n)
 }
 
 fn holding_is(tag: u64, n: u64, rest: u64) -> bool
@@ -236,17 +249,25 @@ fn packed_at(r: &[u8]) -> Packed
     }
 }
 
+// The form in force.
+fn form_at(r: &[u8]) -> u64
+    requires { ⌜ length (now r) ≡ recordSize ⌝ }
+    ensures { λ x. ⌜ x ≡ numbers.formIs (now (r .entry)) ⌝ }
+{
+    setup::form_of(numerals::read8(r, record::SETTINGS))
+}
+
 fn front_is(n: u64) -> bool
     ensures { λ x. ⌜ x ≡ image.frontIs n ⌝ }
 {
     n % record::FRONT_END == record::FRONT
 }
 
-fn words_are(front: u64, k: Packed) -> bool
-    ensures { λ x. ⌜ x ≡ numbers.wordsAre front k ⌝ }
+fn words_are(front: u64, f: u64, k: Packed) -> bool
+    ensures { λ x. ⌜ x ≡ numbers.wordsAre front f k ⌝ }
 {
     if front_is(front) & packed::status_is(k.status) {
-        if cu_is(packed::cu_tag(k), k.cu) {
+        if cu_is(f, packed::cu_tag(k), k.cu) {
             return ru_is(packed::ru_tag(k), k.ru, k.rest);
         }
     }
@@ -278,8 +299,9 @@ pub fn is_image(r: &[u8]) -> bool
     ensures { λ x. ⌜ x ≡ image.imaged (now (r .entry)) ⌝ }
 {
     let k = packed_at(r);
-    if words_are(front_at(r), k) {
-        if spare_zero(r) & (numerals::read8(r, record::SETTINGS) < setup::SETTINGS_END) {
+    let f = form_at(r);
+    if words_are(front_at(r), f, k) {
+        if spare_zero(r) & form::is_form(f) {
             if packed::initialised(k) {
                 return true;
             }

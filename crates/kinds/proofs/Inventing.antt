@@ -11,7 +11,7 @@ use lib.ListN.{getD, replicate}
 use Rattle.memory.specs.Memory.{wordAt}
 use Rattle.memory.proofs.Fields.{word-same}
 use Rattle.device.specs.Numbers.{counterPlace}
-use Rattle.device.specs.State.{fresh}
+use Rattle.device.specs.State.{fresh, freshForm}
 use Rattle.device.specs.Change.{withRu}
 use Rattle.device.specs.declared.Counter.the-variants as counter
 use Rattle.device.specs.declared.Cu.the-variants as cu
@@ -20,6 +20,7 @@ use Rattle.device.specs.declared.Frame.{Frame}
 use Rattle.device.specs.declared.Ru.{Ru}
 use Rattle.device.specs.declared.Ru.the-variants as ru
 use Rattle.device.specs.declared.Verdict.the-variants as verdict
+use Rattle.phases.specs.Forms.{formNumber}
 use Rattle.phases.specs.Phases.{ruWord}
 use Rattle.image.specs.Ranges.{unitsFit, cuFits, frameFits, ruFits, initialisedOrFresh, inRange, Wide}
 use Rattle.image.proofs.Exact.{fresh-range, fresh-wide}
@@ -227,7 +228,7 @@ counting-along =
 -- ---- while a frame is held, its begin turn next: the first of 132 turns
 
 abbrev sixty : Frame
-sixty = record { length = 60; verdict = verdict.Good; short = false; savebad = false }
+sixty = record { length = 60; verdict = verdict.Good; short = false; savebad = false; form = freshForm }
 
 abbrev unit : Ru
 unit = ru.Held (record { 0 = 0x60 }) sixty false
@@ -236,7 +237,7 @@ abbrev holder : Device
 holder = record { units = withRu (unitsWith cu.Idle) unit; own = replicate 6 255; filter = 0 }
 
 holder-wide : Wide holder
-unfolding ruWord
+unfolding formNumber ruWord
 holder-wide =
     record {
       scb = idle-wide .scb;

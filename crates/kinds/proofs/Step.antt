@@ -14,6 +14,7 @@ use Rattle.memory.specs.declared.Offset.{Offset}
 use Rattle.memory.specs.declared.RealAddress.{RealAddress}
 use Rattle.memory.proofs.Laws.{length-apply}
 use Rattle.scb.specs.Words.{anyOf}
+use Rattle.device.specs.Header.{unbuffered}
 use Rattle.device.specs.Numbers.{transmit, actionNumber, actionOf}
 use Rattle.device.specs.declared.Action.{Action}
 use Rattle.device.specs.declared.Action.the-variants as action
@@ -64,15 +65,16 @@ begun-block : (o : Offset) (word : ℕ) → begunBy o word .block ≡ o
 unfolding begunBy
 begun-block o word = refl
 
-first-at : (none : Bool) (tdr : Offset → Type 0) (base : RealAddress) (m : List ℕ) (g : Begun) (o b : Offset) → g .block ≡ b
-    → AtBlock tdr base m (toFirst none g o) b
-first-at true tdr base m g o b e = e
-first-at false tdr base m g o b e = e
+first-at : (none : Bool) (filled : ℕ) (tdr : Offset → Type 0) (base : RealAddress) (m : List ℕ) (g : Begun) (o b : Offset) → g .block ≡ b
+    → AtBlock tdr base m (toFirst none filled g o) b
+first-at true filled tdr base m g o b e = e
+first-at false filled tdr base m g o b e = e
 
 begun-at : (transmits : Bool) (tdr : Offset → Type 0) (p : Part) (g : Begun) (word : ℕ) (q m : List ℕ) (b : Offset) → g .block ≡ b
     → (actionOf (cmd word) ≡ action.Tdr → tdr b) → AtBlock tdr (p .base) m (toBegun transmits p g word q .unit) b
 begun-at true tdr p g word q m b e t =
-    let first = offsetAt q (place (p .base) (g .block) 6) in first-at (isNone first) tdr (p .base) m g first b e
+    let first = offsetAt q (place (p .base) (g .block) 6) in
+    first-at (isNone first) (unbuffered (p .setup .settings .form)) tdr (p .base) m g first b e
 begun-at false tdr p g word q m b e t = (e, t)
 
 -- an action that is TDR has the number 5

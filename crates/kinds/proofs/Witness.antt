@@ -12,7 +12,7 @@ use Rattle.memory.specs.declared.Offset.{Offset}
 use Rattle.memory.proofs.Bytes.{Bytes, bytes-nil}
 use Rattle.scb.specs.Words.{bit, noEvents}
 use Rattle.device.specs.Limits.{holdingSize, outgoingSize}
-use Rattle.device.specs.State.{fresh, freshSettings}
+use Rattle.device.specs.State.{fresh, freshForm, freshSettings}
 use Rattle.device.specs.declared.Action.the-variants as action
 use Rattle.device.specs.declared.Begun.{Begun}
 use Rattle.device.specs.declared.Cu.{Cu}
@@ -153,7 +153,7 @@ wide-with c k =
       filter = fresh-wide .filter;
     }
 
-pub range-with : (c : Cu) → cuFits c ≡ true → inRange (withUnit c) ≡ true
+pub range-with : (c : Cu) → cuFits freshForm c ≡ true → inRange (withUnit c) ≡ true
 unfolding inRange unitsFit ruFits initialisedOrFresh
 range-with c e = rw e
 

@@ -10,6 +10,7 @@ use Rattle.memory.specs.Memory.{wordAt, wordTo, apply}
 use Rattle.memory.specs.Address.{place, offsetAt, isNone}
 use Rattle.memory.specs.declared.Offset.{Offset}
 use Rattle.memory.specs.declared.RealAddress.{RealAddress}
+use Rattle.device.specs.Header.{unbuffered}
 use Rattle.device.specs.Limits.{mostBuffers}
 use Rattle.device.specs.Numbers.{transmit}
 use Rattle.device.specs.declared.Begun.{Begun}
@@ -22,7 +23,7 @@ use Rattle.command.specs.Part.{Part}
 use Rattle.command.specs.Service.{service}
 use Rattle.progress.specs.Same.{range, Same}
 use Rattle.progress.proofs.Same.{Sub, sub-nil, in-left, in-right, same-apply, same-field}
-use Rattle.lists.specs.Uses.{block, from, wordOf, addressLengthOf, headerBytes, headerLengthOf, marked, uses, chainBytes, firstBytes, listSetup, listBytes}
+use Rattle.lists.specs.Uses.{block, from, wordOf, headerBytes, headerLengthOf, marked, uses, chainBytes, firstBytes, listSetup, listBytes}
 use Rattle.lists.specs.Unit.{Tag, begun, beginReads, readsBy}
 use Rattle.lists.proofs.Laws.{begun-setup, begun-base}
 use Rattle.lists.proofs.Blocks.{sub-refl, sub-append, status-in, command-in, own-in, word-targets, status-result, later}
@@ -31,34 +32,35 @@ use Rattle.lists.proofs.Stands.{begunTodo, todo, rank, misses-nil, Begi
 -- ---- the unit that a begin leaves
 
 -- by its kind, and by whether its first descriptor is none
-first-rank : (none : Bool) (b : Begun) (o : Offset) (k : ℕ) → rank (toFirst none b o) (suc k) < 66 * suc k
-first-rank true b o k = omega arith
-first-rank false b o k = omega arith
+first-rank : (none : Bool) (filled : ℕ) (b : Begun) (o : Offset) (k : ℕ) → rank (toFirst none filled b o) (suc k) < 66 * suc k
+first-rank true filled b o k = omega arith
+first-rank false filled b o k = omega arith
 
 begun-rank : (t : Bool) (p : Part) (b : Begun) (word : ℕ) (m : List ℕ) (k : ℕ) → rank (toBegun t p b word m .unit) (suc k) < 66 * suc k
 begun-rank true p b word m k =
-    let first = offsetAt m (place (p .base) (b .block) argumentAt) in first-rank (isNone first) b first k
+    let first = offsetAt m (place (p .base) (b .block) argumentAt) in first-rank (isNone first) (unbuffered (p .setup .settings .form)) b first k
 begun-rank false p b word m k = omega arith
 
 module _ (base : RealAddress) (m₀ : List ℕ) where
-  first-todo : (none : Bool) (b : Begun) (o : Offset) (c : ℕ) (cs : List ℕ) → todo base m₀ (toFirst none b o) (c ∷ cs) ≡ begunTodo base m₀ c cs
-  first-todo true b o c cs = refl
-  first-todo false b o c cs = refl
+  first-todo : (none : Bool) (filled : ℕ) (b : Begun) (o : Offset) (c : ℕ) (cs : List ℕ)
+      → todo base m₀ (toFirst none filled b o) (c ∷ cs) ≡ begunTodo base m₀ c cs
+  first-todo true filled b o c cs = refl
+  first-todo false filled b o c cs = refl
 
   begun-todo : (t : Bool) (p : Part) (b : Begun) (word : ℕ) (m : List ℕ) (c : ℕ) (cs : List ℕ)
       → todo base m₀ (toBegun t p b word m .unit) (c ∷ cs) ≡ begunTodo base m₀ c cs
   begun-todo true p b word m c cs =
-      let first = offsetAt m (place (p .base) (b .block) argumentAt) in first-todo (isNone first) b first c cs
+      let first = offsetAt m (place (p .base) (b .block) argumentAt) in first-todo (isNone first) (unbuffered (p .setup .settings .form)) b first c cs
   begun-todo false p b word m c cs = refl
 
   first-now : (none : Bool) (s : Setup) (b : Begun) (o : Offset) (c : ℕ) (q : List ℕ) → Begins base m₀ true s b c q
       → Sub (firstBytes none (chainBytes mostBuffers base (marked base m₀ c) o (headerLengthOf s))) (uses base s m₀ c)
-      → Now base m₀ (toFirst none b o) s c q
-  unfolding headerLengthOf addressLengthOf
+      → Now base m₀ (toFirst none (unbuffered (s .settings .form)) b o) s c q
+  unfolding headerLengthOf
   first-now true s b o c q i h = i
   first-now false s b o c q i h = (i, (63, refl, h))
 
-  -- ---- what a Transmit uses: the offset at +6, its header, its chain
+  -- ---- what a Transmit uses: the offset at +6, the header that its block has, its chain
 
   chain : Setup → ℕ → List ℕ
   chain s c =

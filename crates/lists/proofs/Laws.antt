@@ -4,15 +4,15 @@ use mathlib.Core.Path.{_≡_, refl, sym, ap, _∙_}
 use mathlib.Core.Bool.{Bool, true, false, not, true≢false, false≢true}
 use mathlib.Core.List.{List, [], _∷_, _++_}
 use Prim.Native.Nat.{ℕ, zero, suc, _+_, _*_, _≤_, _<_}
-use native.Mathlib.Nat.{add-suc, add-zero, suc-add}
+use native.Mathlib.Nat.{add-suc, add-zero, suc-add, suc-mul}
 use native.Mathlib.Omega.{arith}
 use lib.Dec.{eqb, leb, ltb}
 use borrow.Author.Tests.{ltb-true}
-use Rattle.memory.specs.Memory.{bytesAt, fieldAt, wordAt, realAt, wordTo, apply}
+use Rattle.memory.specs.Memory.{fieldAt, wordAt, realAt, wordTo, apply}
 use Rattle.memory.specs.Address.{place}
 use Rattle.memory.specs.declared.Offset.{Offset}
 use Rattle.memory.specs.declared.RealAddress.{RealAddress}
-use Rattle.device.specs.Limits.{addressLength, typeLength}
+use Rattle.device.specs.Limits.{longestAddress, typeLength}
 use Rattle.device.specs.Numbers.{transmit}
 use Rattle.device.specs.State.{cuState, isActive, cuWorks, ruWorks}
 use Rattle.device.specs.declared.Action.{Action}
@@ -25,7 +25,7 @@ use Rattle.device.specs.declared.Walk.{Walk}
 use Rattle.actions.specs.Actions.{Acted, act, sent, notSent, clamped, byteOf, settingsBy, groups, filtering, mcSetup, configure, setting}
 use Rattle.actions.specs.Block.{blockStatusAt, blockCommandAt, blockLinkAt, argumentAt, destinationAt, typeAt}
 use Rattle.actions.specs.Setup.{Setup}
-use Rattle.command.specs.Begin.{cmd, begunBy, headerOf, toBegun, begin}
+use Rattle.command.specs.Begin.{cmd, begunBy, headerBy, headerOf, toBegun, begin}
 use Rattle.command.specs.Buffer.{descriptorAt, fits, gathered, buffer}
 use Rattle.command.specs.End.{end, nextAfter, statusTo}
 use Rattle.command.specs.Part.{Part, Service, partOf, quietly}
@@ -38,7 +38,7 @@ use Rattle.traces.specs.Event.{Event, call, host, isTurn, DuringList}
 use Rattle.progress.specs.Machine.{Laws, Served, Passed, Between}
 use Rattle.progress.specs.Same.{In, here, there, range, Same}
 use Rattle.progress.proofs.Same.{in-left, in-right, same-part, same-apply, same-bytes, same-field}
-use Rattle.lists.specs.Uses.{block, from, addressLengthOf, headerBytes, argumentBytes, descriptorBytes}
+use Rattle.lists.specs.Uses.{block, from, addressLengthOf, headerBytesBy, headerBytes, argumentBytes, descriptorBytes}
 use Rattle.lists.specs.Unit.{noteBy, beginReads, dataReads, endReads, readsBy, commandNext, machine}
 
 -- ---- parts of a list of addresses
@@ -62,22 +62,32 @@ in-range a (suc k) (suc n) l =
 
 -- ---- begin
 
+-- the header that a Transmit's block has, with either location
+header-local : (location : Bool) (l : ℕ) (base : RealAddress) (own : List ℕ) (o : Offset) (m q : List ℕ) → Same (headerBytesBy location base l (o .0)) m q
+    → headerBy location l base own o m ≡ headerBy location l base own o q
+header-local true l base own o m q h = refl
+header-local false l base own o m q h =
+    let A = from base (o .0) destinationAt l in
+    let B = from base (o .0) (typeAt l) typeLength in
+    rw (
+      same-bytes (place base o destinationAt) l (same-left A B h),
+      same-bytes (place base o (typeAt l)) typeLength (same-right A B h),
+    )
+
 to-begun-local : (t : Bool) (p : Part) (b : Begun) (word : ℕ) (m q : List ℕ) → Same (beginReads t p (b .block .0)) m q
     → toBegun t p b word m ≡ toBegun t p b word q
 unfolding headerOf headerBytes addressLengthOf
 to-begun-local true p b word m q h =
     let c = b .block .0 in
+    let form = p .setup .settings .form in
     let A = from (p .base) c argumentAt 2 in
-    let B = from (p .base) c destinationAt addressLength in
-    let C = from (p .base) c typeAt typeLength in
+    let B = headerBytes (p .base) (p .setup) c in
     let first : wordAt m (place (p .base) (b .block) argumentAt) ≡ wordAt q (place (p .base) (b .block) argumentAt) =
-    same-at 2 (place (p .base) (b .block) argumentAt) (same-left A (B ++ C) h) in
-    let destination : bytesAt m (place (p .base) (b .block) destinationAt) addressLength
-    ≡ bytesAt q (place (p .base) (b .block) destinationAt) addressLength =
-    same-bytes (place (p .base) (b .block) destinationAt) addressLength (same-left B C (same-right A (B ++ C) h)) in
-    let type : bytesAt m (place (p .base) (b .block) typeAt) typeLength ≡ bytesAt q (place (p .base) (b .block) typeAt) typeLength =
-    same-bytes (place (p .base) (b .block) typeAt) typeLength (same-right B C (same-right A (B ++ C) h)) in
-    rw (first, destination, type)
+    same-at 2 (place (p .base) (b .block) argumentAt) (same-left A B h) in
+    let header : headerBy (form .location) (form .length) (p .base) (p .setup .own) (b .block) m
+    ≡ headerBy (form .location) (form .length) (p .base) (p .setup .own) (b .block) q =
+    header-local (form .location) (form .length) (p .base) (p .setup .own) (b .block) m q (same-right A B h) in
+    rw (first, header)
 to-begun-local false p b word m q h = refl
 
 begin-local : (p : Part) (o : Offset) (m q : List ℕ) (r : ℕ) → Same (readsBy (cu.Waiting o) p q) m q → begin p o m ≡ begin p o q
@@ -110,13 +120,13 @@ unfolding settingsBy
 settings-local true true base o m q n s e₈ e₁₀ l h =
     let b₈ : byteOf base o m 8 ≡ byteOf base o q 8 = byte-local base o m q n 8 (ltb-true 8 n e₈) h in
     let b₁₀ : byteOf base o m 10 ≡ byteOf base o q 10 = byte-local base o m q n 10 (ltb-true 10 n e₁₀) h in
-    rw (e₈, e₁₀, byte-local base o m q n 2 (omega arith) h, b₈, b₁₀)
+    rw (e₈, e₁₀, byte-local base o m q n 2 (omega arith) h, byte-local base o m q n 3 (omega arith) h, b₈, b₁₀)
 settings-local true false base o m q n s e₈ e₁₀ l h =
-    rw (e₈, e₁₀, byte-local base o m q n 2 (omega arith) h, byte-local base o m q n 8 (ltb-true 8 n e₈) h)
+    rw (e₈, e₁₀, byte-local base o m q n 2 (omega arith) h, byte-local base o m q n 3 (omega arith) h, byte-local base o m q n 8 (ltb-true 8 n e₈) h)
 settings-local false true base o m q n s e₈ e₁₀ l h =
-    rw (e₈, e₁₀, byte-local base o m q n 2 (omega arith) h, byte-local base o m q n 10 (ltb-true 10 n e₁₀) h)
+    rw (e₈, e₁₀, byte-local base o m q n 2 (omega arith) h, byte-local base o m q n 3 (omega arith) h, byte-local base o m q n 10 (ltb-true 10 n e₁₀) h)
 settings-local false false base o m q n s e₈ e₁₀ l h =
-    rw (e₈, e₁₀, byte-local base o m q n 2 (omega arith) h)
+    rw (e₈, e₁₀, byte-local base o m q n 2 (omega arith) h, byte-local base o m q n 3 (omega arith) h)
 
 clamped-least : (x : ℕ) → 4 ≤ clamped x
 clamped-least x = omega arith
@@ -140,34 +150,35 @@ range-append a (suc j) k =
     let w : a + suc j ≡ suc a + j = omega arith in
     rw (z, w) (ap (λ (l : List ℕ). a ∷ l) (range-append (suc a) j k))
 
--- the filter of n addresses is that of another memory which has their bytes
-filtering-local : (m q : List ℕ) (a n : ℕ) → Same (range a (n * addressLength)) m q → filtering m a n ≡ filtering q a n
+-- the filter of n addresses of l bytes is that of another memory which has their bytes
+filtering-local : (l : ℕ) (m q : List ℕ) (a n : ℕ) → Same (range a (n * l)) m q → filtering l m a n ≡ filtering l q a n
 unfolding filtering
-filtering-local m q a zero h = refl
-filtering-local m q a (suc n) h =
-    let k = n * addressLength in
-    let e : suc n * addressLength ≡ k + addressLength = omega arith in
-    let p : Same (range a k ++ range (a + k) addressLength) m q = rw (e, range-append a k addressLength) at h in
+filtering-local l m q a zero h = refl
+filtering-local l m q a (suc n) h =
+    let k = n * l in
+    let e : suc n * l ≡ k + l = suc-mul n l in
+    let p : Same (range a k ++ range (a + k) l) m q = rw (e, range-append a k l) at h in
     rw (
-      filtering-local m q a n (same-left (range a k) (range (a + k) addressLength) p),
-      same-bytes (a + k) addressLength (same-right (range a k) (range (a + k) addressLength) p),
+      filtering-local l m q a n (same-left (range a k) (range (a + k) l) p),
+      same-bytes (a + k) l (same-right (range a k) (range (a + k) l) p),
     )
 
 mc-local : (base : RealAddress) (s : Setup) (o : Offset) (m q : List ℕ) → Same (argumentBytes action.McSetup base s q (o .0)) m q
     → mcSetup base s o m ≡ mcSetup base s o q
 unfolding addressLengthOf
 mc-local base s o m q h =
-    let n = groups base o q in
+    let l = s .settings .form .length in
+    let n = groups l base o q in
     let A = from base (o .0) argumentAt 2 in
-    let B = from base (o .0) destinationAt (n * addressLength) in
+    let B = from base (o .0) destinationAt (n * l) in
     let word : wordAt m (place base o argumentAt) ≡ wordAt q (place base o argumentAt) = same-at 2 (place base o argumentAt) (same-left A B h) in
-    rw (word, filtering-local m q (place base o destinationAt) n (same-right A B h))
+    rw (word, filtering-local l m q (place base o destinationAt) n (same-right A B h))
 
 pub act-local : (a : Action) (base : RealAddress) (s : Setup) (o : Offset) (m q : List ℕ) → Same (argumentBytes a base s q (o .0)) m q
     → act a base s o m ≡ act a base s o q
 unfolding act
 act-local action.Nop base s o m q h = refl
-act-local action.IaSetup base s o m q h = rw (same-bytes (place base o argumentAt) addressLength h)
+act-local action.IaSetup base s o m q h = rw (same-bytes (place base o argumentAt) longestAddress h)
 act-local action.Configure base s o m q h = configure-local base s o m q h
 act-local action.McSetup base s o m q h = mc-local base s o m q h
 act-local action.Tdr base s o m q h = refl

@@ -58,7 +58,7 @@ tag (ended c status frames raised) = done c raised
 
 -- ---- the addresses that a service reads
 
--- begin: the command word; of a Transmit the offset at +6, the destination and the type
+-- begin: the command word; of a Transmit the offset at +6, and the header that its block has
 abbrev pub beginReads : (transmits : Bool) → Part → ℕ → List ℕ
 beginReads true p c = from (p .base) c argumentAt 2 ++ headerBytes (p .base) (p .setup) c
 beginReads false p c = []

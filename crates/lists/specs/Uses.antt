@@ -12,11 +12,12 @@ use Rattle.memory.specs.Address.{place, offsetAt, isNone}
 use Rattle.memory.specs.declared.Offset.{Offset}
 use Rattle.memory.specs.declared.RealAddress.{RealAddress}
 use Rattle.scb.specs.Words.{bit}
-use Rattle.device.specs.Limits.{addressLength, typeLength, longest, mostBuffers}
+use Rattle.device.specs.Header.{unbuffered}
+use Rattle.device.specs.Limits.{longestAddress, typeLength, longest, mostBuffers}
 use Rattle.device.specs.Numbers.{transmit, actionOf, actionNumber}
 use Rattle.device.specs.declared.Action.{Action}
 use Rattle.device.specs.declared.Action.the-variants as action
-use Rattle.actions.specs.Block.{blockStatusAt, blockCommandAt, blockLinkAt, argumentAt, destinationAt}
+use Rattle.actions.specs.Block.{blockStatusAt, blockCommandAt, blockLinkAt, argumentAt, destinationAt, typeAt}
 use Rattle.actions.specs.Actions.{clamped, byteOf, groups, act}
 use Rattle.actions.specs.Setup.{Setup}
 use Rattle.command.specs.Begin.{cmd}
@@ -36,27 +37,31 @@ wordOf base m c = wordAt m (place base (block c) blockCommandAt)
 
 -- ---- what the setup in force says of a command's bytes
 
--- the length of an address: six under every setup, since Configure takes no other
+-- the length of an address
 unfoldable pub addressLengthOf : Setup → ℕ
-addressLengthOf s = addressLength
+addressLengthOf s = s .settings .form .length
 
--- what a Transmit's block has of the header: destination, and the type behind it
+-- what a Transmit's block has of the header: destination, and the type behind it; with location 1 the buffers have it, and the block's is not used
+abbrev pub headerBytesBy : (location : Bool) → RealAddress → (l : ℕ) → ℕ → List ℕ
+headerBytesBy true base l c = []
+headerBytesBy false base l c = from base c destinationAt l ++ from base c (typeAt l) typeLength
+
 unfoldable pub headerBytes : RealAddress → Setup → ℕ → List ℕ
-headerBytes base s c = from base c destinationAt (addressLengthOf s) ++ from base c (destinationAt + addressLengthOf s) typeLength
+headerBytes base s c = headerBytesBy (s .settings .form .location) base (addressLengthOf s) c
 
--- the header in the frame, before the data: destination, own address, type
+-- what the frame has before the buffers' bytes
 unfoldable pub headerLengthOf : Setup → ℕ
-headerLengthOf s = addressLengthOf s + addressLengthOf s + typeLength
+headerLengthOf s = unbuffered (s .settings .form)
 
 -- ---- the bytes that a command uses
 
 -- beside the six of its block, a command that is no Transmit uses what its kind and its count make it read; TDR's word is a result
 abbrev pub argumentBytes : Action → RealAddress → Setup → List ℕ → ℕ → List ℕ
 argumentBytes action.Nop base s m c = []
-argumentBytes action.IaSetup base s m c = from base c argumentAt addressLength
+argumentBytes action.IaSetup base s m c = from base c argumentAt longestAddress
 argumentBytes action.Configure base s m c = from base c argumentAt (clamped (byteOf base (block c) m 0))
 argumentBytes action.McSetup base s m c =
-    from base c argumentAt 2 ++ from base c destinationAt (groups base (block c) m * addressLengthOf s)
+    from base c argumentAt 2 ++ from base c destinationAt (groups (addressLengthOf s) base (block c) m * addressLengthOf s)
 argumentBytes action.Tdr base s m c = from base c argumentAt 2
 argumentBytes action.Dump base s m c = []
 argumentBytes action.Diagnose base s m c = []
@@ -89,7 +94,7 @@ abbrev pub firstBytes : (none : Bool) → List ℕ → List ℕ
 firstBytes true chain = []
 firstBytes false chain = chain
 
--- a Transmit: the offset at +6, destination, type, and its chain of at most 64
+-- a Transmit: the offset at +6, its block's header, and its chain of at most 64
 abbrev pub transmitBytes : RealAddress → Setup → List ℕ → ℕ → List ℕ
 transmitBytes base s m c =
     let first = offsetAt m (place base (block c) argumentAt) in

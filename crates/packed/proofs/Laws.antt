@@ -197,7 +197,7 @@ module _ (u : Units) (k : Packed) (h : PackedIs u k) where
         word-is = ap (λ (x : Packed). x .ru) (h .same);
         rest-is = ap (λ (x : Packed). x .rest) (h .same);
         wide = h .wide .ru-wide;
-        filling = h .wide .filling-wide;
+        holding = h .wide .holding-wide;
       }
 
   pub events-is : marksIn k / 16 ≡ eventBits (u .events)
@@ -219,7 +219,7 @@ pub cu-of : (c : Cu) (tag n : ℕ) → CuIs c tag n → cuOf tag (wordOf n) ≡ 
 cu-of c tag n h = rw (h .tag-is, h .word-is, word-back (cuWord c) (h .wide)) (cu-back c)
 
 pub ru-of : (u : Ru) (tag n rest : ℕ) → RuIs u tag n rest → ruOf tag (wordOf n) rest ≡ u
-ru-of u tag n rest h = rw (h .tag-is, h .word-is, h .rest-is, word-back (ruWord u) (h .wide)) (ru-back u (h .filling))
+ru-of u tag n rest h = rw (h .tag-is, h .word-is, h .rest-is, word-back (ruWord u) (h .wide)) (ru-back u (h .holding))
 
 -- ---- a state put together from numbers
 
@@ -255,6 +255,6 @@ module _ (u : Units) (k : Packed) (h : PackedIs u k) where
                 base-wide = h .wide .base-wide;
                 cu-wide = hc .wide;
                 ru-wide = hv .wide;
-                filling-wide = hv .filling;
+                holding-wide = hv .holding;
               };
         }

@@ -6,34 +6,38 @@ use Prim.Native.Nat.{ℕ, zero, suc, _+_, _*_, _/_, _%_, _≤_, _<_, _^_}
 use native.Mathlib.Nat.{div-one}
 use native.Mathlib.Omega.{arith}
 use lib.ListN.{length, getD, set, take, drop, replicate, length-replicate, length-append, List·getD-append}
-use lib.Seq.{sets, sets-eq, length-sets, drop-at, take-at}
+use lib.Seq.{sets, sets-eq, length-sets, drop-at, take-at, take-take}
 use Rattle.memory.specs.Memory.{digits}
 use Rattle.memory.proofs.Fields.{length-digits}
 use Rattle.numerals.specs.Places.{bytesFrom, field}
 use Rattle.numerals.proofs.Laws as places
 use Rattle.numerals.proofs.Laws.{fit, from-cons, whole, sets-whole}
 use Rattle.scb.specs.Words.{one}
-use Rattle.device.specs.Limits.{addressLength, filterBits}
+use Rattle.device.specs.Limits.{longestAddress, filterBits}
 use Rattle.device.specs.declared.Settings.{Settings}
 use Rattle.actions.specs.Setup.{Setup}
 use Rattle.phases.specs.Fields.{odd}
-use Rattle.phases.proofs.Units.{one-below, one-back}
-use Rattle.packed.specs.SetUp.{settingsByte, modesOf, setupBytes, filterSize, settingsAt, minimumAt, ownAt, filterAt, SetIs}
+use Rattle.phases.specs.Forms.{formNumber, FormWide}
+use Rattle.phases.proofs.Units.{one-below, one-back, form-below}
+use Rattle.packed.specs.SetUp.{settingsByte, modesOf, formAt, setupBytes, filterSize, settingsAt, minimumAt, ownAt, filterAt, SetIs}
 
 -- ---- the byte of settings
 
-saves-in : (s : Settings) → odd (settingsByte s / 1) ≡ s .savebad
-saves-in s = let e : settingsByte s / 1 % 2 ≡ one (s .savebad) = rw (div-one (settingsByte s)) (omega (arith, one-below (s .savebad))) in rw e (one-back (s .savebad))
+pub saves-in : (s : Settings) → odd (settingsByte s) ≡ s .savebad
+saves-in s = let e : settingsByte s % 2 ≡ one (s .savebad) = omega (arith, one-below (s .savebad)) in rw e (one-back (s .savebad))
 
-promiscuous-in : (s : Settings) → odd (settingsByte s / 2) ≡ s .promiscuous
+pub promiscuous-in : (s : Settings) → odd (settingsByte s / 2) ≡ s .promiscuous
 promiscuous-in s =
     let e : settingsByte s / 2 % 2 ≡ one (s .promiscuous) = omega (arith, one-below (s .savebad), one-below (s .promiscuous)) in
     rw e (one-back (s .promiscuous))
 
-broadcast-in : (s : Settings) → odd (settingsByte s / 2 ^ 2) ≡ s .nobroadcast
+pub broadcast-in : (s : Settings) → odd (settingsByte s / 2 ^ 2) ≡ s .nobroadcast
 broadcast-in s =
     let e : settingsByte s / 2 ^ 2 % 2 ≡ one (s .nobroadcast) = omega (arith, one-below (s .savebad), one-below (s .promiscuous), one-below (s .nobroadcast)) in
     rw e (one-back (s .nobroadcast))
+
+pub form-in-settings : (s : Settings) → formAt (settingsByte s) ≡ formNumber (s .form)
+form-in-settings s = omega (arith, one-below (s .savebad), one-below (s .promiscuous), one-below (s .nobroadcast))
 
 -- ---- what is read
 
@@ -43,7 +47,7 @@ module _ (s : Setup) (b : List ℕ) (h : SetIs s b) where
   byte-is = rw (h .bytes-are)
 
   pub saves-is : odd (getD b settingsAt 0 / 1) ≡ s .settings .savebad
-  saves-is = rw byte-is (saves-in (s .settings))
+  saves-is = rw (byte-is, div-one (settingsByte (s .settings))) (saves-in (s .settings))
 
   pub promiscuous-is : odd (getD b settingsAt 0 / 2) ≡ s .settings .promiscuous
   promiscuous-is = rw byte-is (promiscuous-in (s .settings))
@@ -51,16 +55,23 @@ module _ (s : Setup) (b : List ℕ) (h : SetIs s b) where
   pub broadcast-is : odd (getD b settingsAt 0 / 2 ^ 2) ≡ s .settings .nobroadcast
   broadcast-is = rw byte-is (broadcast-in (s .settings))
 
+  pub form-is : formAt (getD b settingsAt 0) ≡ formNumber (s .settings .form)
+  form-is = rw byte-is (form-in-settings (s .settings))
+
   pub minimum-is : getD b minimumAt 0 ≡ s .settings .minimum
   unfolding setupBytes
   minimum-is = rw (h .bytes-are)
 
   -- the own address, as a run and byte by byte
-  pub own-is : take addressLength (drop ownAt b) ≡ s .own
+  pub own-is : take longestAddress (drop ownAt b) ≡ s .own
   unfolding setupBytes
-  own-is = rw (h .bytes-are) (take-at (s .own) (digits filterSize (s .filter)) addressLength (h .own-wide))
+  own-is = rw (h .bytes-are) (take-at (s .own) (digits filterSize (s .filter)) longestAddress (h .own-wide))
 
-  pub own-byte : (k : ℕ) → k < addressLength → getD b (suc (suc k)) 0 ≡ getD (s .own) k 0
+  -- its first bytes
+  pub own-first : (l : ℕ) → l ≤ longestAddress → take l (drop ownAt b) ≡ take l (s .own)
+  own-first l g = sym (take-take l longestAddress (drop ownAt b) g) ∙ rw own-is
+
+  pub own-byte : (k : ℕ) → k < longestAddress → getD b (suc (suc k)) 0 ≡ getD (s .own) k 0
   unfolding setupBytes
   own-byte k g = rw (h .bytes-are) (List·getD-append (s .own) (digits filterSize (s .filter)) 0 k (omega (arith, h .own-wide)))
 
@@ -69,7 +80,7 @@ module _ (s : Setup) (b : List ℕ) (h : SetIs s b) where
   unfolding setupBytes field
   filter-is =
       let d = digits filterSize (s .filter) in
-      let e : bytesFrom (s .own ++ d) addressLength filterSize ≡ bytesFrom d 0 filterSize = rw (h .own-wide) at (places.second-of (s .own) d 0 filterSize) in
+      let e : bytesFrom (s .own ++ d) longestAddress filterSize ≡ bytesFrom d 0 filterSize = rw (h .own-wide) at (places.second-of (s .own) d 0 filterSize) in
       let w : bytesFrom d 0 filterSize ≡ d = rw (length-digits filterSize (s .filter)) at (whole d) in
       rw (
         h .bytes-are,
@@ -106,13 +117,14 @@ second-of xs ys n bs e =
 -- ---- what is stored
 
 module _ (s : Setup) (b : List ℕ) (h : SetIs s b) where
-  pub settings-set : (v w : ℕ) (new : Settings) → v ≡ settingsByte new → w ≡ new .minimum → w < 2 ^ 8
+  pub settings-set : (v w : ℕ) (new : Settings) → v ≡ settingsByte new → w ≡ new .minimum → w < 2 ^ 8 → FormWide (new .form)
       → SetIs (record { settings = new; own = s .own; filter = s .filter }) (set (set b settingsAt v) minimumAt w)
   unfolding setupBytes
-  settings-set v w new p q l =
+  settings-set v w new p q l f =
       record {
         bytes-are = rw (h .bytes-are, p, q);
         minimum-wide = omega arith;
+        form-wide = f;
         own-wide = h .own-wide;
         filter-wide = h .filter-wide;
       }
@@ -122,7 +134,7 @@ module _ (s : Setup) (b : List ℕ) (h : SetIs s b) where
   unfolding setupBytes
   minimum-stays v = rw (h .bytes-are)
 
-  pub own-set : (bs : List ℕ) → length bs ≡ addressLength → SetIs (record { settings = s .settings; own = bs; filter = s .filter }) (sets b ownAt bs)
+  pub own-set : (bs : List ℕ) → length bs ≡ longestAddress → SetIs (record { settings = s .settings; own = bs; filter = s .filter }) (sets b ownAt bs)
   unfolding setupBytes
   own-set bs e =
       let x = settingsByte (s .settings) in
@@ -137,6 +149,7 @@ module _ (s : Setup) (b : List ℕ) (h : SetIs s b) where
               first-of (s .own) d bs (e ∙ sym (h .own-wide)),
             );
         minimum-wide = h .minimum-wide;
+        form-wide = h .form-wide;
         own-wide = e;
         filter-wide = h .filter-wide;
       }
@@ -156,10 +169,11 @@ module _ (s : Setup) (b : List ℕ) (h : SetIs s b) where
               h .bytes-are,
               sets-cons x (y ∷ (s .own ++ d)) 7 new,
               sets-cons y (s .own ++ d) 6 new,
-              second-of (s .own) d addressLength new (h .own-wide),
+              second-of (s .own) d longestAddress new (h .own-wide),
               sets-whole d new e,
             );
         minimum-wide = h .minimum-wide;
+        form-wide = h .form-wide;
         own-wide = h .own-wide;
         filter-wide = g;
       }

@@ -51,7 +51,7 @@ module _ (u : Units) (k : Packed) (h : PackedIs u k) where
               base-wide = h .wide .base-wide;
               cu-wide = h .wide .cu-wide;
               ru-wide = h .wide .ru-wide;
-              filling-wide = h .wide .filling-wide;
+              holding-wide = h .wide .holding-wide;
             };
       }
 
@@ -72,6 +72,6 @@ module _ (u : Units) (k : Packed) (h : PackedIs u k) where
               base-wide = b;
               cu-wide = plain-is 0 (omega arith) .wide;
               ru-wide = plain-is 0 (omega arith) .wide;
-              filling-wide = tt;
+              holding-wide = tt;
             };
       }

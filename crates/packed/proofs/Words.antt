@@ -7,17 +7,19 @@ use lib.Dec.{eqb, eqb→eq}
 use Rattle.memory.specs.declared.Offset.{Offset}
 use Rattle.scb.specs.Words.{one}
 use Rattle.scb.proofs.Below.{below}
-use Rattle.device.specs.Numbers.{actionNumber, actionOf, verdictNumber, verdictOf}
+use Rattle.device.specs.Numbers.{actionNumber, actionOf, verdictOf}
 use Rattle.device.specs.declared.Begun.{Begun}
 use Rattle.device.specs.declared.Cu.the-variants as cu
+use Rattle.device.specs.declared.Form.{Form}
 use Rattle.device.specs.declared.Frame.{Frame}
 use Rattle.device.specs.declared.Ru.the-variants as ru
 use Rattle.device.specs.declared.Storing.{Storing}
 use Rattle.device.specs.declared.Walk.{Walk}
 use Rattle.phases.specs.Fields.{flagsOf, odd, flagAt, flagsIn, flagIn, restBy}
+use Rattle.phases.specs.Forms.{formNumber, FormWide}
 use Rattle.phases.specs.Phases.{numberOf, wordOf, plain, begunWord, begunOf, begunWith, cuWord, frameWord, frameNumber, storingWith, storingWord, ruWord, ruRest, WordWide}
 use Rattle.phases.specs.declared.Word.{Word}
-use Rattle.phases.proofs.Units.{one-below, bits3, action-number, verdict-small, verdict-number}
+use Rattle.phases.proofs.Units.{one-below, bits3, action-number, verdict-number, kind-below}
 use Rattle.packed.specs.Packed.{WordIs, BegunIs, CuIs, RuIs}
 
 -- ---- flags
@@ -102,18 +104,18 @@ module _ (v : Begun) (b : ℕ) (h : BegunIs v b) where
 
 -- ---- a held frame
 
-pub frame-number : (short savebad : Bool) (verdict length : ℕ) → verdict < 3
-    → 2 ^ 17 * one short + 2 ^ 18 * one savebad + 2 ^ 24 * verdict + 2 ^ 32 * length
-    ≡ frameNumber (record { length = length; verdict = verdictOf verdict; short = short; savebad = savebad })
+pub frame-number : (short savebad : Bool) (verdict length : ℕ) (f : Form) → verdict < 3
+    → 2 ^ 17 * one short + 2 ^ 18 * one savebad + 2 ^ 24 * (verdict + 2 ^ 2 * formNumber f) + 2 ^ 32 * length
+    ≡ frameNumber (record { length = length; verdict = verdictOf verdict; short = short; savebad = savebad; form = f })
 unfolding numberOf
-frame-number short savebad verdict length h = rw (verdict-number verdict h) (omega arith)
+frame-number short savebad verdict length f h = rw (verdict-number verdict h) (omega arith)
 
 pub held-word : (f n : ℕ) (o : Offset) (g : Frame) → f ≡ frameNumber g → g .length < 2 ^ 16 → WordIs (plain (o .0)) n → WordIs (frameWord o g false) (f + n % 2 ^ 16)
 unfolding numberOf
 held-word f n o g e l h =
     record {
       number-is = let m : n % 2 ^ 16 ≡ o .0 = omega (arith, h .number-is, h .wide .at) in rw m (omega arith);
-      wide = record { at = h .wide .at; kind = omega (arith, verdict-small (g .verdict)); size = l; next = omega arith };
+      wide = record { at = h .wide .at; kind = omega (arith, kind-below (g .verdict) (g .form)); size = l; next = omega arith };
     }
 
 -- S and EL of a descriptor come to stand above the flags of a held frame
@@ -125,7 +127,7 @@ pub storing-with : (n : ℕ) (o : Offset) (f : Frame) (p : Bool) (flags : ℕ) �
 unfolding numberOf
 storing-with n o f p flags l h =
     let k : n + 2 ^ 19 * flags < 2 ^ 48 =
-    omega (arith, h .number-is, h .wide .at, h .wide .size, verdict-small (f .verdict), one-below p, one-below (f .short), one-below (f .savebad)) in
+    omega (arith, h .number-is, h .wide .at, h .wide .size, kind-below (f .verdict) (f .form), one-below p, one-below (f .short), one-below (f .savebad)) in
     let e : (n % 2 ^ 48 + 2 ^ 19 * flags) % 2 ^ 48 ≡ n + 2 ^ 19 * flags = omega arith in
     record {
       number-is = rw e (omega (arith, h .number-is, two-bits flags l));
@@ -140,7 +142,7 @@ storing-full n s next el h =
     let low = numberOf (storingWord s 0 false) in
     let d : n ≡ low + 2 ^ 48 * next = omega (arith, h .number-is) in
     let k : low + 2 ^ 21 < 2 ^ 48 =
-    omega (arith, h .wide .at, h .wide .size, verdict-small (s .frame .verdict), one-below (s .pausing), one-below (s .frame .short), one-below (s .frame .savebad), one-below (s .suspend), one-below (s .el)) in
+    omega (arith, h .wide .at, h .wide .size, kind-below (s .frame .verdict) (s .frame .form), one-below (s .pausing), one-below (s .frame .short), one-below (s .frame .savebad), one-below (s .suspend), one-below (s .el)) in
     let e : n % 2 ^ 48 ≡ low = omega arith in
     let i : (low + 2 ^ 21 * one el) % 2 ^ 48 ≡ low + 2 ^ 21 * one el = omega (arith, one-below el) in
     record {
@@ -190,34 +192,34 @@ module _ (n : ℕ) (v : Begun) where
 
 pub no-resources : RuIs ru.NoResources 2 0 0
 unfolding ruWord ruRest
-no-resources = let w = plain-is 0 (omega arith) in record { tag-is = refl; word-is = w .number-is; rest-is = refl; wide = w .wide; filling = tt }
+no-resources = let w = plain-is 0 (omega arith) in record { tag-is = refl; word-is = w .number-is; rest-is = refl; wide = w .wide; holding = tt }
 
 module _ (n : ℕ) (o : Offset) (w : WordIs (plain (o .0)) n) where
   pub suspended : RuIs (ru.Suspended o) 1 n 0
   unfolding ruWord ruRest
-  suspended = record { tag-is = refl; word-is = w .number-is; rest-is = refl; wide = w .wide; filling = tt }
+  suspended = record { tag-is = refl; word-is = w .number-is; rest-is = refl; wide = w .wide; holding = tt }
 
   pub ready : RuIs (ru.Ready o) 3 n 0
   unfolding ruWord ruRest
-  ready = record { tag-is = refl; word-is = w .number-is; rest-is = refl; wide = w .wide; filling = tt }
+  ready = record { tag-is = refl; word-is = w .number-is; rest-is = refl; wide = w .wide; holding = tt }
 
-pub held : (n : ℕ) (o : Offset) (f : Frame) (p : Bool) → WordIs (frameWord o f p) n → RuIs (ru.Held o f p) 4 n 0
+pub held : (n : ℕ) (o : Offset) (f : Frame) (p : Bool) → FormWide (f .form) → WordIs (frameWord o f p) n → RuIs (ru.Held o f p) 4 n 0
 unfolding ruWord ruRest
-held n o f p w = record { tag-is = refl; word-is = w .number-is; rest-is = refl; wide = w .wide; filling = tt }
+held n o f p l w = record { tag-is = refl; word-is = w .number-is; rest-is = refl; wide = w .wide; holding = l }
 
-module _ (n : ℕ) (s : Storing) where
+module _ (n : ℕ) (s : Storing) (l : FormWide (s .frame .form)) where
   pub filling : (k : Walk) (rest : ℕ) → rest ≡ restBy (k .filled) (k .used) → k .filled < 2 ^ 16 → k .used < 2 ^ 8 → WordIs (storingWord s (k .next .0) false) n
       → RuIs (ru.Filling s k) 5 n rest
   unfolding ruWord ruRest
-  filling k rest e f u w = record { tag-is = refl; word-is = w .number-is; rest-is = e; wide = w .wide; filling = (f, u) }
+  filling k rest e f u w = record { tag-is = refl; word-is = w .number-is; rest-is = e; wide = w .wide; holding = (l, f, u) }
 
   pub closing : (o : Offset) (full : Bool) → WordIs (storingWord s (o .0) full) n → RuIs (ru.Closing s o full) 6 n 0
   unfolding ruWord ruRest
-  closing o full w = record { tag-is = refl; word-is = w .number-is; rest-is = refl; wide = w .wide; filling = tt }
+  closing o full w = record { tag-is = refl; word-is = w .number-is; rest-is = refl; wide = w .wide; holding = l }
 
   pub lacking : WordIs (storingWord s 0 false) n → RuIs (ru.Lacking s) 7 n 0
   unfolding ruWord ruRest
-  lacking w = record { tag-is = refl; word-is = w .number-is; rest-is = refl; wide = w .wide; filling = tt }
+  lacking w = record { tag-is = refl; word-is = w .number-is; rest-is = refl; wide = w .wide; holding = l }
 
 -- and what the numbers of a phase say of its word
 pub held-back : (tag n rest : ℕ) (o : Offset) (f : Frame) (p : Bool) → RuIs (ru.Held o f p) tag n rest → WordIs (frameWord o f p) n

@@ -10,7 +10,7 @@ use Rattle.device.specs.declared.Begun.{Begun}
 use Rattle.device.specs.declared.Cu.{Cu}
 use Rattle.device.specs.declared.Ru.{Ru}
 use Rattle.device.specs.declared.Units.{Units}
-use Rattle.phases.specs.Phases.{numberOf, begunWord, cuTag, cuWord, ruTag, ruWord, ruRest, WordWide, FillingWide}
+use Rattle.phases.specs.Phases.{numberOf, begunWord, cuTag, cuWord, ruTag, ruWord, ruRest, WordWide, HoldingWide}
 use Rattle.phases.specs.declared.Word.{Word}
 use Rattle.packed.specs.declared.Packed.{Packed}
 
@@ -127,14 +127,14 @@ pub record RuIs (u : Ru) (tag n rest : ℕ) : Type 0 where
   pub word-is : n ≡ numberOf (ruWord u)
   pub rest-is : rest ≡ ruRest u
   pub wide : WordWide (ruWord u)
-  pub filling : FillingWide u
+  pub holding : HoldingWide u
 
 pub record UnitsWide (u : Units) : Type 0 where
   pub scb-wide : u .scb .0 < 2 ^ 16
   pub base-wide : u .base .0 < 2 ^ 24
   pub cu-wide : WordWide (cuWord (u .cu))
   pub ru-wide : WordWide (ruWord (u .ru))
-  pub filling-wide : FillingWide (u .ru)
+  pub holding-wide : HoldingWide (u .ru)
 
 pub record PackedIs (u : Units) (k : Packed) : Type 0 where
   pub same : k ≡ packedOf u

@@ -1,7 +1,9 @@
 // The record's layout, for all of the code: the units' state as four numbers, which a call carries from end to end without taking it apart, and what
 // the commands set up. It reads a field where one is needed and puts a unit back; specs/Packed.antt says which numbers are a state's, specs/SetUp.antt
-// which bytes a setup's. The units' tags and words are in `cu` and `ru`, a setup's places in `setup`, the record's in `record`.
+// which bytes a setup's. The units' tags and words are in `cu` and `ru`, a frame's form in `form`, a setup's places in `setup`, the record's in
+// `record`.
 pub mod cu;
+pub mod form;
 pub mod record;
 pub mod ru;
 pub mod setup;

@@ -5,9 +5,11 @@ ghost use mathlib.Core.Path.{_≡_};
 ghost use Prim.Native.Nat.{ℕ, _+_, _%_, _<_, _^_};
 ghost use Rattle.memory.specs.declared.Offset.{Offset};
 ghost use Rattle.device.specs.Numbers.{verdictOf};
+ghost use Rattle.device.specs.declared.Form.{Form};
 ghost use Rattle.device.specs.declared.Frame.{Frame};
 ghost use Rattle.device.specs.declared.Storing.{Storing};
-ghost use Rattle.phases.specs.Fields.{odd, restBy, filledIn, aboveFilled, usedIn};
+ghost use Rattle.phases.specs.Fields.{odd, kindIn, restBy, filledIn, aboveFilled, usedIn};
+ghost use Rattle.phases.specs.Forms.{verdictIn, formIn, formNumber};
 ghost use Rattle.phases.specs.Phases.{wordOf, plain, frameOf, storingOf, frameNumber, frameWord, storingWith, storingWord};
 ghost use Rattle.phases.specs.declared.Word.{Word};
 ghost use Rattle.packed.specs.Packed.{WordIs, heldPausing};
@@ -50,6 +52,11 @@ pub const STORING_FLAGS: u64 = 1 << 5;
 
 pub const CLOSING_FLAGS: u64 = 1 << 6;
 
+// The number between flags and length: the verdict in two bits, and above it the frame's form.
+const VERDICTS: u64 = 1 << 2;
+
+const FORM: u64 = 1 << 2;
+
 // The second word: how many bytes are stored, and above them in how many buffers.
 const USED: u64 = 1 << 16;
 
@@ -85,6 +92,20 @@ pub fn save_bad(n: u64) -> bool
     n / SAVE_BAD % 2 == 1
 }
 
+// The line side's verdict.
+pub fn verdict(n: u64) -> u64
+    ensures { λ r. ⌜ r ≡ verdictIn (kindIn n) ⌝ }
+{
+    crate::kind_of(n) % VERDICTS
+}
+
+// The form that was in force at the frame's arrival.
+pub fn form(n: u64) -> u64
+    ensures { λ r. ⌜ r ≡ formIn (kindIn n) ⌝ }
+{
+    crate::kind_of(n) / FORM
+}
+
 // S of the descriptor.
 pub fn suspend(n: u64) -> bool
     ensures { λ r. ⌜ r ≡ storingOf (wordOf n) .suspend ⌝ }
@@ -109,13 +130,14 @@ pub fn full(n: u64) -> bool
 // ---- a word put together
 
 // A frame as it was judged, before it is known which descriptor it goes to.
-pub fn frame(short: bool, save_bad: bool, verdict: u64, length: u64) -> u64
-    requires { ⌜ (verdict < 3) × (length < 2 ^ 16) ⌝ }
-    ensures { λ r. ⌜ (r < 2 ^ 48) × (r ≡ frameNumber (record { length = length; verdict = verdictOf verdict; short = short; savebad = «save_bad» })) ⌝ }
+pub fn frame(short: bool, save_bad: bool, verdict: u64, form: u64, length: u64) -> u64
+    requires { ⌜ (verdict < 3) × (form < 2 ^ 5) × (length < 2 ^ 16) ⌝ }
+    ensures { λ r. ⌜ (r < 2 ^ 48) × ((f : Form) → form ≡ formNumber f
+        → r ≡ frameNumber (record { length = length; verdict = verdictOf verdict; short = short; savebad = «save_bad»; form = f })) ⌝ }
 {
     SHORT * crate::bit(short)
         + SAVE_BAD * crate::bit(save_bad)
-        + crate::KIND * verdict
+        + crate::KIND * (verdict + FORM * form)
         + crate::SIZE * length
 }
 

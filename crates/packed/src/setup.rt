@@ -4,7 +4,8 @@ ghost use mathlib.Core.Path.{_≡_};
 ghost use Prim.Native.Nat.{_<_, _^_};
 ghost use lib.ListN.{length};
 ghost use Rattle.actions.specs.Setup.{Setup};
-ghost use Rattle.packed.specs.SetUp.{setupSize, joinedSettings, modesIn, SetIs};
+ghost use Rattle.phases.specs.Forms.{formNumber};
+ghost use Rattle.packed.specs.SetUp.{setupSize, joinedSettings, modesIn, formAt, SetIs};
 
 // Where each stands.
 pub const SETTINGS: usize = 0;
@@ -19,7 +20,7 @@ pub const FILTER: usize = 8;
 
 pub const SIZE: usize = 16;
 
-// The byte of settings: save bad; above it the modes, which are promiscuous and, above that, broadcast disabled.
+// The byte of settings: save bad; above it the modes, which are promiscuous and, above that, broadcast disabled; above them the form.
 const SAVES_BAD: u8 = 1 << 0;
 
 const MODES: u8 = 1 << 1;
@@ -28,8 +29,9 @@ const PROMISCUOUS: u8 = MODES;
 
 const NO_BROADCAST: u8 = MODES << 1;
 
-// What the byte is below.
-pub const SETTINGS_END: u8 = 1 << 3;
+const MODE_SETS: u8 = 1 << 2;
+
+const FORM: u8 = 1 << 3;
 
 pub fn saves_bad(setup: &[u8]) -> bool
     requires { ⌜ length (now setup) ≡ setupSize ⌝ }
@@ -52,6 +54,14 @@ pub fn no_broadcast(setup: &[u8]) -> bool
     setup[SETTINGS] / NO_BROADCAST % 2 == 1
 }
 
+// The form of the frames that go and come now.
+pub fn form(setup: &[u8]) -> u64
+    requires { ⌜ length (now setup) ≡ setupSize ⌝ }
+    ensures { λ r. ⌜ (r < 2 ^ 5) × ((s : Setup) → SetIs s (now (setup .entry)) → r ≡ formNumber (s .settings .form)) ⌝ }
+{
+    form_of(setup[SETTINGS])
+}
+
 // The minimum frame length.
 pub fn minimum(setup: &[u8]) -> u64
     requires { ⌜ length (now setup) ≡ setupSize ⌝ }
@@ -68,17 +78,23 @@ pub fn filter(setup: &[u8]) -> u64
     numerals::read64(setup, FILTER)
 }
 
-// The byte of settings: save bad, and the modes.
-pub fn settings(save_bad: u8, modes: u8) -> u8
-    requires { ⌜ («save_bad» < 2) × (modes < 2 ^ 7) ⌝ }
-    ensures { λ r. ⌜ r ≡ joinedSettings «save_bad» modes ⌝ }
+// The byte of settings: save bad, the modes, the form.
+pub fn settings(save_bad: u8, modes: u8, form: u8) -> u8
+    requires { ⌜ («save_bad» < 2) × (modes < 2 ^ 2) × (form < 2 ^ 4) ⌝ }
+    ensures { λ r. ⌜ r ≡ joinedSettings «save_bad» modes form ⌝ }
 {
-    save_bad + MODES * modes
+    save_bad + MODES * modes + FORM * form
 }
 
-// The modes of a byte of settings.
+// The modes of a byte of settings, and its form.
 pub fn modes(settings: u8) -> u8
-    ensures { λ r. ⌜ (r ≡ modesIn settings) × (r < 2 ^ 7) ⌝ }
+    ensures { λ r. ⌜ (r ≡ modesIn settings) × (r < 2 ^ 2) ⌝ }
 {
-    settings / MODES
+    settings / MODES % MODE_SETS
+}
+
+pub fn form_of(settings: u8) -> u64
+    ensures { λ r. ⌜ (r ≡ formAt settings) × (r < 2 ^ 5) ⌝ }
+{
+    (settings / FORM) as u64
 }

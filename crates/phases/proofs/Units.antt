@@ -3,7 +3,7 @@
 use mathlib.Core.Path.{_≡_, refl}
 use mathlib.Core.Bool.{Bool, true, false, not, cond, _&&_}
 use mathlib.Core.Logic.{⊎-elim}
-use Prim.Native.Nat.{ℕ, zero, suc, _+_, _*_, _/_, _%_, _≤_, _<_}
+use Prim.Native.Nat.{ℕ, zero, suc, _+_, _*_, _-_, _/_, _%_, _≤_, _<_}
 use native.Mathlib.Nat.{div-div-eq-div-mul, div-add-mod'}
 use native.Mathlib.Omega.{arith}
 use borrow.Author.Tests.{eqb-true, ltb-true, leb-true, lt-ltb, le-leb, le-ltb, ne-eqb}
@@ -15,6 +15,7 @@ use Rattle.device.specs.Numbers.{actionNumber, actionOf, verdictNumber, verdict
 use Rattle.device.specs.declared.Action.{Action}
 use Rattle.device.specs.declared.Action.the-variants as action
 use Rattle.device.specs.declared.Begun.{Begun}
+use Rattle.device.specs.declared.Form.{Form}
 use Rattle.device.specs.declared.Cu.{Cu}
 use Rattle.device.specs.declared.Cu.the-variants as cu
 use Rattle.device.specs.declared.Ru.{Ru}
@@ -24,7 +25,8 @@ use Rattle.device.specs.declared.Verdict.{Verdict}
 use Rattle.device.specs.declared.Verdict.the-variants as verdict
 use Rattle.device.proofs.Laws.{action-back, verdict-back}
 use Rattle.phases.specs.Fields.{flagsOf, odd}
-use Rattle.phases.specs.Phases.{flagBits, numberOf, wordOf, plain, begunWord, cuTag, cuWord, cuOf, cuMost, cuKind, cuShaped, frameWord, storingWord, ruTag, ruWord, filledNumber, ruRest, ruOf, ruMost, ruFlags, restMost, ruShaped, WordWide, FillingWide}
+use Rattle.phases.specs.Forms.{formNumber, formOf, formShaped, FormWide, kindOf, verdictIn, formIn, kindShaped}
+use Rattle.phases.specs.Phases.{flagBits, numberOf, wordOf, plain, begunWord, cuTag, cuWord, cuOf, cuMost, cuKind, cuShaped, frameWord, storingWord, ruTag, ruWord, filledNumber, ruRest, ruOf, ruMost, ruFlags, restMost, ruShaped, WordWide, HoldingWide}
 use Rattle.phases.specs.declared.Word.{Word}
 
 -- ---- tests
@@ -92,6 +94,81 @@ bits n h =
 
 pub bits3 : (n : ℕ) → n < 8 → flagsOf (odd n) (odd (n / 2)) (odd (n / 4)) false false false ≡ n
 bits3 n h = eqb→eq _ n (below (λ k. eqb (flagsOf (odd k) (odd (k / 2)) (odd (k / 4)) false false false) k) 8 tt n h)
+
+-- ---- a form, and a verdict with it
+
+pub verdict-small : (v : Verdict) → verdictNumber v < 3
+verdict-small verdict.Good = omega arith
+verdict-small verdict.Crc = omega arith
+verdict-small verdict.Misaligned = omega arith
+
+pub verdict-number : (k : ℕ) → k < 3 → verdictNumber (verdictOf k) ≡ k
+unfolding verdictOf
+verdict-number zero h = refl
+verdict-number (suc zero) h = refl
+verdict-number (suc (suc zero)) h = refl
+verdict-number (suc (suc (suc k))) h = absurd (omega arith)
+
+pub form-below : (f : Form) → formNumber f < 16
+unfolding formNumber
+form-below f = omega (arith, one-below (f .location))
+
+pub form-back : (f : Form) → FormWide f → formOf (formNumber f) ≡ f
+unfolding formNumber formOf
+form-back f h =
+    let n = 6 - f .length + 8 * one (f .location) in
+    let k : n % 8 ≡ 6 - f .length = omega (arith, one-below (f .location)) in
+    let l : 6 - n % 8 ≡ f .length = rw k (omega arith) in
+    let d : n / 8 ≡ one (f .location) = omega (arith, one-below (f .location)) in
+    let q : n / 8 % 2 ≡ one (f .location) = rw d (omega (arith, one-below (f .location))) in
+    rw (l, q, one-back (f .location))
+
+-- every number is read as a form whose addresses have at most six bytes
+pub form-wide : (n : ℕ) → FormWide (formOf n)
+unfolding formOf
+form-wide n = omega arith
+
+pub form-shaped : (f : Form) → formShaped (formNumber f) ≡ true
+unfolding formShaped formNumber
+form-shaped f =
+    let n = 6 - f .length + 8 * one (f .location) in
+    rw (lt-ltb n 16 (omega (arith, one-below (f .location))), le-leb (n % 8) 6 (omega (arith, one-below (f .location))))
+
+implied : Bool → Bool → Bool
+implied a b = cond a b true
+
+pub form-number : (n : ℕ) → formShaped n ≡ true → formNumber (formOf n) ≡ n
+unfolding formShaped formNumber formOf implied
+form-number n e =
+    let b : n < 16 = ltb-true _ _ (both (ltb n 16) (leb (n % 8) 6) e .0) in
+    let x = below (λ k. implied (formShaped k) (eqb (formNumber (formOf k)) k)) 16 tt n b in
+    eqb→eq _ n (rw e at x)
+
+pub kind-below : (v : Verdict) (f : Form) → kindOf v f < 64
+kind-below v f = omega (arith, verdict-small v, form-below f)
+
+pub verdict-in : (v : Verdict) (f : Form) → verdictOf (verdictIn (kindOf v f)) ≡ v
+verdict-in v f =
+    let q : kindOf v f % 4 ≡ verdictNumber v = omega (arith, verdict-small v) in
+    rw q (verdict-back v)
+
+pub form-in : (v : Verdict) (f : Form) → formIn (kindOf v f) ≡ formNumber f
+form-in v f = omega (arith, verdict-small v)
+
+pub form-of-kind : (v : Verdict) (f : Form) → FormWide f → formOf (formIn (kindOf v f)) ≡ f
+form-of-kind v f h = rw (form-in v f) (form-back f h)
+
+pub kind-shaped : (v : Verdict) (f : Form) → kindShaped (kindOf v f) ≡ true
+unfolding kindShaped
+kind-shaped v f =
+    let q : kindOf v f % 4 ≡ verdictNumber v = omega (arith, verdict-small v) in
+    rw (q, lt-ltb (verdictNumber v) 3 (verdict-small v), form-in v f, form-shaped f)
+
+pub kind-number : (k : ℕ) → kindShaped k ≡ true → kindOf (verdictOf (verdictIn k)) (formOf (formIn k)) ≡ k
+unfolding kindShaped
+kind-number k e =
+    let x = both (ltb (k % 4) 3) (formShaped (k / 4)) e in
+    rw (verdict-number (k % 4) (ltb-true _ _ (x .0)), form-number (k / 4) (x .1)) (omega arith)
 
 -- ---- a word and its number
 
@@ -325,18 +402,14 @@ cu-same t n e =
 
 -- ---- the receive unit
 
-ru-ok : (t n rest : ℕ) → t < 8 → n ≤ ruMost t → n / 65536 % 256 < ruFlags t → n / 16777216 % 256 < 3 → rest ≤ restMost t → ruShaped t n rest ≡ true
+ru-ok : (t n rest : ℕ) → t < 8 → n ≤ ruMost t → n / 65536 % 256 < ruFlags t → kindShaped (n / 16777216 % 256) ≡ true → rest ≤ restMost t
+    → ruShaped t n rest ≡ true
 unfolding ruShaped
-ru-ok t n rest b p q k m =
-    rw (lt-ltb t 8 b, le-leb n (ruMost t) p, lt-ltb (n / 65536 % 256) (ruFlags t) q, lt-ltb (n / 16777216 % 256) 3 k, le-leb rest (restMost t) m)
+ru-ok t n rest b p q k m = rw (lt-ltb t 8 b, le-leb n (ruMost t) p, lt-ltb (n / 65536 % 256) (ruFlags t) q, k, le-leb rest (restMost t) m)
 
-pub verdict-small : (v : Verdict) → verdictNumber v < 3
-verdict-small verdict.Good = omega arith
-verdict-small verdict.Crc = omega arith
-verdict-small verdict.Misaligned = omega arith
-
-plain-kind : (o : ℕ) → WordWide (plain o) → numberOf (plain o) / 16777216 % 256 < 3
-plain-kind o h = rw (kind-of (plain o) h) (omega arith)
+plain-kind : (o : ℕ) → WordWide (plain o) → kindShaped (numberOf (plain o) / 16777216 % 256) ≡ true
+unfolding kindShaped formShaped
+plain-kind o h = rw (kind-of (plain o) h)
 
 storing-flags : (s : Storing) (full : Bool)
     → flagsOf (s .pausing) (s .frame .short) (s .frame .savebad) (s .suspend) (s .el) full < 32 + 32 * one full
@@ -347,8 +420,8 @@ module _ (s : Storing) (n : ℕ) (full : Bool) (h : WordWide (storingWord s n fu
   storing-low : numberOf (storingWord s n full) / 65536 % 256 < 32 + 32 * one full
   storing-low = rw (flags-of (storingWord s n full) h) (storing-flags s full)
 
-  storing-kind : numberOf (storingWord s n full) / 16777216 % 256 < 3
-  storing-kind = rw (kind-of (storingWord s n full) h) (verdict-small (s .frame .verdict))
+  storing-kind : kindShaped (numberOf (storingWord s n full) / 16777216 % 256) ≡ true
+  storing-kind = rw (kind-of (storingWord s n full) h) (kind-shaped (s .frame .verdict) (s .frame .form))
 
 -- nothing in the two highest bytes
 without-next : (w : Word) → WordWide w → w .next ≡ 0 → numberOf w ≤ 281474976710655
@@ -366,7 +439,7 @@ ru-shaped (ru.Ready o) h m =
 ru-shaped (ru.Held o f p) h m =
     ru-ok 4 (numberOf (frameWord o f p)) 0 (omega arith) (without-next (frameWord o f p) h refl)
     (rw (flags-of (frameWord o f p) h) (omega (arith, one-below p, one-below (f .short), one-below (f .savebad))))
-    (rw (kind-of (frameWord o f p) h) (verdict-small (f .verdict))) (omega arith)
+    (rw (kind-of (frameWord o f p) h) (kind-shaped (f .verdict) (f .form))) (omega arith)
 ru-shaped (ru.Filling s w) h m =
     ru-ok 5 (numberOf (storingWord s (w .next .0) false)) (filledNumber w) (omega arith) (omega (arith, number-below (storingWord s (w .next .0) false) h))
     (storing-low s (w .next .0) false h) (storing-kind s (w .next .0) false h) (omega arith)
@@ -376,7 +449,7 @@ ru-shaped (ru.Closing s o full) h m =
 ru-shaped (ru.Lacking s) h m =
     ru-ok 7 (numberOf (storingWord s 0 false)) 0 (omega arith) (without-next (storingWord s 0 false) h refl) (storing-low s 0 false h) (storing-kind s 0 false h) (omega arith)
 
-pub rest-below : (u : Ru) → FillingWide u → ruRest u < 16777216
+pub rest-below : (u : Ru) → HoldingWide u → ruRest u < 16777216
 unfolding ruRest
 rest-below ru.Idle h = omega arith
 rest-below ru.NoResources h = omega arith
@@ -387,35 +460,28 @@ rest-below (ru.Filling s w) h = omega arith
 rest-below (ru.Closing s o full) h = omega arith
 rest-below (ru.Lacking s) h = omega arith
 
-pub ru-back : (u : Ru) → FillingWide u → ruOf (ruTag u) (ruWord u) (ruRest u) ≡ u
+pub ru-back : (u : Ru) → HoldingWide u → ruOf (ruTag u) (ruWord u) (ruRest u) ≡ u
 unfolding ruOf ruWord ruRest
 ru-back ru.Idle h = refl
 ru-back ru.NoResources h = refl
 ru-back (ru.Suspended o) h = refl
 ru-back (ru.Ready o) h = refl
-ru-back (ru.Held o f p) h = rw (verdict-back (f .verdict))
+ru-back (ru.Held o f p) h = rw (verdict-in (f .verdict) (f .form), form-of-kind (f .verdict) (f .form) h)
 ru-back (ru.Filling s w) h =
-    let d : (w .filled + 65536 * w .used) / 65536 % 256 ≡ w .used = omega (arith, h .0, h .1) in
-    let e : (w .filled + 65536 * w .used) % 65536 ≡ w .filled = omega (arith, h .0) in
-    rw (verdict-back (s .frame .verdict), d, e)
-ru-back (ru.Closing s o full) h = rw (verdict-back (s .frame .verdict))
-ru-back (ru.Lacking s) h = rw (verdict-back (s .frame .verdict))
+    let d : (w .filled + 65536 * w .used) / 65536 % 256 ≡ w .used = omega (arith, h .1, h .2) in
+    let e : (w .filled + 65536 * w .used) % 65536 ≡ w .filled = omega (arith, h .1) in
+    rw (verdict-in (s .frame .verdict) (s .frame .form), form-of-kind (s .frame .verdict) (s .frame .form) (h .0), d, e)
+ru-back (ru.Closing s o full) h = rw (verdict-in (s .frame .verdict) (s .frame .form), form-of-kind (s .frame .verdict) (s .frame .form) h)
+ru-back (ru.Lacking s) h = rw (verdict-in (s .frame .verdict) (s .frame .form), form-of-kind (s .frame .verdict) (s .frame .form) h)
 
 -- ---- and back
-
-pub verdict-number : (k : ℕ) → k < 3 → verdictNumber (verdictOf k) ≡ k
-unfolding verdictOf
-verdict-number zero h = refl
-verdict-number (suc zero) h = refl
-verdict-number (suc (suc zero)) h = refl
-verdict-number (suc (suc (suc k))) h = absurd (omega arith)
 
 pub record RuSame (t n rest : ℕ) (u : Ru) : Type 0 where
   pub tag-same : ruTag u ≡ t
   pub word-same : ruWord u ≡ wordOf n
   pub rest-same : ruRest u ≡ rest
 
-ru-same-at : (t n rest : ℕ) → t < 8 → n ≤ ruMost t → n / 65536 % 256 < ruFlags t → n / 16777216 % 256 < 3 → rest ≤ restMost t
+ru-same-at : (t n rest : ℕ) → t < 8 → n ≤ ruMost t → n / 65536 % 256 < ruFlags t → kindShaped (n / 16777216 % 256) ≡ true → rest ≤ restMost t
     → RuSame t n rest (ruOf t (wordOf n) rest)
 unfolding ruMost ruFlags restMost ruOf ruWord ruRest wordOf
 ru-same-at zero n rest b p q k m = record { tag-same = refl; word-same = let z : n ≡ 0 = omega arith in rw z; rest-same = omega arith }
@@ -428,18 +494,18 @@ ru-same-at (suc (suc (suc (suc zero)))) n rest b p q k m =
     let y : f / 16 ≡ 0 = omega arith in
     let z : f / 32 ≡ 0 = omega arith in
     let e : n / 281474976710656 ≡ 0 = omega arith in
-    record { tag-same = refl; word-same = rw (verdict-number (n / 16777216 % 256) k, x, y, z, e); rest-same = omega arith }
+    record { tag-same = refl; word-same = rw (kind-number (n / 16777216 % 256) k, x, y, z, e); rest-same = omega arith }
 ru-same-at (suc (suc (suc (suc (suc zero))))) n rest b p q k m =
     let f = n / 65536 % 256 in
     let z : f / 32 ≡ 0 = omega arith in
-    record { tag-same = refl; word-same = rw (verdict-number (n / 16777216 % 256) k, z); rest-same = omega arith }
+    record { tag-same = refl; word-same = rw (kind-number (n / 16777216 % 256) k, z); rest-same = omega arith }
 ru-same-at (suc (suc (suc (suc (suc (suc zero)))))) n rest b p q k m =
-    record { tag-same = refl; word-same = rw (verdict-number (n / 16777216 % 256) k); rest-same = omega arith }
+    record { tag-same = refl; word-same = rw (kind-number (n / 16777216 % 256) k); rest-same = omega arith }
 ru-same-at (suc (suc (suc (suc (suc (suc (suc zero))))))) n rest b p q k m =
     let f = n / 65536 % 256 in
     let z : f / 32 ≡ 0 = omega arith in
     let e : n / 281474976710656 ≡ 0 = omega arith in
-    record { tag-same = refl; word-same = rw (verdict-number (n / 16777216 % 256) k, z, e); rest-same = omega arith }
+    record { tag-same = refl; word-same = rw (kind-number (n / 16777216 % 256) k, z, e); rest-same = omega arith }
 ru-same-at (suc (suc (suc (suc (suc (suc (suc (suc t)))))))) n rest b p q k m = absurd (omega arith)
 
 picked : (a b : Bool) → cond a 8 (cond b 64 32) ≤ 64
@@ -455,9 +521,9 @@ pub ru-same : (t n rest : ℕ) → ruShaped t n rest ≡ true → RuSame t n res
 unfolding ruShaped
 ru-same t n rest e =
     let x = both _ (leb rest (restMost t)) e in
-    let y = both _ (ltb (n / 16777216 % 256) 3) (x .0) in
+    let y = both _ (kindShaped (n / 16777216 % 256)) (x .0) in
     let z = both _ (ltb (n / 65536 % 256) (ruFlags t)) (y .0) in
     let w = both (ltb t 8) (leb n (ruMost t)) (z .0) in
     let q : n / 65536 % 256 < ruFlags t = ltb-true _ _ (z .1) in
-    let s = ru-same-at t n rest (ltb-true _ _ (w .0)) (leb-true _ _ (w .1)) q (ltb-true _ _ (y .1)) (leb-true _ _ (x .1)) in
+    let s = ru-same-at t n rest (ltb-true _ _ (w .0)) (leb-true _ _ (w .1)) q (y .1) (leb-true _ _ (x .1)) in
     (s, rw (s .word-same) (number-back n (omega (arith, flags-most t))))

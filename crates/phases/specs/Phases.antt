@@ -3,7 +3,7 @@ use mathlib.Core.Bool.{Bool, false, not, cond, _&&_}
 use Prim.Native.Nat.{ℕ, _-_, _<_, _^_}
 use lib.Dec.{eqb, leb, ltb}
 use Rattle.memory.specs.declared.Offset.{Offset}
-use Rattle.device.specs.Numbers.{actionNumber, actionOf, verdictNumber, verdictOf}
+use Rattle.device.specs.Numbers.{actionNumber, actionOf, verdictOf}
 use Rattle.device.specs.declared.Action.{Action}
 use Rattle.device.specs.declared.Begun.{Begun}
 use Rattle.device.specs.declared.Cu.{Cu}
@@ -14,6 +14,7 @@ use Rattle.device.specs.declared.Ru.the-variants as ru
 use Rattle.device.specs.declared.Storing.{Storing}
 use Rattle.device.specs.declared.Walk.{Walk}
 use Rattle.phases.specs.Fields.{flagsOf, odd, flagAt, wordBy, offsetIn, flagsIn, kindIn, sizeIn, nextIn, offsetMost, sizedMost, wordMost, restBy, filledIn, usedIn, filledMost}
+use Rattle.phases.specs.Forms.{kindOf, verdictIn, formIn, formOf, kindShaped, FormWide}
 use Rattle.phases.specs.declared.Word.{Word}
 
 -- ---- a word and its number
@@ -156,7 +157,7 @@ cuShaped t n = leb n (cuMost t) && ltb (flagsIn n) begunFlags && cuKind t (kindI
 
 -- ---- the receive unit
 
--- a held frame: its descriptor, its flags waiting SUSPEND, short, save bad, its verdict and its length
+-- a held frame: its descriptor, its flags waiting SUSPEND, short, save bad, its verdict and form, and its length
 abbrev pub frameWord : Offset → Frame → Bool → Word
 frameWord o f pausing =
     record {
@@ -167,7 +168,7 @@ frameWord o f pausing =
       fourth = false;
       fifth = false;
       sixth = false;
-      kind = verdictNumber (f .verdict);
+      kind = kindOf (f .verdict) (f .form);
       size = f .length;
       next = 0;
     }
@@ -191,7 +192,7 @@ storingWord s next full =
       fourth = s .suspend;
       fifth = s .el;
       sixth = full;
-      kind = verdictNumber (s .frame .verdict);
+      kind = kindOf (s .frame .verdict) (s .frame .form);
       size = s .frame .length;
       next = next;
     }
@@ -247,7 +248,14 @@ ruRest (ru.Lacking s) = 0
 
 -- what is read of its words
 abbrev pub frameOf : Word → Frame
-frameOf w = record { length = w .size; verdict = verdictOf (w .kind); short = w .second; savebad = w .third }
+frameOf w =
+    record {
+      length = w .size;
+      verdict = verdictOf (verdictIn (w .kind));
+      short = w .second;
+      savebad = w .third;
+      form = formOf (formIn (w .kind));
+    }
 
 abbrev pub storingOf : Word → Storing
 storingOf w = record { fd = record { 0 = w .at }; el = w .fifth; suspend = w .fourth; pausing = w .first; frame = frameOf w }
@@ -294,7 +302,7 @@ restMost t = cond (eqb t fillingTag) filledMost 0
 
 -- a tag and two numbers are those of a unit
 unfoldable pub ruShaped : ℕ → ℕ → ℕ → Bool
-ruShaped t n rest = ltb t 8 && leb n (ruMost t) && ltb (flagsIn n) (ruFlags t) && ltb (kindIn n) 3 && leb rest (restMost t)
+ruShaped t n rest = ltb t 8 && leb n (ruMost t) && ltb (flagsIn n) (ruFlags t) && kindShaped (kindIn n) && leb rest (restMost t)
 
 -- ---- the widths, which the types of the code say of every word
 
@@ -304,13 +312,13 @@ pub record WordWide (w : Word) : Type 0 where
   pub size : w .size < 2 ^ 16
   pub next : w .next < 2 ^ 16
 
--- what is stored of a frame being filled has two bytes, and the buffers one
-abbrev pub FillingWide : Ru → Type 0
-FillingWide ru.Idle = Unit {0}
-FillingWide ru.NoResources = Unit {0}
-FillingWide (ru.Suspended o) = Unit {0}
-FillingWide (ru.Ready o) = Unit {0}
-FillingWide (ru.Held o f p) = Unit {0}
-FillingWide (ru.Filling s w) = (w .filled < 2 ^ 16) × (w .used < 2 ^ 8)
-FillingWide (ru.Closing s o full) = Unit {0}
-FillingWide (ru.Lacking s) = Unit {0}
+-- a held frame's addresses have at most six bytes; what is stored of one being filled has two bytes, and the buffers one
+abbrev pub HoldingWide : Ru → Type 0
+HoldingWide ru.Idle = Unit {0}
+HoldingWide ru.NoResources = Unit {0}
+HoldingWide (ru.Suspended o) = Unit {0}
+HoldingWide (ru.Ready o) = Unit {0}
+HoldingWide (ru.Held o f p) = FormWide (f .form)
+HoldingWide (ru.Filling s w) = FormWide (s .frame .form) × (w .filled < 2 ^ 16) × (w .used < 2 ^ 8)
+HoldingWide (ru.Closing s o full) = FormWide (s .frame .form)
+HoldingWide (ru.Lacking s) = FormWide (s .frame .form)

@@ -11,8 +11,9 @@ use Rattle.scb.specs.Words.{bitsAt, one}
 use Rattle.device.specs.Answers.{counterOf, counts, isHeld, reasonOf}
 use Rattle.device.specs.Change.{withRu, withSettings}
 use Rattle.device.specs.Numbers.{counterPlace, verdictOf, reasonNumber}
-use Rattle.device.specs.State.{freshUnits}
+use Rattle.device.specs.State.{freshForm, freshUnits}
 use Rattle.device.specs.declared.Fate.{Fate}
+use Rattle.device.specs.declared.Form.{Form}
 use Rattle.device.specs.declared.Frame.{Frame}
 use Rattle.device.specs.declared.Ru.{Ru}
 use Rattle.device.specs.declared.Ru.the-variants as ru
@@ -30,7 +31,10 @@ use Rattle.receive.specs.Service.{service}
 -- ---- arrival
 
 abbrev settings : (savebad : Bool) → Settings
-settings savebad = record { savebad = savebad; promiscuous = false; nobroadcast = false; minimum = 64 }
+settings savebad = record { savebad = savebad; promiscuous = false; nobroadcast = false; minimum = 64; form = freshForm }
+
+abbrev formed : (length : ℕ) → (location : Bool) → Form
+formed length location = record { length = length; location = location }
 
 -- what becomes of a frame of so many bytes that matches
 abbrev arrives : (savebad : Bool) → Ru → (bytes verdict : ℕ) → Fate
@@ -49,15 +53,21 @@ countedOnce (f ∷ g ∷ gs) = 1
 abbrev ready : Ru
 ready = ru.Ready (record { 0 = 0x50 })
 
--- under 14 bytes, dropped; fourteen are a frame, with no data. The minimum length is 0 here, so that neither is short
-abbrev heldOf : (bytes : ℕ) → Bool
-heldOf bytes =
-    let anyLength : Settings = record { savebad = false; promiscuous = false; nobroadcast = false; minimum = 0 } in
+-- shorter than the header, dropped; the header alone is a frame. The minimum length is 0 here, so that neither is short
+abbrev heldOf : Form → (bytes : ℕ) → Bool
+heldOf form bytes =
+    let anyLength : Settings = record { savebad = false; promiscuous = false; nobroadcast = false; minimum = 0; form = form } in
     isHeld (fateOf anyLength true ready (replicate bytes 0) 0)
 
-pub fourteenBytes : T (heldOf 14 && not (heldOf 13))
+pub fourteenBytes : T (heldOf freshForm 14 && not (heldOf freshForm 13))
 unfolding lengthOf judged fateOf verdictOf
 fourteenBytes = tt
+
+-- 02, Wish 4: two bytes an address make a header of six, and none of two, with location 1 too
+pub headerBytes : T (heldOf (formed 2 false) 6 && not (heldOf (formed 2 false) 5) && heldOf (formed 2 true) 6 && not (heldOf (formed 2 true) 5)
+    && heldOf (formed 0 true) 2 && not (heldOf (formed 0 true) 1))
+unfolding lengthOf judged fateOf verdictOf
+headerBytes = tt
 
 -- RU Suspended, dropped
 pub suspendedCountsNothing : T (eqb (counted (arrives false (ru.Suspended (record { 0 = 0x50 })) 60 0)) 0)
@@ -121,7 +131,7 @@ abbrev given : List Write → List ℕ
 given ws = apply ws (replicate 256 0)
 
 abbrev framed : (length : ℕ) → Verdict → (short savebad : Bool) → Frame
-framed length v short savebad = record { length = length; verdict = v; short = short; savebad = savebad }
+framed length v short savebad = record { length = length; verdict = v; short = short; savebad = savebad; form = freshForm }
 
 abbrev good : (length : ℕ) → Frame
 good length = framed length verdict.Good false false
@@ -267,3 +277,37 @@ bare = begin (part ru.Idle) (record { 0 = 0x50 }) (good 14) false (given (wordTo
 pub noData : T (eqb (wordAt (after bare (wordTo 0x66 0xA8 ∷ [])) 0x66) 0xFFFF && eqb (wordAt (after bare (wordTo 0x66 0xA8 ∷ [])) 0x96) 0xA8)
 unfolding byteAt putByte bytesAt putBytes value digits fieldAt place bitsAt counts frameStatus settles close service begunBy begin
 noData = tt
+
+-- ---- 02, Wish 4: "A held frame is stored by the length and location it arrived under"
+
+-- a good frame of that many bytes, held under that form
+abbrev heldUnder : Form → (length : ℕ) → Frame
+heldUnder form length = record { length = length; verdict = verdict.Good; short = false; savebad = false; form = form }
+
+-- its end: the descriptor has no more of the frame than its header, packed; with location 1 nothing from +8 on is written, and 77h goes to no byte of it
+abbrev descriptor : Form → List ℕ
+descriptor form = after (closing (storing false false false (heldUnder form 16)) false) []
+
+pub headerPacked : T (eqb (fieldAt 8 (descriptor (formed 2 false)) 0x68) 0x0000777777777777 && eqb (fieldAt 8 (descriptor (formed 0 false)) 0x68) 0x0000000000007777
+    && eqb (fieldAt 8 (descriptor (formed 2 true)) 0x68) 0)
+unfolding byteAt putByte bytesAt putBytes value digits fieldAt place bitsAt counts frameStatus settles close service
+headerPacked = tt
+
+-- how far it is when its data begins: behind the header, with location 1 at its first byte; a header alone has no data with location 0, and with location 1 has
+abbrev dataFrom : Ru → ℕ
+dataFrom ru.Idle = 99
+dataFrom (ru.Suspended o) = 99
+dataFrom ru.NoResources = 99
+dataFrom (ru.Ready o) = 99
+dataFrom (ru.Held o f p) = 99
+dataFrom (ru.Filling s w) = w .filled
+dataFrom (ru.Closing s o e) = 88
+dataFrom (ru.Lacking s) = 99
+
+abbrev begunUnder : Form → (length : ℕ) → ℕ
+begunUnder form length = dataFrom (served (ru.Held (record { 0 = 0x50 }) (heldUnder form length) false) (wordTo 0x66 0x90 ∷ []) .unit)
+
+pub dataBegins : T (eqb (begunUnder (formed 2 false) 7) 6 && eqb (begunUnder (formed 2 false) 6) 88 && eqb (begunUnder (formed 2 true) 6) 0
+    && eqb (begunUnder (formed 0 true) 2) 0)
+unfolding byteAt putByte bytesAt putBytes value digits fieldAt place bitsAt begunBy begin service
+dataBegins = tt

@@ -9,9 +9,9 @@ use Rattle.memory.specs.Address.{place}
 use Rattle.memory.specs.Memory.{byteAt, putByte, bytesAt, putBytes, value, digits, fieldAt, wordAt, wordTo, apply}
 use Rattle.scb.specs.Words.{bitsAt}
 use Rattle.device.specs.Answers.{counterOf, isCounter}
-use Rattle.device.specs.Limits.{header}
+use Rattle.device.specs.Header.{unbuffered}
 use Rattle.device.specs.Numbers.{verdictOf}
-use Rattle.device.specs.State.{freshSettings}
+use Rattle.device.specs.State.{freshForm, freshSettings}
 use Rattle.device.specs.declared.Frame.{Frame}
 use Rattle.device.specs.declared.Ru.{Ru}
 use Rattle.device.specs.declared.Ru.the-variants as ru
@@ -24,7 +24,7 @@ use Rattle.receive.specs.Service.{service}
 
 -- a frame of 16 bytes, all 77h, on its way into buffers
 abbrev frame : Frame
-frame = record { length = 16; verdict = verdict.Good; short = false; savebad = false }
+frame = record { length = 16; verdict = verdict.Good; short = false; savebad = false; form = freshForm }
 
 abbrev storing : Storing
 storing = record { fd = record { 0 = 0x50 }; el = false; suspend = false; pausing = false; frame = frame }
@@ -34,7 +34,7 @@ part =
     record {
       base = record { 0 = 0x10 };
       scb = record { 0 = 0x30 };
-      unit = ru.Filling storing (record { next = record { 0 = 0x90 }; used = 0; filled = header });
+      unit = ru.Filling storing (record { next = record { 0 = 0x90 }; used = 0; filled = unbuffered freshForm });
       holding = replicate 32 0x77;
     }
 

@@ -8,7 +8,8 @@ use lib.ListN.{length}
 use lib.Seq.{sets}
 use Rattle.memory.specs.Memory.{Write}
 use Rattle.device.specs.Answers.{counterOf, counts, isHeld}
-use Rattle.device.specs.Limits.{header, heldFrom, longest, fcs}
+use Rattle.device.specs.Header.{header}
+use Rattle.device.specs.Limits.{heldFrom, longest, fcs}
 use Rattle.device.specs.Numbers.{verdictOf}
 use Rattle.device.specs.State.{isGood}
 use Rattle.device.specs.declared.Counter.{Counter}
@@ -27,7 +28,8 @@ use Rattle.device.specs.declared.Verdict.the-variants as verdict
 unfoldable pub lengthOf : List ℕ → ℕ
 lengthOf f = min (length f) longest
 
--- short, bad and good are judged once, by the settings at arrival. Short: bytes plus 4 below the minimum
+-- short, bad and good are judged once, by the settings at arrival. Short: bytes plus 4 below the minimum. 02, Wish 4: "A held frame is stored by the
+-- length and location it arrived under"
 unfoldable pub judged : Settings → List ℕ → ℕ → Frame
 judged s f v =
     record {
@@ -35,6 +37,7 @@ judged s f v =
       verdict = verdictOf v;
       short = ltb (lengthOf f + fcs) (s .minimum);
       savebad = s .savebad;
+      form = s .form;
     }
 
 -- Short: no counter whatever the verdict. Misaligned verdict: ALNERRS. CRC verdict: CRCERRS
@@ -69,14 +72,14 @@ fateIn (ru.Lacking s) f = fate.Overrun
 fateIn ru.NoResources f = inNoResources (isGood f) (counterFor f)
 fateIn (ru.Ready fd) f = inReady (isGood f) (f .savebad) (counterFor f)
 
--- under 14 bytes, dropped. No match, dropped
+-- under 14 bytes, which reads "shorter than the header" since 02, Wish 4: dropped. No match, dropped
 abbrev pub fateBy : (few matched : Bool) → Ru → Frame → Fate
 fateBy true matched unit f = fate.TooFew
 fateBy false false unit f = fate.NoMatch
 fateBy false true unit f = fateIn unit f
 
 unfoldable pub fateOf : Settings → (matched : Bool) → Ru → List ℕ → ℕ → Fate
-fateOf s matched unit f v = fateBy (ltb (length f) header) matched unit (judged s f v)
+fateOf s matched unit f v = fateBy (ltb (length f) (header (s .form .length))) matched unit (judged s f v)
 
 -- the unit with the frame held, before the descriptor that was next
 abbrev pub holding : Ru → Frame → Ru

@@ -7,7 +7,7 @@ use Rattle.memory.specs.Memory.{wordAt, wordTo}
 use Rattle.memory.specs.Address.{place, offsetAt, isNone}
 use Rattle.memory.specs.declared.Offset.{Offset}
 use Rattle.scb.specs.Words.{bit}
-use Rattle.device.specs.Limits.{header}
+use Rattle.device.specs.Header.{unbuffered}
 use Rattle.device.specs.declared.Frame.{Frame}
 use Rattle.device.specs.declared.Ru.{Ru}
 use Rattle.device.specs.declared.Ru.the-variants as ru
@@ -19,15 +19,15 @@ unfoldable pub begunBy : Offset → Frame → Bool → ℕ → Storing
 begunBy fd f pausing word =
     record { fd = fd; el = bit word 15; suspend = bit word 14; pausing = pausing; frame = f }
 
--- a frame with no data behind its header
+-- a frame with no data for the buffers: none behind its header; with location 1 there is always some
 abbrev pub isBare : Frame → Bool
-isBare f = leb (f .length) header
+isBare f = leb (f .length) (unbuffered (f .form))
 
 -- no data: the end is next, and the first offset stays the next free one. Data left at FFFFh: out of buffers
 abbrev pub toFirst : (bare none : Bool) → Storing → Offset → Ru
 toFirst true none s first = ru.Closing s first false
 toFirst false true s first = ru.Lacking s
-toFirst false false s first = ru.Filling s (record { next = first; used = 0; filled = header })
+toFirst false false s first = ru.Filling s (record { next = first; used = 0; filled = unbuffered (s .frame .form) })
 
 unfoldable pub begin : Part → Offset → Frame → Bool → List ℕ → Service
 begin p fd f pausing m =

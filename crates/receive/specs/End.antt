@@ -9,7 +9,8 @@ use Rattle.memory.specs.Address.{place, offsetAt, none}
 use Rattle.memory.specs.declared.Offset.{Offset}
 use Rattle.scb.specs.declared.Events.{Events}
 use Rattle.device.specs.Answers.{counterOf, isStored, counts}
-use Rattle.device.specs.Limits.{header, heldFrom}
+use Rattle.device.specs.Header.{unbuffered}
+use Rattle.device.specs.Limits.{heldFrom}
 use Rattle.device.specs.State.{isGood, ruState, isReady}
 use Rattle.device.specs.declared.Counter.the-variants as counter
 use Rattle.device.specs.declared.Fate.{Fate}
@@ -52,14 +53,14 @@ frameStatus lacking f = cond (eqb (errorBits lacking f) 0) 0xA000 (0x8000 + erro
 
 -- ---- what is written to the descriptor
 
--- stored: fourteen header bytes, status, FFFFh at +6 if no data. Not stored: status 0000h
+-- stored: the header bytes, with location 1 none; status, FFFFh at +6 if no data. Not stored: status 0000h
 abbrev pub bareMark : (bare : Bool) → ℕ → List Write
 bareMark true a = wordTo a (none .0) ∷ []
 bareMark false a = []
 
 abbrev pub descriptorBy : (stored lacking : Bool) → Part → Storing → List Write
 descriptorBy true lacking p s =
-    bytesTo (place (p .base) (s .fd) headerAt) (take header (drop heldFrom (p .holding)))
+    bytesTo (place (p .base) (s .fd) headerAt) (take (unbuffered (s .frame .form)) (drop heldFrom (p .holding)))
     ∷ wordTo (place (p .base) (s .fd) fdStatusAt) (frameStatus lacking (s .frame))
     ∷ bareMark (isBare (s .frame)) (place (p .base) (s .fd) firstAt)
 descriptorBy false lacking p s = wordTo (place (p .base) (s .fd) fdStatusAt) 0x0000 ∷ []

@@ -12,7 +12,7 @@ use Rattle.device.specs.declared.Fate.{Fate}
 use Rattle.device.specs.declared.Ru.{Ru}
 use Rattle.device.specs.declared.Units.{Units}
 
--- ---- frame descriptor: +0 status, +2 15 EL, 14 S, +4 link, +6 first buffer descriptor or FFFFh, +8 destination, +14 source, +20 type
+-- ---- frame descriptor: +0 status, +2 15 EL, 14 S, +4 link, +6 first buffer descriptor or FFFFh, +8 the header as it is: 02, Wish 4, "fields are packed"
 
 abbrev pub fdStatusAt : ℕ
 fdStatusAt = 0

@@ -14,9 +14,10 @@ use Rattle.memory.proofs.Fields.{up, down}
 use Rattle.memory.proofs.Laws.{length-apply}
 use Rattle.scb.specs.Words.{noEvents, bitsAt, joined, anyOf, eventBits, statusWord}
 use Rattle.device.specs.Answers.{counts}
-use Rattle.device.specs.Limits.{header, holdingSize, outgoingSize}
+use Rattle.device.specs.Header.{unbuffered}
+use Rattle.device.specs.Limits.{holdingSize, outgoingSize}
 use Rattle.device.specs.Numbers.{verdictOf}
-use Rattle.device.specs.State.{fresh, heldIn}
+use Rattle.device.specs.State.{fresh, freshForm, heldIn}
 use Rattle.device.specs.declared.Counter.the-variants as counter
 use Rattle.device.specs.declared.Cu.the-variants as cu
 use Rattle.device.specs.declared.Device.{Device}
@@ -59,7 +60,7 @@ ready =
             scb = record { 0 = 0x40 };
             events = noEvents;
             rulast = false;
-            settings = record { savebad = false; promiscuous = false; nobroadcast = false; minimum = 64 };
+            settings = record { savebad = false; promiscuous = false; nobroadcast = false; minimum = 64; form = freshForm };
             cu = cu.Idle;
             ru = ru.Ready (record { 0 = 0x60 });
           };
@@ -78,7 +79,7 @@ sixty = replicate 6 255 ++ upward 1 54
 
 -- as it is judged
 abbrev pub frame : Frame
-frame = record { length = 60; verdict = verdict.Good; short = false; savebad = false }
+frame = record { length = 60; verdict = verdict.Good; short = false; savebad = false; form = freshForm }
 
 -- a buffer descriptor at o: the next one, a buffer of 20 bytes
 abbrev pub descriptor : (o next buffer : ℕ) → List Write
@@ -115,7 +116,7 @@ pub record Seen (third : ℕ) (trace : List Event) (got : ℕ) : Type 0 where
   pub unit : unitOf (step (call (arrive sixty 0)) (before third)) ≡ ru.Held (record { 0 = 0x60 }) frame false
   pub may : AllMay Staying step trace (step (call (arrive sixty 0)) (before third))
   pub ends : ends (turn 0) (run step trace (step (call (arrive sixty 0)) (before third))) ≡ true
-  pub bytes : together (fillsAlong trace (step (call (arrive sixty 0)) (before third))) ≡ take got (drop header sixty)
+  pub bytes : together (fillsAlong trace (step (call (arrive sixty 0)) (before third))) ≡ take got (drop (unbuffered freshForm) sixty)
 
 -- begin and three buffers: all 46
 pub enough : Seen 0xA0 (call (turn 0) ∷ call (turn 0) ∷ call (turn 0) ∷ call (turn 0) ∷ []) 46
@@ -176,7 +177,7 @@ unfolding place
 is-clear w u k =
     let n = k .size in
     let s = k .scb in
-    record { room = omega arith; apart = down (length (w .memory)) (inFrame w storing 0) 22 (inScb w 0) 16 (omega arith) (omega arith) }
+    record { addresses = omega arith; room = omega arith; apart = down (length (w .memory)) (inFrame w storing 0) 22 (inScb w 0) 16 (omega arith) (omega arith) }
 
 next-is-clear : (w : World) (u : Ru) → Computed w u → NextClear w storing
 unfolding place

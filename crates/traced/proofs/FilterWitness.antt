@@ -11,7 +11,7 @@ use Rattle.memory.specs.Memory.{byteAt, putByte, bytesAt, putBytes, value, digi
 use Rattle.scb.specs.Words.{bitsAt, joined, anyOf, eventBits, statusWord}
 use Rattle.hash.specs.Hash.{ones, shifted, step, bitsIn, register, selected, hash}
 use Rattle.device.specs.Change.{withCu, withUnits}
-use Rattle.device.specs.Limits.{addressLength, holdingSize, outgoingSize}
+use Rattle.device.specs.Limits.{longestAddress, holdingSize, outgoingSize}
 use Rattle.device.specs.Numbers.{verdictOf}
 use Rattle.device.specs.declared.Action.the-variants as action
 use Rattle.device.specs.declared.Begun.{Begun}
@@ -51,12 +51,12 @@ to last = 0x01 ∷ 0 ∷ 0 ∷ 0 ∷ 0 ∷ last ∷ upward 1 54
 -- what is met, and what comes of it: 01-00-00-00-00-7F shares bit 5 with the first of the two, 01-00-00-00-00-01 shares none
 pub record Seen : Type 0 where
   pub ends : EndsMcSetup world begun
-  pub two : groups (world .device .units .base) (begun .block) (world .memory) ≡ 2
-  pub first : groupAt (world .memory) 0x208 0 ≡ 0x01 ∷ 0 ∷ 0 ∷ 0 ∷ 0 ∷ 0 ∷ []
-  pub second : groupAt (world .memory) 0x208 1 ≡ 0x01 ∷ 0 ∷ 0x5E ∷ 0 ∷ 0 ∷ 0x01 ∷ []
-  pub not-ones : allOnes (to 0x7F) ≡ false
+  pub two : groups longestAddress (world .device .units .base) (begun .block) (world .memory) ≡ 2
+  pub first : groupAt longestAddress (world .memory) 0x208 0 ≡ 0x01 ∷ 0 ∷ 0 ∷ 0 ∷ 0 ∷ 0 ∷ []
+  pub second : groupAt longestAddress (world .memory) 0x208 1 ≡ 0x01 ∷ 0 ∷ 0x5E ∷ 0 ∷ 0 ∷ 0x01 ∷ []
+  pub not-ones : allOnes longestAddress (to 0x7F) ≡ false
   pub group : isGroup (to 0x7F) ≡ true
-  pub falls : FallsIn world begun (hash (take addressLength (to 0x7F)))
+  pub falls : FallsIn world begun (hash (take longestAddress (to 0x7F)))
   pub ours : isOurs (leftBy world 0) (to 0x7F) ≡ true
   pub held : arrivals.arrivalOf (leftBy world 0) (to 0x7F) 0 .outcome .fates ≡ fate.Held counter.Uncounted ∷ []
   pub another : arrivals.arrivalOf (leftBy world 0) (to 0x01) 0 .outcome .fates ≡ fate.NoMatch ∷ []
@@ -65,7 +65,7 @@ pub seen : Seen
 unfolding byteAt putByte bytesAt putBytes value digits fieldAt place bitsAt joined anyOf eventBits statusWord verdictOf ones shifted step bitsIn register selected hash agree matches lengthOf judged fateOf arrival filtering act nextAfter end service statusTo arrivals.arrival arrivals.arrivalOf concluded commandTurn turnOf
 seen =
     let e : EndsMcSetup world begun = record { served = refl; begun = refl } in
-    let f : FallsIn world begun (hash (take addressLength (to 0x7F))) = record { which = 0; among = omega arith; on-it = refl } in
+    let f : FallsIn world begun (hash (take longestAddress (to 0x7F))) = record { which = 0; among = omega arith; on-it = refl } in
     record {
       ends = e;
       two = refl;

@@ -11,7 +11,7 @@ use Rattle.scb.specs.Control.{codeOf}
 use Rattle.scb.specs.Words.{noEvents, bitsAt, joined, acknowledged, anyOf, eventBits, statusWord}
 use Rattle.device.specs.Answers.{counts}
 use Rattle.device.specs.Numbers.{actionOf, verdictOf}
-use Rattle.device.specs.State.{fresh}
+use Rattle.device.specs.State.{fresh, freshForm}
 use Rattle.device.specs.declared.Cu.the-variants as cu
 use Rattle.device.specs.declared.Device.{Device}
 use Rattle.device.specs.declared.Fate.the-variants as fate
@@ -49,7 +49,7 @@ deviceWith unit savebad =
             scb = record { 0 = 64 };
             events = noEvents;
             rulast = false;
-            settings = record { savebad = savebad; promiscuous = false; nobroadcast = false; minimum = 0 };
+            settings = record { savebad = savebad; promiscuous = false; nobroadcast = false; minimum = 0; form = freshForm };
             cu = cu.Idle;
             ru = unit;
           };

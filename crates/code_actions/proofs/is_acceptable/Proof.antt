@@ -10,5 +10,4 @@ is-acceptable-spec =
     (λ c κs. search needs)
     (λ c κs. search needs)
     (λ c κs. search needs)
-    (λ c κs. search needs)
-    (λ c. rw (c .before .before .before .bits-at .ensures, c .before .before .is-set .ensures, c .before .is-set2 .ensures, c .is-set3 .ensures)))
+    (λ c. rw (c .before .before .length-in .ensures, c .before .is-set .ensures, c .is-set2 .ensures)))

@@ -14,19 +14,19 @@ settings-by-spec =
     (λ c κs. search needs)
     (λ c κs. search needs)
     (λ c κs. search needs)
-    (λ c s e. let t : tie.Start = search needs in
+    (λ c s f e. let t : tie.Start = search needs in
     let b = byteOf (t .args .base) (t .args .block) (t .args .memory .now) in
     let byte-of2 = c .before in
     let if1 = byte-of2 .before in
     let byte-of = if1 .before in
     let g : b 2 < 2 ^ 8 = rw (← byte-of .byte-of .ensures) (search needs) in
-    rw (c .settings .ensures, byte-of .byte-of .ensures, byte-of2 .byte-of2 .ensures) (settings-taken (t .args .count) b s g (lt-ltb _ _ (if1 .if1 .taken))))
+    rw (c .settings .ensures, byte-of .byte-of .ensures, byte-of2 .byte-of2 .ensures) (settings-taken (t .args .count) b s (t .args .form) g f (lt-ltb _ _ (if1 .if1 .taken))))
     (λ c κs. search needs)
     (λ c κs. search needs)
-    (λ c s e. let t : tie.Start = search needs in
+    (λ c s f e. let t : tie.Start = search needs in
     let b = byteOf (t .args .base) (t .args .block) (t .args .memory .now) in
     let modes = c .before in
     let if1 = modes .before in
     let byte-of = if1 .before in
     let g : b 2 < 2 ^ 8 = rw (← byte-of .byte-of .ensures) (search needs) in
-    rw (c .settings2 .ensures, byte-of .byte-of .ensures, modes .modes .ensures .0) (settings-kept (t .args .count) b s g (le-ltb _ _ (if1 .if1 .left)) (t .args .kept) e)))
+    rw (c .settings2 .ensures, byte-of .byte-of .ensures, modes .modes .ensures .0) (settings-kept (t .args .count) b s (t .args .form) g f (le-ltb _ _ (if1 .if1 .left)) (t .args .kept) e)))

@@ -15,17 +15,17 @@ counter-of-spec =
     (λ c. rw (← c .before .short .ensures, c .if1 .taken))
     (λ c κs. search needs)
     (λ c.
-    let kind-of = c .before in
-    let if1 = kind-of .before in
+    let verdict = c .before in
+    let if1 = verdict .before in
     let short = if1 .before in
-    rw (← short .short .ensures, if1 .if1 .left, ← kind-of .kind-of .ensures, c .match .keys1))
+    rw (← short .short .ensures, if1 .if1 .left, ← verdict .verdict .ensures, c .match .keys1))
     (λ c.
-    let kind-of = c .before in
-    let if1 = kind-of .before in
+    let verdict = c .before in
+    let if1 = verdict .before in
     let short = if1 .before in
-    rw (← short .short .ensures, if1 .if1 .left, ← kind-of .kind-of .ensures, c .match .keys2))
+    rw (← short .short .ensures, if1 .if1 .left, ← verdict .verdict .ensures, c .match .keys2))
     (λ c.
-    let kind-of = c .before in
-    let if1 = kind-of .before in
+    let verdict = c .before in
+    let if1 = verdict .before in
     let short = if1 .before in
-    rw (← short .short .ensures, if1 .if1 .left, ← kind-of .kind-of .ensures) (simp (ne-eqb _ _ (c .match .rest .1), ne-eqb _ _ (c .match .rest .0 .1)))))
+    rw (← short .short .ensures, if1 .if1 .left, ← verdict .verdict .ensures) (simp (ne-eqb _ _ (c .match .rest .1), ne-eqb _ _ (c .match .rest .0 .1)))))

@@ -1,5 +1,6 @@
 -- `code_arrival::is_good` meets its contract. Assumes nothing.
 use Rattle.phases.specs.Fields.{kindIn}
+use Rattle.phases.specs.Forms.{verdictIn}
 use Rattle.phases.specs.Phases.{wordOf}
 use Rattle.code_arrival.proofs.Laws.{good-is}
 use borrow.Author.Needs.{needs}
@@ -13,4 +14,4 @@ is-good-spec =
     (tie.spec
     (λ c κs. search needs)
     (λ c κs. search needs)
-    (λ c. rw (c .before .short .ensures, c .kind-of .ensures) (good-is (wordOf (c .before .before .args .f) .second) (kindIn (c .before .before .args .f)))))
+    (λ c. rw (c .before .short .ensures, c .verdict .ensures) (good-is (wordOf (c .before .before .args .f) .second) (verdictIn (kindIn (c .before .before .args .f))))))

@@ -3,6 +3,7 @@ use mathlib.Core.Path.{_∙_}
 use Rattle.memory.specs.Memory.{digits}
 use Rattle.device.specs.State as states
 use Rattle.actions.specs.Setup.{setupOf}
+use Rattle.phases.specs.Forms.{formNumber}
 use Rattle.packed.specs.SetUp.{setupBytes}
 use Rattle.code_attention.proofs.States.{run-over}
 use borrow.Author.Needs.{needs}
@@ -10,7 +11,7 @@ use Rattle.code_attention.proofs.renew.Statement.{statement}
 use Rattle.code_attention.proofs.renew.Tie as tie
 
 pub renew-spec : {M : Type 1} → statement M
-unfolding setupBytes digits
+unfolding setupBytes digits formNumber
 renew-spec =
     tie.close
     (tie.spec

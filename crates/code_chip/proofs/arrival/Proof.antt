@@ -1,37 +1,75 @@
 -- `code_chip::arrival` meets its contract: too short, for us, or not. Assumes nothing.
 use borrow.Author.Tests.{lt-ltb, le-ltb}
-use mathlib.Core.Path.{refl, sym, _∙_}
+use mathlib.Core.Path.{_≡_, refl, sym, _∙_}
+use native.Mathlib.Omega.{arith}
+use Rattle.device.specs.declared.Device.{Device}
 use Rattle.actions.specs.Setup.{setupOf}
+use Rattle.phases.specs.Forms.{formOf}
+use Rattle.phases.proofs.Units.{form-back}
+use Rattle.packed.specs.SetUp.{SetIs}
 use Rattle.code_chip.proofs.Laws.{arrives-few, arrives-unmatched, arrives-matched}
 use borrow.Author.Needs.{needs}
 use Rattle.code_chip.proofs.arrival.Statement.{statement}
 use Rattle.code_chip.proofs.arrival.Tie as tie
 
+-- the form read of the setup is the device's
+same-form : (c : tie.After-form) (d : Device) → SetIs (setupOf d) (c .before .before .before .before .before .args .setup .now)
+    → formOf (c .form .result) ≡ d .units .settings .form
+same-form c d h = rw (c .form .ensures .1 (setupOf d) h) (form-back (d .units .settings .form) (h .form-wide))
+
 returns : tie.Need-returns
 returns c =
     let s : tie.Start = search needs in
-    λ d out e. arrives-few d _ (s .args .verdict) _ _ out _ (s .args .k) (lt-ltb _ 14 (c .if1 .taken)) e
+    let header = c .before in
+    λ d out e.
+    arrives-few d _ (s .args .verdict) _ _ out _ (s .args .k)
+    (lt-ltb _ _ (rw (header .header .ensures .0, same-form (header .before) d (e .setup)) at (c .if1 .taken))) e
+
+for-us-requires : tie.Need-matches-requires
+for-us-requires c κs =
+    let s : tie.Start = search needs in
+    let long = c .before in
+    (s .pre, c .length .ensures .1, omega (arith, long .if1 .left, long .before .header .ensures .0, c .length .ensures .0))
 
 returns-2 : tie.Need-returns-2
 returns-2 c =
     let s : tie.Start = search needs in
-    let for-us : tie.After-matches = search needs in
     let t : tie.Then2 = search needs in
+    let for-us = t .before in
+    let length = for-us .before in
+    let long = length .before in
+    let header = long .before in
     let a : tie.After-arrive = search needs in
     λ d out e.
-    arrives-matched d _ (s .args .verdict) _ _ out _ _ _ _ (sym (for-us .matches .ensures (setupOf d) (e .setup)) ∙ t .if2 .taken) (e .setup)
-    (a .arrive .ensures (d .units) (setupOf d) (e .units) (e .setup) refl)
+    let same = same-form (header .before) d (e .setup) in
+    let l = rw same at (length .length .ensures .0) in
+    arrives-matched d _ (s .args .verdict) _ _ out _ _ _ _ (sym (for-us .matches .ensures (setupOf d) (e .setup) l) ∙ t .if2 .taken) (e .setup)
+    (a .arrive .ensures (d .units) (setupOf d) (e .units) (e .setup) refl (rw (header .header .ensures .0, same) at (long .if1 .left)))
 
 returns-3 : tie.Need-returns-3
 returns-3 c =
     let s : tie.Start = search needs in
-    let long : tie.Else1 = search needs in
-    let for-us : tie.After-matches = search needs in
+    let for-us = c .before in
+    let length = for-us .before in
+    let long = length .before in
+    let header = long .before in
     λ d out e.
-    arrives-unmatched d _ (s .args .verdict) _ _ out _ (s .args .k) (le-ltb _ 14 (long .if1 .left))
-    (sym (for-us .matches .ensures (setupOf d) (e .setup)) ∙ c .if2 .left) e
+    let same = same-form (header .before) d (e .setup) in
+    let l = rw same at (length .length .ensures .0) in
+    arrives-unmatched d _ (s .args .verdict) _ _ out _ (s .args .k) (le-ltb _ _ (rw (header .header .ensures .0, same) at (long .if1 .left)))
+    (sym (for-us .matches .ensures (setupOf d) (e .setup) l) ∙ c .if2 .left) e
 
 pub arrival-spec : {M : Type 1} → statement M
 arrival-spec =
     tie.close
-    (tie.spec returns (λ c κs. search needs) (λ c κs. search needs) (λ c. search needs) (λ c. search needs) returns-2 returns-3)
+    (tie.spec
+    (λ c κs. search needs)
+    (λ c κs. search needs)
+    returns
+    (λ c κs. search needs)
+    for-us-requires
+    (λ c κs. search needs)
+    (λ c. search needs)
+    (λ c. search needs)
+    returns-2
+    returns-3)

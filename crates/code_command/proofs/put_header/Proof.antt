@@ -1,20 +1,20 @@
 -- `code_command::put_header` meets its contract: three parts, one behind the other. Assumes nothing.
-use mathlib.Core.Path.{_≡_, _∙_}
-use Prim.Native.Nat.{_+_}
+use mathlib.Core.Path.{_≡_}
+use Prim.Native.Nat.{_+_, _-_}
 use native.Mathlib.Omega.{arith}
-use lib.ListN.{length}
+use lib.ListN.{length, take}
+use lib.Seq.{length-take-le}
 use Rattle.memory.specs.Address.{place}
 use Rattle.memory.specs.Memory.{bytesAt}
 use Rattle.memory.proofs.Laws.{length-bytesAt}
-use Rattle.command.specs.Begin.{headerOf}
+use Rattle.actions.specs.Block.{destinationAt, typeAt}
 use Rattle.command.proofs.Laws.{in-parts}
-use Rattle.packed.proofs.SetUps.{own-is}
+use Rattle.packed.proofs.SetUps.{own-first}
 use borrow.Author.Needs.{needs}
 use Rattle.code_command.proofs.put_header.Statement.{statement}
 use Rattle.code_command.proofs.put_header.Tie as tie
 
 pub put-header-spec : {M : Type 1} → statement M
-unfolding headerOf
 put-header-spec =
     tie.close
     (tie.spec
@@ -23,13 +23,33 @@ put-header-spec =
     (λ c. search needs)
     (λ c. search needs)
     (λ c. search needs)
-    (λ c κs. search needs)
-    (λ c κs. search needs)
+    (λ c. search needs)
     (λ c κs. search needs)
     (λ c. search needs)
-    (λ c. λ s h. let t : tie.Start = search needs in
+    (λ c. search needs)
+    (λ c κs. search needs)
+    (λ c. search needs)
+    (λ c κs. search needs)
+    (λ c. search needs)
+    (λ c s h.
+    let copy-out2 = c .before .before in
+    let place2 = copy-out2 .before .before in
+    let put-run = place2 .before .before .before in
+    let copy-out = put-run .before .before .before .before .before in
+    let placed = copy-out .before .before in
+    let t : tie.Start = search needs in
     let m = t .args .memory .now in
-    let l : 6 + length (s .own) ≡ 12 = omega (arith, h .own-wide) in
-    let to = bytesAt m (place (t .args .base) (t .args .block) 8) 6 in
-    let type = bytesAt m (place (t .args .base) (t .args .block) 14) 2 in
-    c .before .before .copy-out2 .ensures ∙ rw (c .before .before .before .before .before .before .before .put-run .ensures, c .before .before .before .before .before .before .before .before .before .before .before .before .copy-out .ensures, c .before .before .before .before .before .before .before .before .before .before .before .before .before .before .place .ensures, c .before .before .before .before .place2 .ensures, own-is s (t .args .setup .now) h) (in-parts (t .args .outgoing .now) to (s .own) type 6 12 (length-bytesAt m (place (t .args .base) (t .args .block) 8) 6) l)))
+    let l = t .args .l in
+    let to = bytesAt m (place (t .args .base) (t .args .block) destinationAt) l in
+    let type = bytesAt m (place (t .args .base) (t .args .block) (typeAt l)) 2 in
+    let long : length (take l (s .own)) ≡ l = length-take-le l (s .own) (omega (arith, h .own-wide, t .pre .1)) in
+    let k : l + length (take l (s .own)) ≡ l + l = omega arith in
+    let part : 2 + l - 2 ≡ l = omega arith in
+    rw (
+      ← in-parts (t .args .outgoing .now) to (take l (s .own)) type l (l + l) (length-bytesAt m (place (t .args .base) (t .args .block) destinationAt) l) k,
+      ← own-first s (t .args .setup .now) h l (t .pre .1),
+      ← placed .place .ensures,
+      ← place2 .place2 .ensures,
+      ← copy-out .copy-out .ensures,
+      ← rw part at (put-run .put-run .ensures),
+    ) (copy-out2 .copy-out2 .ensures)))

@@ -12,29 +12,29 @@ use Rattle.code_filter.proofs.hash_of.Statement.{statement}
 use Rattle.code_filter.proofs.hash_of.Tie as tie
 
 abbrev Inv-loop : tie.InvT-loop
-Inv-loop frame register₀ i₀ register i = (i ≤ 6) × (register ≡ behind (take i frame))
+Inv-loop l frame register₀ i₀ register i = (i ≤ l) × (register ≡ behind (take i frame))
 
 abbrev μ-loop : tie.MeasureT-loop
-μ-loop frame register₀ i₀ register i = 6 - i
+μ-loop l frame register₀ i₀ register i = l - i
 
 loop-holds : tie.Need-loop-holds Inv-loop μ-loop
 loop-holds c = (omega arith, sym before)
 
 loop-again : tie.Need-loop-again Inv-loop μ-loop
 loop-again c =
-    let l = c .before .before .before in
+    let k = c .before .before .before in
     let t : tie.Start Inv-loop μ-loop = search needs in
     let f = t .args .frame .now in
-    let i = l .loop .i in
+    let i = k .loop .i in
     let g : i < length f = omega (arith, t .pre) in
-    (omega arith, rw (add-one, take-suc f i 0 g) (c .take .ensures .1 (take i f) (l .loop .inv .1)))
+    (omega arith, rw (add-one, take-suc f i 0 g) (c .take .ensures .1 (take i f) (k .loop .inv .1)))
 
 returns : tie.Need-returns Inv-loop μ-loop
 returns c =
-    let l = c .before .before in
+    let k = c .before .before in
     let t : tie.Start Inv-loop μ-loop = search needs in
-    let e : l .loop .i ≡ 6 = omega arith in
-    (c .select .ensures .1, c .select .ensures .2 (take 6 (t .args .frame .now)) (rw e at (l .loop .inv .1)))
+    let e : k .loop .i ≡ t .args .l = omega (arith, k .loop .inv .0) in
+    (c .select .ensures .1, c .select .ensures .2 (take (t .args .l) (t .args .frame .now)) (rw e at (k .loop .inv .1)))
 
 pub hash-of-spec : {M : Type 1} → statement M
 hash-of-spec =

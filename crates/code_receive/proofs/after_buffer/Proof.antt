@@ -7,6 +7,7 @@ use borrow.Author.Tests.{le-leb, lt-leb}
 use lib.Dec.{leb}
 use Rattle.phases.specs.Fields.{sizeIn, nextIn}
 use Rattle.phases.specs.Phases.{wordOf}
+use Rattle.phases.proofs.Units.{form-wide}
 use Rattle.code_receive.specs.Receives.{storingIn}
 use Rattle.packed.proofs.Words.{closing, lacking, filling}
 use Rattle.code_receive.proofs.Laws.{lacking-by, filling-by, buffers-left}
@@ -28,7 +29,7 @@ after-buffer-spec =
     let filled-up : tie.After-filled-up = search needs in
     let then1 : tie.Then1 = search needs in
     let d : leb (sizeIn (t .args .n)) (t .args .filled) ≡ true = rw (← size-of .size-of .ensures) (le-leb _ _ (then1 .if1 .taken)) in
-    record { raised = refl; unit = λ h. rw d (closing _ (storingIn (t .args .n)) (t .args .next) (t .args .el) (c .with-next .ensures (storingIn (t .args .n)) (t .args .el) (filled-up .filled-up .ensures .1 (storingIn (t .args .n)) (nextIn (t .args .n)) h))) })
+    record { raised = refl; unit = λ h. rw d (closing _ (storingIn (t .args .n)) (form-wide _) (t .args .next) (t .args .el) (c .with-next .ensures (storingIn (t .args .n)) (t .args .el) (filled-up .filled-up .ensures .1 (storingIn (t .args .n)) (nextIn (t .args .n)) h))) })
     (λ c κs. search needs)
     (λ c. search needs)
     (λ c κs. search needs)
@@ -39,7 +40,7 @@ after-buffer-spec =
     let else1 : tie.Else1 = search needs in
     let then2 : tie.Then2 = search needs in
     let d : leb (sizeIn (t .args .n)) (t .args .filled) ≡ false = rw (← size-of .size-of .ensures) (lt-leb _ _ (else1 .if1 .left)) in
-    record { raised = refl; unit = λ h. rw (d, lacking-by _ _ _ _ _ (rw (is-none .is-none .ensures) at (then2 .if2 .taken))) (lacking _ (storingIn (t .args .n)) (c .filled-up2 .ensures .1 (storingIn (t .args .n)) (nextIn (t .args .n)) h)) })
+    record { raised = refl; unit = λ h. rw (d, lacking-by _ _ _ _ _ (rw (is-none .is-none .ensures) at (then2 .if2 .taken))) (lacking _ (storingIn (t .args .n)) (form-wide _) (c .filled-up2 .ensures .1 (storingIn (t .args .n)) (nextIn (t .args .n)) h)) })
     (λ c κs. search needs)
     (λ c κs. search needs)
     (λ c. search needs)
@@ -62,6 +63,6 @@ after-buffer-spec =
       raised = refl;
       unit = λ h.
           rw (d, filling-by _ _ _ _ _ (rw (is-none .is-none .ensures) at (else2 .if2 .left)))
-          (filling _ (storingIn (t .args .n)) (record { next = t .args .next; used = t .args .used + 1; filled = t .args .filled }) _ (c .rest-of .ensures) (t .pre .1) (omega arith)
+          (filling _ (storingIn (t .args .n)) (form-wide _) (record { next = t .args .next; used = t .args .used + 1; filled = t .args .filled }) _ (c .rest-of .ensures) (t .pre .1) (omega arith)
           (with-next2 .with-next2 .ensures (storingIn (t .args .n)) false (filled-up3 .filled-up3 .ensures .1 (storingIn (t .args .n)) (nextIn (t .args .n)) h)));
     }))

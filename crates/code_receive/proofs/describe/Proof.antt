@@ -18,6 +18,7 @@ describe-spec =
     (λ c κs. search needs)
     (λ c κs. search needs)
     (λ c κs. search needs)
+    (λ c κs. search needs)
     (λ c.
     let mark-bare = c .before .before in
     let put-word = mark-bare .before .before .before .before .before in
@@ -30,18 +31,20 @@ describe-spec =
     let frame-status = put-word .before in
     let place2 = frame-status .before in
     let copy-in = place2 .before .before .before .before in
-    let place = copy-in .before in
+    let unbuffered = copy-in .before in
+    let place = unbuffered .before in
     let if1 = place .before .before in
     let at-of = if1 .before in
     rw (
       if1 .if1 .taken,
+      ← is-bare .is-bare .ensures,
       ← at-of .at-of .ensures,
       ← place .place .ensures,
+      ← unbuffered .unbuffered .ensures .0,
       ← copy-in .copy-in .ensures,
       ← place2 .place2 .ensures,
       ← frame-status .frame-status .ensures,
       ← put-word .put-word .ensures,
-      ← is-bare .is-bare .ensures,
     ) (mark-bare .mark-bare .ensures))
     (λ c κs. search needs)
     (λ c κs. search needs)

@@ -21,7 +21,7 @@ error-bits-spec =
     let short = c .before in
     let bit-if = short .before in
     let verdict-bit = bit-if .before in
-    let kind-of = verdict-bit .before in (
-      rw (← kind-of .kind-of .ensures, ← short .short .ensures, ← verdict-bit .verdict-bit .ensures .0, ← bit-if .bit-if .ensures .0, ← c .bit-if2 .ensures .0),
+    let verdict = verdict-bit .before in (
+      rw (← verdict .verdict .ensures, ← short .short .ensures, ← verdict-bit .verdict-bit .ensures .0, ← bit-if .bit-if .ensures .0, ← c .bit-if2 .ensures .0),
       omega (arith, verdict-bit .verdict-bit .ensures .1, bit-if .bit-if .ensures .1, c .bit-if2 .ensures .1),
     )))

@@ -10,4 +10,5 @@ is-bare-spec =
     tie.close
     (tie.spec
     (λ c κs. search needs)
-    (λ c. rw (c .size-of .ensures)))
+    (λ c κs. search needs)
+    (λ c. rw (c .before .size-of .ensures, c .unbuffered .ensures .0)))

@@ -12,4 +12,4 @@ closing-is-spec =
     (λ c κs. search needs)
     (λ c κs. search needs)
     (λ c κs. search needs)
-    (λ c. rw (c .before .before .frame-is .ensures, c .before .size-of .ensures, c .full .ensures)))
+    (λ c. rw (c .before .before .frame-is .ensures, c .before .has-data .ensures, c .full .ensures)))

@@ -10,6 +10,6 @@ cu-is-spec =
     tie.close
     (tie.spec
     (λ c κs. search needs)
-    (λ c. rw (c .offset-most .ensures) (cu-low _ _ (c .before .if1 .taken)))
+    (λ c. rw (c .offset-most .ensures) (cu-low _ _ _ (c .before .if1 .taken)))
     (λ c κs. search needs)
-    (λ c. c .begun-is .ensures ∙ cu-begun _ _ (search needs) (c .before .if1 .left)))
+    (λ c. c .begun-is .ensures ∙ cu-begun _ _ _ (search needs) (c .before .if1 .left)))

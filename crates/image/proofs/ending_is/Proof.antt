@@ -12,4 +12,5 @@ ending-is-spec =
     (λ c κs. search needs)
     (λ c κs. search needs)
     (λ c κs. search needs)
-    (λ c. rw (c .before .before .flags-of .ensures, c .before .kind-of .ensures, c .is-sized .ensures)))
+    (λ c κs. search needs)
+    (λ c. rw (c .before .before .before .flags-of .ensures, c .before .before .kind-of .ensures, c .is-sized .ensures, c .before .unbuffered .ensures .0)))

@@ -15,10 +15,14 @@ filling-is-spec =
     (λ c κs. search needs)
     (λ c κs. search needs)
     (λ c κs. search needs)
+    (λ c κs. search needs)
+    (λ c κs. search needs)
     (λ c.
     let frame-is : tie.After-frame-is = search needs in
     let used : tie.After-above-filled = search needs in
     let has-next : tie.After-has-next = search needs in
+    let form : tie.After-form = search needs in
+    let unbuffered : tie.After-unbuffered = search needs in
     let filled : tie.After-filled = search needs in
     let filled2 : tie.After-filled2 = search needs in
-    rw (frame-is .frame-is .ensures, has-next .has-next .ensures, used .above-filled .ensures, filled .filled .ensures, filled2 .filled2 .ensures, c .size-of .ensures)))
+    rw (frame-is .frame-is .ensures, has-next .has-next .ensures, used .above-filled .ensures, unbuffered .unbuffered .ensures .0, form .form .ensures, filled .filled .ensures, filled2 .filled2 .ensures, c .size-of .ensures)))

@@ -14,4 +14,15 @@ frame-is-spec =
     (λ c κs. search needs)
     (λ c κs. search needs)
     (λ c κs. search needs)
-    (λ c. rw (c .before .before .before .flags-of .ensures, c .before .before .before .before .kind-of .ensures, c .before .before .is-sized .ensures, c .before .save-bad .ensures, c .short .ensures)))
+    (λ c κs. search needs)
+    (λ c κs. search needs)
+    (λ c κs. search needs)
+    (λ c.
+    let flags : tie.After-flags-of = search needs in
+    let kind : tie.After-kind-is = search needs in
+    let form : tie.After-form = search needs in
+    let header : tie.After-header = search needs in
+    let sized : tie.After-is-sized = search needs in
+    let saved : tie.After-save-bad = search needs in
+    let short : tie.After-short = search needs in
+    rw (flags .flags-of .ensures, kind .kind-is .ensures, sized .is-sized .ensures, header .header .ensures .0, form .form .ensures, saved .save-bad .ensures, short .short .ensures, c .verdict .ensures)))

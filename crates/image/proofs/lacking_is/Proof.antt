@@ -11,4 +11,4 @@ lacking-is-spec =
     (tie.spec
     (λ c κs. search needs)
     (λ c κs. search needs)
-    (λ c. rw (c .before .frame-is .ensures, c .size-of .ensures)))
+    (λ c. rw (c .before .frame-is .ensures, c .has-data .ensures)))

@@ -13,4 +13,5 @@ sending-is-spec =
     (λ c κs. search needs)
     (λ c κs. search needs)
     (λ c κs. search needs)
-    (λ c. rw (c .before .before .before .flags-of .ensures, c .before .has-next .ensures, c .before .before .kind-of .ensures, c .is-sized .ensures)))
+    (λ c κs. search needs)
+    (λ c. rw (c .before .before .before .before .flags-of .ensures, c .before .before .has-next .ensures, c .before .before .before .kind-of .ensures, c .is-sized .ensures, c .before .unbuffered .ensures .0)))
