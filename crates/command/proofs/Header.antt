@@ -13,9 +13,11 @@ use Rattle.memory.specs.declared.RealAddress.{RealAddress}
 use Rattle.memory.proofs.Laws.{length-bytesAt}
 use Rattle.device.specs.Header.{sourceIn, typeIn, unbufferedBy, unbuffered}
 use Rattle.device.specs.Limits.{typeLength}
+use Rattle.device.specs.declared.Begun.{Begun}
 use Rattle.device.specs.declared.Form.{Form}
 use Rattle.actions.specs.Block.{destinationAt, typeAt}
-use Rattle.command.specs.Begin.{headerBy, headerOf}
+use Rattle.command.specs.Begin.{headerBy, headerOf, toBegun}
+use Rattle.command.specs.Part.{Part}
 
 module _ (base : RealAddress) (own : List ℕ) (block : Offset) (m : List ℕ) where
   -- so many bytes as do not go through buffers
@@ -70,3 +72,8 @@ module _ (base : RealAddress) (own : List ℕ) (block : Offset) (m : List ℕ) w
     -- the block's type
     pub type-placed : drop (typeIn l) placed ≡ type
     type-placed = sym (drop-drop l l placed) ∙ rw behind-destination (drop-at (take l own) type l (length-take-le l own h))
+
+-- with location 1 the begin of a Transmit leaves the outgoing area as it was
+pub outgoing-stays : (p : Part) (b : Begun) (word : ℕ) (m : List ℕ) → p .setup .settings .form .location ≡ true
+    → toBegun true p b word m .outgoing ≡ p .outgoing
+outgoing-stays p b word m e = rw (nothing-placed (p .base) (p .setup .own) (b .block) m (p .setup .settings .form) e)

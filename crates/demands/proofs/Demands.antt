@@ -49,8 +49,8 @@ use Rattle.actions.specs.Actions.{acceptable, byteOf, formIn, countOf, act, don
 use Rattle.actions.specs.Block.{blockStatusAt, destinationAt, typeAt}
 use Rattle.actions.specs.Setup.{Setup}
 use Rattle.actions.proofs.Configured as configured
-use Rattle.command.specs.Begin.{headerOf}
-use Rattle.command.specs.Part.{partOf}
+use Rattle.command.specs.Begin.{headerOf, toBegun}
+use Rattle.command.specs.Part.{Part, partOf}
 use Rattle.command.specs.Service.{service}
 use Rattle.command.proofs.Header as placing
 use Rattle.numerals.specs.Places.{field}
@@ -92,7 +92,7 @@ use Rattle.frames.specs.Held.{inFrame, ends, heldFates, FatesOfHeld, GoodFate, 
 use Rattle.frames.specs.Fates.{Deed, alter, Scene, namesOf, opening, still, advance, beginnings, endings, times, timesFated, timesAltered, AllFates}
 use Rattle.frames.specs.Fates.{by-call, by-altering, isUnaltered, AllProper}
 use Rattle.frames.specs.OnBytes.{ArrivedOn, altering, deedsOf, AllGiven, AllGivenDrive, AllKept, AllSaidOf, worldAt, heldOf, endedOf, stillOf}
-use Rattle.frames.specs.Stands.{StoredStands, NoOverlap, pieces, counters, otherCounters, lackingCounters, Each, Spared, GoodExit, BadExit, Clear, NextClear}
+use Rattle.frames.specs.Stands.{StoredStands, Piece, PieceStands, NoOverlap, pieces, counters, otherCounters, lackingCounters, Each, Spared, GoodExit, BadExit, Clear, NextClear}
 use Rattle.frames.specs.Data.{Staying, dataOf, Delivered, ArrivedDelivered, EndLent, DeliveredOnBytes, ArrivedOnBytes}
 use Rattle.frames.proofs.Arrival as arrivals
 use Rattle.frames.proofs.Arrived as arrived
@@ -600,11 +600,33 @@ pub a-transmit-places-nothing-with-location-1 : (base : RealAddress) (own : List
     → headerOf base f own block m ≡ []
 a-transmit-places-nothing-with-location-1 = placing.nothing-placed
 
+pub so-the-outgoing-area-stays-at-its-begin : (p : Part) (b : Begun) (word : ℕ) (m : List ℕ) → p .setup .settings .form .location ≡ true
+    → toBegun true p b word m .outgoing ≡ p .outgoing
+so-the-outgoing-area-stays-at-its-begin = placing.outgoing-stays
+
 -- "Block and descriptor fields are packed": of a frame that is stored, k bytes behind the first i of what went to no buffer stand as many behind +8 of the
 -- descriptor: the destination with i = 0, the source with `sourceIn`, the type with `typeIn`
 pub the-descriptor-part-by-part : (lacking : Bool) (s : Storing) (w : World) (r : Ran) → StoredStands lacking s w r → (i k : ℕ) → i + k ≤ unbuffered (s .frame .form)
     → bytesAt (r .memory) (inFrame w s (8 + i)) k ≡ take k (drop i (w .holding))
 the-descriptor-part-by-part = descriptor-parts.part-stands
+
+-- the turn that ends a frame leaves as it was what none of its pieces lies over; with location 1 the descriptor from +8 on is such, so that no byte of it is
+-- written, stored or out of buffers
+pub nothing-else-is-written-at-the-end : (c : Call) (w : World) (f : Frame) → arrival.RightLengths w [] → inRange (w .device) ≡ true
+    → heldIn (arrival.unitOf w) ≡ f ∷ [] → ends c w ≡ true → (p : Piece) → PieceStands w (ran c w) p
+nothing-else-is-written-at-the-end = exits.nothing-else
+
+pub with-location-1-the-descriptor-stays : (c : Call) (w : World) (f : Frame) (s : Storing) (free : Offset) (full : Bool) → arrival.RightLengths w []
+    → inRange (w .device) ≡ true → heldIn (arrival.unitOf w) ≡ f ∷ [] → ends c w ≡ true → arrival.unitOf w ≡ ru.Closing s free full → Clear w s
+    → (s .el || full ≡ false → NextClear w s) → s .frame .form .location ≡ true
+    → bytesAt (ran c w .memory) (inFrame w s 8) 14 ≡ bytesAt (w .memory) (inFrame w s 8) 14
+with-location-1-the-descriptor-stays = clear.closing-stays
+
+pub with-location-1-the-descriptor-stays-out-of-buffers : (c : Call) (w : World) (f : Frame) (s : Storing) → arrival.RightLengths w []
+    → inRange (w .device) ≡ true → heldIn (arrival.unitOf w) ≡ f ∷ [] → ends c w ≡ true → arrival.unitOf w ≡ ru.Lacking s → Clear w s
+    → s .frame .form .location ≡ true
+    → bytesAt (ran c w .memory) (inFrame w s 8) 14 ≡ bytesAt (w .memory) (inFrame w s 8) 14
+with-location-1-the-descriptor-stays-out-of-buffers = clear.lacking-stays
 
 -- at length 0 "only promiscuous mode receives"
 pub at-length-0-promiscuous-mode-alone : (w : World) (f : List ℕ) → arrival.lengthIn w ≡ 0 → arrival.isOurs w f ≡ arrival.settingsOf w .promiscuous

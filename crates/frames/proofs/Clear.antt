@@ -1,6 +1,6 @@
 -- When no piece of an end turn lies over another, nor over a counter that it does not write: it is enough that the frame descriptor, the SCB and, if it is written, +6 of the
 -- next frame descriptor lie apart. Assumes nothing.
-use mathlib.Core.Path.{_≡_, refl, sym, ap, _∙_}
+use mathlib.Core.Path.{_≡_, refl, sym, ap, _∙_, subst}
 use mathlib.Core.Bool.{Bool, true, false, _||_}
 use mathlib.Core.List.{List, [], _∷_, _++_}
 use Prim.Native.Nat.{ℕ, _+_, _%_, _≤_}
@@ -8,21 +8,27 @@ use native.Mathlib.Omega.{arith}
 use lib.Dec.{T, leb, lit≤}
 use lib.ListN.{length}
 use Rattle.memory.specs.Address.{place}
+use Rattle.memory.specs.Memory.{bytesAt}
 use Rattle.memory.specs.declared.Offset.{Offset}
 use Rattle.memory.specs.declared.RealAddress.{RealAddress}
 use Rattle.memory.proofs.Fields.{Apart}
 use Rattle.memory.proofs.Places.{place-up, place-down}
 use Rattle.device.specs.Header.{unbuffered}
-use Rattle.device.specs.State.{isGood}
+use Rattle.device.specs.State.{heldIn, isGood}
+use Rattle.device.specs.declared.Frame.{Frame}
+use Rattle.device.specs.declared.Ru.{Ru}
 use Rattle.device.specs.declared.Ru.the-variants as ru
 use Rattle.device.specs.declared.Storing.{Storing}
-use Rattle.device.proofs.Header.{at-most-the-header}
+use Rattle.device.proofs.Header.{at-most-the-header, all-in-the-buffers}
 use Rattle.receive.specs.Begin.{isBare}
+use Rattle.image.specs.Ranges.{inRange}
+use Rattle.chip.specs.Call.{Call, ran}
 use Rattle.chip.specs.World.{World}
-use Rattle.frames.specs.Arrival.{inScb}
-use Rattle.frames.specs.Held.{inFrame}
+use Rattle.frames.specs.Arrival.{RightLengths, inScb, unitOf}
+use Rattle.frames.specs.Held.{inFrame, ends}
 use Rattle.frames.specs.Stands.{Piece, piece, Away, NoOverlap, nextFirst, barePiece, onwardPiece, storedPieces, countPiece, statusPiece}
 use Rattle.frames.specs.Stands.{lackingPieces, pieces, counters, lackingCounters, Each, Spared, Clear, NextClear}
+use Rattle.frames.proofs.Stands.{nothing-else}
 
 -- ---- parts of what lies apart
 
@@ -237,3 +243,53 @@ lacking-spares false saved w s c =
 
 pub lacking-spared : (w : World) (s : Storing) → Clear w s → Each (Spared (ru.Lacking s) w) (lackingCounters (isGood (s .frame)))
 lacking-spared w s c = lacking-spares (isGood (s .frame)) (s .frame .savebad) w s c
+
+-- ---- 02, Wish 4: with location 1 no piece lies over the descriptor from +8 on
+
+no-header : (w : World) (s : Storing) → s .frame .form .location ≡ true → Apart (size w) (inFrame w s 8) (unbuffered (s .frame .form)) (inFrame w s 8) 14
+no-header w s e x hx y hy z = let u = all-in-the-buffers (s .frame .form) e in absurd (omega (arith, hx, u))
+
+-- of what is written to the descriptor, status and +6; then of the rest
+stored-leaves : (b : Bool) (w : World) (s : Storing) (rest : List Piece) → Clear w s → s .frame .form .location ≡ true → Away (size w) rest (fullHeader w s)
+    → Away (size w) (front w s (barePiece b w s ++ rest)) (fullHeader w s)
+stored-leaves true w s rest c e r = (no-header w s e, (frame-up w s 0 2 8 14 c tt tt, (frame-up w s 6 2 8 14 c tt tt, r)))
+stored-leaves false w s rest c e r = (no-header w s e, (frame-up w s 0 2 8 14 c tt tt, r))
+
+-- RSCERRS and the SCB status; +6 of the next frame descriptor
+scb-leaves : (w : World) (s : Storing) → Clear w s → Away (size w) (countPiece w ∷ statusPiece w ∷ []) (fullHeader w s)
+scb-leaves w s c = (across w s 8 14 12 2 c tt tt, (across w s 8 14 0 2 c tt tt, tt))
+
+onward-leaves : (x : Bool) (w : World) (s : Storing) → Clear w s → (x ≡ false → NextClear w s)
+    → Away (size w) (onwardPiece x w s ++ statusPiece w ∷ []) (fullHeader w s)
+onward-leaves true w s c k = scb-leaves w s c .1
+onward-leaves false w s c k = (next-frame w s 8 14 (k refl) tt, scb-leaves w s c .1)
+
+closing-leaves : (w : World) (s : Storing) (free : Offset) (full : Bool) → Clear w s → (s .el || full ≡ false → NextClear w s)
+    → s .frame .form .location ≡ true → Away (size w) (pieces (ru.Closing s free full) w) (piece (inFrame w s 8) 14)
+closing-leaves w s free full c k e =
+    stored-leaves (isBare (s .frame)) w s (onwardPiece (s .el || full) w s ++ statusPiece w ∷ []) c e (onward-leaves (s .el || full) w s c k)
+
+lacking-leaves-by : (good saved : Bool) (w : World) (s : Storing) → Clear w s → s .frame .form .location ≡ true
+    → Away (size w) (lackingPieces good saved w s) (fullHeader w s)
+lacking-leaves-by true true w s c e = stored-leaves (isBare (s .frame)) w s (countPiece w ∷ statusPiece w ∷ []) c e (scb-leaves w s c)
+lacking-leaves-by true false w s c e = (frame-up w s 0 2 8 14 c tt tt, scb-leaves w s c)
+lacking-leaves-by false saved w s c e = stored-leaves (isBare (s .frame)) w s (statusPiece w ∷ []) c e (scb-leaves w s c .1)
+
+lacking-leaves : (w : World) (s : Storing) → Clear w s → s .frame .form .location ≡ true → Away (size w) (pieces (ru.Lacking s) w) (piece (inFrame w s 8) 14)
+lacking-leaves w s c e = lacking-leaves-by (isGood (s .frame)) (s .frame .savebad) w s c e
+
+-- so no byte of it is written by the turn that ends the frame
+pub closing-stays : (c : Call) (w : World) (f : Frame) (s : Storing) (free : Offset) (full : Bool) → RightLengths w [] → inRange (w .device) ≡ true
+    → heldIn (unitOf w) ≡ f ∷ [] → ends c w ≡ true → unitOf w ≡ ru.Closing s free full → Clear w s → (s .el || full ≡ false → NextClear w s)
+    → s .frame .form .location ≡ true
+    → bytesAt (ran c w .memory) (inFrame w s 8) 14 ≡ bytesAt (w .memory) (inFrame w s 8) 14
+closing-stays c w f s free full l r h n e k j t =
+    nothing-else c w f l r h n (piece (inFrame w s 8) 14)
+    (subst (λ (u : Ru). Away (size w) (pieces u w) (piece (inFrame w s 8) 14)) (sym e) (closing-leaves w s free full k j t))
+
+pub lacking-stays : (c : Call) (w : World) (f : Frame) (s : Storing) → RightLengths w [] → inRange (w .device) ≡ true → heldIn (unitOf w) ≡ f ∷ []
+    → ends c w ≡ true → unitOf w ≡ ru.Lacking s → Clear w s → s .frame .form .location ≡ true
+    → bytesAt (ran c w .memory) (inFrame w s 8) 14 ≡ bytesAt (w .memory) (inFrame w s 8) 14
+lacking-stays c w f s l r h n e k t =
+    nothing-else c w f l r h n (piece (inFrame w s 8) 14)
+    (subst (λ (u : Ru). Away (size w) (pieces u w) (piece (inFrame w s 8) 14)) (sym e) (lacking-leaves w s k t))

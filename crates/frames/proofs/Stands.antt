@@ -1,7 +1,7 @@
 -- Demand 2 of frames, corollary: where no piece lies over another, stored and counted are facts about memory at exit; and where no piece lies over them no
 -- counter moves but the one that is counted. Assumes nothing.
 use mathlib.Core.Path.{_≡_, refl, sym, ap, ap₂, _∙_, subst}
-use mathlib.Core.Bool.{Bool, true, false, _||_}
+use mathlib.Core.Bool.{Bool, true, false, _||_, true≢false}
 use mathlib.Core.List.{List, [], _∷_, _++_}
 use Prim.Native.Nat.{ℕ, _+_, _%_, _≤_}
 use native.Mathlib.Omega.{arith}
@@ -27,13 +27,13 @@ use Rattle.image.proofs.Exact.{frame-form}
 use Rattle.closure.proofs.Units.{unbuffered-most}
 use Rattle.receive.specs.Begin.{isBare}
 use Rattle.receive.specs.End.{frameStatus, bareMark}
-use Rattle.chip.specs.Call.{Call, ran}
+use Rattle.chip.specs.Call.{Call, reset, attention, arrive, turn, ran}
 use Rattle.chip.specs.World.{World, Ran}
 use Rattle.frames.specs.Arrival.{RightLengths, inScb, unitOf}
-use Rattle.frames.specs.Held.{inFrame, headerTo, markTo, bareTo, described, onwardBy, onward, statusAfter, Stored, Counted, GoodFate, BadFate}
+use Rattle.frames.specs.Held.{loses, ends, inFrame, headerTo, markTo, bareTo, described, onwardBy, onward, statusAfter, Stored, Counted, GoodFate, BadFate}
 use Rattle.frames.specs.Held as held
 use Rattle.frames.specs.Stands.{Separate, StoredStands, Piece, piece, Away, NoOverlap, nextFirst, barePiece, onwardPiece, countPiece}
-use Rattle.frames.specs.Stands.{statusPiece, lackingPieces, pieces, CounterStands, CountersStand, CountedStands, GoodExit, BadExit}
+use Rattle.frames.specs.Stands.{statusPiece, lackingPieces, pieces, PieceStands, CounterStands, CountersStand, CountedStands, GoodExit, BadExit}
 use Rattle.frames.specs.Stands as exit
 use Rattle.frames.proofs.Held.{held-fits, good-held, bad-held}
 
@@ -251,13 +251,16 @@ saved-pieces w r s f h u e q g =
 separate-at : (n : ℕ) (writes : List Write) (ps : List Piece) → piecesOf writes ≡ ps → NoOverlap n ps → Separate n writes
 separate-at n writes ps e p = separate n writes (subst (NoOverlap n) (sym e) p)
 
+untouched : (writes : List Write) (w : World) (r : Ran) → piecesOf writes ≡ pieces (unitOf w) w → r .memory ≡ apply writes (w .memory)
+    → (p : Piece) → PieceStands w r p
+untouched writes w r e m p a =
+    let n = length (w .memory) in
+    ap (λ (q : List ℕ). bytesAt q (p .from) (p .size)) m
+    ∙ apply-other writes (w .memory) (p .from) (p .size) (away-apart n writes p (subst (λ (l : List Piece). Away n l p) (sym e) a))
+
 counter-stands : (writes : List Write) (w : World) (r : Ran) → piecesOf writes ≡ pieces (unitOf w) w → r .memory ≡ apply writes (w .memory)
     → (counter : ℕ) → CounterStands w r counter
-counter-stands writes w r e m counter a =
-    let n = length (w .memory) in
-    let p = piece (inScb w counter) 2 in
-    ap (λ (q : List ℕ). bytesAt q (p .from) 2) m
-    ∙ apply-other writes (w .memory) (p .from) 2 (away-apart n writes p (subst (λ (l : List Piece). Away n l p) (sym e) a))
+counter-stands writes w r e m counter = untouched writes w r e m (piece (inScb w counter) 2)
 
 counters-stand : (writes : List Write) (w : World) (r : Ran) → piecesOf writes ≡ pieces (unitOf w) w → r .memory ≡ apply writes (w .memory)
     → CountersStand w r
@@ -347,3 +350,39 @@ pub bad-exit : (c : Call) (w : World) (f : Frame) → RightLengths w [] → inRa
 bad-exit c w f l r h g p =
     let least = allowed (length (w .memory)) (l .size) .least in
     bad-exit-of c w f (l .area) (unbuffered-most (f .form) (frame-form f (held-fits (w .device) f r h))) (omega arith) g p (bad-held c w f r h g)
+
+-- ---- nothing else is written
+
+-- a call that ends the frame loses none
+ends-loses : (c : Call) (w : World) → ends c w ≡ true → loses c w ≡ true → ⊥
+ends-loses reset w e l = true≢false (sym e)
+ends-loses attention w e l = true≢false (sym e)
+ends-loses (arrive f v) w e l = true≢false (sym e)
+ends-loses (turn report) w e l = true≢false (sym l)
+
+module _ (c : Call) (w : World) (f : Frame) (h : length (w .holding) ≡ holdingSize) (u : unbuffered (f .form) ≤ 14) (n : ends c w ≡ true) (p : Piece) where
+  good-else : isGood f ≡ true → GoodFate f c w → PieceStands w (ran c w) p
+  good-else g (held.stays a b k m) = absurd (true≢false (sym n ∙ b))
+  good-else g (held.stored s free full m e q x k z) = untouched _ w (ran c w) (closing-pieces w (ran c w) s free full h (as-it-is f s q u) e) (k .memory) p
+  good-else g (held.counted s m e q b x k z) = untouched _ w (ran c w) (counted-pieces w (ran c w) s f _ e q g b) (k .memory) p
+  good-else g (held.both s m e q b x k j z) =
+      untouched _ w (ran c w)
+      (both-pieces w (ran c w) s f ((wordAt (apply (described true w s) (w .memory)) (inScb w 12) + 1) % 65536) h (as-it-is f s q u) e q g b) (k .memory) p
+  good-else g (held.lost a k) = absurd (ends-loses c w n a)
+
+  bad-else : isGood f ≡ false → BadFate f c w → PieceStands w (ran c w) p
+  bad-else g (held.stays a b k m) = absurd (true≢false (sym n ∙ b))
+  bad-else g (held.stored s free full m e q x k z) = untouched _ w (ran c w) (closing-pieces w (ran c w) s free full h (as-it-is f s q u) e) (k .memory) p
+  bad-else g (held.lacking s m e q x k z) = untouched _ w (ran c w) (saved-pieces w (ran c w) s f h (as-it-is f s q u) e q g) (k .memory) p
+  bad-else g (held.lost a k) = absurd (ends-loses c w n a)
+
+-- a turn that ends a frame, good or bad, leaves as it was what none of its pieces lies over
+pub nothing-else : (c : Call) (w : World) (f : Frame) → RightLengths w [] → inRange (w .device) ≡ true → heldIn (unitOf w) ≡ f ∷ [] → ends c w ≡ true
+    → (p : Piece) → PieceStands w (ran c w) p
+nothing-else c w f l r h n p =
+    let u = unbuffered-most (f .form) (frame-form f (held-fits (w .device) f r h)) in
+    by (isGood f) refl (λ g. good-else c w f (l .area) u n p g (good-held c w f r h g)) (λ g. bad-else c w f (l .area) u n p g (bad-held c w f r h g))
+  where
+    by : (b : Bool) → isGood f ≡ b → (isGood f ≡ true → PieceStands w (ran c w) p) → (isGood f ≡ false → PieceStands w (ran c w) p) → PieceStands w (ran c w) p
+    by true e x y = x e
+    by false e x y = y e

@@ -118,6 +118,11 @@ abbrev pub Each : (ℕ → Type 0) → List ℕ → Type 0
 Each P [] = Unit {0}
 Each P (k ∷ ks) = P k × Each P ks
 
+-- what no piece lies over is as at entry
+abbrev pub PieceStands : World → Ran → Piece → Type 0
+PieceStands w r p =
+    Away (length (w .memory)) (pieces (unitOf w) w) p → bytesAt (r .memory) (p .from) (p .size) ≡ bytesAt (w .memory) (p .from) (p .size)
+
 -- no piece that the unit's end turn writes lies over this counter
 abbrev pub Spared : Ru → World → ℕ → Type 0
 Spared u w counter = Away (length (w .memory)) (pieces u w) (piece (inScb w counter) 2)
