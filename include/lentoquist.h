@@ -81,9 +81,10 @@ uint64_t lq_turn(uint8_t *memory, size_t memory_len, uint8_t *holding, size_t ho
                  uint8_t *outgoing, size_t outgoing_len, uint8_t *record, size_t record_len,
                  uint16_t report);
 
-/* Turns in a row, at the price of one call: until budget of them are taken, or until one has sent a frame, reported an
-   edge or found no work, which is then the last one. Everything is as after that many calls of lq_turn with the same
-   report; the answer is that of the last one, and lq_turns says how many were taken. A budget of 0 takes none. */
+/* Turns in a row, at the price of one call: until budget of them are taken, or until one has sent a frame of at least
+   one byte, reported an edge or found no work, which is then the last one. Everything is as after that many calls of
+   lq_turn with the same report; the answer is that of the last one, and lq_turns says how many were taken. A budget of
+   0 takes none. */
 uint64_t lq_run(uint8_t *memory, size_t memory_len, uint8_t *holding, size_t holding_len,
                 uint8_t *outgoing, size_t outgoing_len, uint8_t *record, size_t record_len,
                 uint16_t report, uint16_t budget);

@@ -2,8 +2,9 @@
 use mathlib.Core.Path.{_≡_, refl}
 use mathlib.Core.Bool.{Bool, true, false, true≢false}
 use mathlib.Core.List.{List}
-use Prim.Native.Nat.{ℕ, zero, suc, _<_}
-use native.Mathlib.Nat.{div-eq-of-lt}
+use Prim.Native.Nat.{ℕ, zero, suc, _+_, _*_, _≤_, _<_}
+use native.Mathlib.Nat.{div-eq-of-lt, div-add-mod', mod-lt, zero-lt-suc, not-suc-le-zero}
+use native.Mathlib.Omega.{arith}
 use Rattle.memory.specs.Address.{place}
 use Rattle.memory.specs.declared.Offset.{Offset}
 use Rattle.memory.specs.declared.RealAddress.{RealAddress}
@@ -19,6 +20,14 @@ use Rattle.actions.proofs.Laws.{set-falls, falls-set}
 too-few : (l count : ℕ) → count < l → groupsOf l count ≡ 0
 too-few zero count h = refl
 too-few (suc l) count h = div-eq-of-lt h
+
+-- whole addresses alone: as many as the count has room for, and no more
+pub whole-addresses : (l count : ℕ) → 0 < l → (groupsOf l count * l ≤ count) × (count < groupsOf l count * l + l)
+whole-addresses zero count h = absurd (not-suc-le-zero h)
+whole-addresses (suc l) count h =
+    let e = div-add-mod' count (suc l) in
+    let r = mod-lt count (zero-lt-suc l) in
+    (omega (arith, e), omega (arith, e, r))
 
 module _ (base : RealAddress) (s : Setup) (block : Offset) (m : List ℕ) where
   abbrev pub grouped : Acted
@@ -54,6 +63,11 @@ module _ (base : RealAddress) (s : Setup) (block : Offset) (m : List ℕ) where
   pub only : (k : ℕ) → bit (grouped .setup .filter) k ≡ true → ListedOn k
   unfolding act
   only k e = set-falls lengthOf m (place base block destinationAt) (groups lengthOf base block m) k e
+
+  -- no address, an empty filter
+  pub emptied-by-none : groups lengthOf base block m ≡ 0 → grouped .setup .filter ≡ 0
+  unfolding act filtering
+  emptied-by-none z = rw z
 
   -- a count of 0, or of fewer bytes than an address has, empties the filter
   pub emptied : countOf base block m < lengthOf → grouped .setup .filter ≡ 0

@@ -12,7 +12,7 @@ use Rattle.chip.specs.Turn.{servedOf, turnOf}
 
 -- ---- which turn ends a run
 
--- it sent a frame, or reported an edge
+-- it sent a frame of at least one byte, or reported an edge
 abbrev pub tells : Answer → Bool
 tells a = not (eqb (a .length) 0) || a .edge
 

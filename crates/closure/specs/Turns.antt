@@ -16,7 +16,7 @@ abbrev pub lastAnswer : ℕ → Areas → (report : ℕ) → ℕ
 lastAnswer zero a report = 0
 lastAnswer (suc k) a report = turnCall (turnsOn k a report) report .answer
 
--- ---- a turn that ends a run, as the host sees it: it sent a frame, or reported an edge, or had no work, so that the record is as it was
+-- ---- a turn that ends a run, as the host sees it: it sent a frame of at least one byte, or reported an edge, or had no work, so that the record is as it was
 
 pub data Ends (a : Areas) (report : ℕ) : Type 0 where
   sent : (sentLength (turnCall a report .answer) ≡ 0 → ⊥) → Ends a report

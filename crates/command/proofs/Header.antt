@@ -2,7 +2,7 @@
 use mathlib.Core.Path.{_≡_, refl, sym, _∙_}
 use mathlib.Core.Bool.{Bool, true, false}
 use mathlib.Core.List.{List, [], _++_, append-assoc}
-use Prim.Native.Nat.{ℕ, _≤_}
+use Prim.Native.Nat.{ℕ, _+_, _≤_}
 use native.Mathlib.Omega.{arith}
 use lib.ListN.{length, take, drop, length-append}
 use lib.Seq.{length-take-le, take-at, drop-at, drop-drop}
@@ -41,7 +41,7 @@ module _ (base : RealAddress) (own : List ℕ) (block : Offset) (m : List ℕ) w
   nothing-placed f e = rw e
 
   -- with location 0 each part lies where the rule has it
-  module _ (f : Form) (e : f .location ≡ false) (h : f .length ≤ length own) where
+  module _ (f : Form) (e : f .location ≡ false) where
     abbrev l : ℕ
     l = f .length
 
@@ -49,10 +49,10 @@ module _ (base : RealAddress) (own : List ℕ) (block : Offset) (m : List ℕ) w
     placed = headerOf base f own block m
 
     abbrev destination : List ℕ
-    destination = bytesAt m (place base block destinationAt) l
+    destination = bytesAt m (place base block 8) l
 
     abbrev type : List ℕ
-    type = bytesAt m (place base block (typeAt l)) typeLength
+    type = bytesAt m (place base block (8 + l)) typeLength
 
     in-order : placed ≡ destination ++ (take l own ++ type)
     unfolding headerOf
@@ -66,12 +66,12 @@ module _ (base : RealAddress) (own : List ℕ) (block : Offset) (m : List ℕ) w
     behind-destination = rw in-order (drop-at destination (take l own ++ type) l (length-bytesAt m (place base block destinationAt) l))
 
     -- the own address's first bytes, up to the length
-    pub source-placed : take l (drop (sourceIn l) placed) ≡ take l own
-    source-placed = rw behind-destination (take-at (take l own) type l (length-take-le l own h))
+    pub source-placed : l ≤ length own → take l (drop (sourceIn l) placed) ≡ take l own
+    source-placed h = rw behind-destination (take-at (take l own) type l (length-take-le l own h))
 
     -- the block's type
-    pub type-placed : drop (typeIn l) placed ≡ type
-    type-placed = sym (drop-drop l l placed) ∙ rw behind-destination (drop-at (take l own) type l (length-take-le l own h))
+    pub type-placed : l ≤ length own → drop (typeIn l) placed ≡ type
+    type-placed h = sym (drop-drop l l placed) ∙ rw behind-destination (drop-at (take l own) type l (length-take-le l own h))
 
 -- with location 1 the begin of a Transmit leaves the outgoing area as it was
 pub outgoing-stays : (p : Part) (b : Begun) (word : ℕ) (m : List ℕ) → p .setup .settings .form .location ≡ true

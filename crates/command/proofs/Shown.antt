@@ -33,7 +33,7 @@ partBy form unit =
         own = replicate 6 0x66;
         filter = 0;
       };
-      outgoing = replicate 2048 0;
+      outgoing = replicate 2048 0x55;
     }
 
 abbrev part : Cu → Part
@@ -117,12 +117,12 @@ placed (cu.Sending b w) = 9
 placed (cu.Ending b n) = n
 placed (cu.Failing b) = 9
 
-pub packedByLength : T (eqb (fieldAt 8 (begunAs 2 false .part .outgoing) 0) 0x0000443366662211 && eqb (placed (begunAs 2 false .part .unit)) 6
-    && eqb (fieldAt 4 (begunAs 0 false .part .outgoing) 0) 0x00002211 && eqb (placed (begunAs 0 false .part .unit)) 2)
+pub packedByLength : T (eqb (fieldAt 8 (begunAs 2 false .part .outgoing) 0) 0x5555443366662211 && eqb (placed (begunAs 2 false .part .unit)) 6
+    && eqb (fieldAt 4 (begunAs 0 false .part .outgoing) 0) 0x55552211 && eqb (placed (begunAs 0 false .part .unit)) 2)
 unfolding byteAt putByte bytesAt putBytes value digits fieldAt place bitsAt actionOf begunBy headerOf begin service
 packedByLength = tt
 
-pub nothingPlaced : T (eqb (fieldAt 8 (begunAs 2 true .part .outgoing) 0) 0 && eqb (placed (begunAs 2 true .part .unit)) 0)
+pub nothingPlaced : T (eqb (fieldAt 8 (begunAs 2 true .part .outgoing) 0) 0x5555555555555555 && eqb (placed (begunAs 2 true .part .unit)) 0)
 unfolding byteAt putByte bytesAt putBytes value digits fieldAt place bitsAt actionOf begunBy headerOf begin service
 nothingPlaced = tt
 
@@ -151,7 +151,7 @@ unfolding byteAt putByte bytesAt putBytes value digits fieldAt place bitsAt begu
 longestFrame = tt
 
 -- a buffer that would pass 2,048 bytes: none of it copied
-pub noneOfItCopied : T (eqb (getD (sending 0 2046 0x8003 0 .part .outgoing) 2046 0) 0)
+pub noneOfItCopied : T (eqb (getD (sending 0 2046 0x8003 0 .part .outgoing) 2046 0) 0x55)
 unfolding byteAt putByte bytesAt putBytes value digits fieldAt place bitsAt begunBy descriptorAt buffer service
 noneOfItCopied = tt
 

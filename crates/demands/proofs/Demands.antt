@@ -23,7 +23,7 @@ use Rattle.hash.proofs.Faster.{faster-is-hash}
 use Rattle.hash.proofs.Shown as folded
 use Rattle.device.specs.Answers.{reasonOf}
 use Rattle.device.specs.Header.{destinationIn, sourceIn, typeIn, header, unbuffered}
-use Rattle.device.specs.Limits.{typeLength, recordSize}
+use Rattle.device.specs.Limits.{typeLength, recordSize, outgoingSize}
 use Rattle.device.specs.Numbers.{refusalNumber, reasonNumber}
 use Rattle.device.specs.State.{ruState, isHolding, heldIn, isGood, freshForm}
 use Rattle.device.specs.declared.Action.the-variants as action
@@ -39,26 +39,27 @@ use Rattle.device.specs.declared.Reason.{Reason}
 use Rattle.device.specs.declared.Reason.the-variants as reason
 use Rattle.device.specs.declared.Refusal.{Refusal}
 use Rattle.device.specs.declared.Ru.the-variants as ru
+use Rattle.device.specs.declared.Settings.{Settings}
 use Rattle.device.specs.declared.Storing.{Storing}
 use Rattle.device.specs.declared.Verdict.the-variants as verdict
+use Rattle.device.specs.declared.Walk.{Walk}
 use Rattle.device.proofs.Header as header-rule
 use Rattle.device.proofs.Laws as numbers
-use Rattle.filter.specs.Match.{allOnes, isOwn, isGroup}
+use Rattle.filter.specs.Match.{allOnes, isOwn, isGroup, matches}
 use Rattle.filter.proofs.Laws as match
-use Rattle.actions.specs.Actions.{acceptable, byteOf, formIn, countOf, act, done, failed}
-use Rattle.actions.specs.Block.{blockStatusAt, destinationAt, typeAt}
-use Rattle.actions.specs.Setup.{Setup}
+use Rattle.actions.specs.Actions.{acceptable, byteOf, countOf, groupsOf, groups, act, done, failed}
+use Rattle.actions.specs.Block.{blockStatusAt}
+use Rattle.actions.specs.Setup.{Setup, setupOf}
 use Rattle.actions.proofs.Configured as configured
-use Rattle.command.specs.Begin.{headerOf, toBegun}
-use Rattle.command.specs.Part.{Part, partOf}
+use Rattle.actions.proofs.Filtered as grouping
+use Rattle.command.specs.Part.{partOf}
 use Rattle.command.specs.Service.{service}
-use Rattle.command.proofs.Header as placing
 use Rattle.numerals.specs.Places.{field}
 use Rattle.packed.specs.Packed.{ruTagIn}
 use Rattle.packed.specs.Record.{ruAt, restAt, setupAt}
 use Rattle.packed.specs.SetUp.{filterSize, filterAt}
 use Rattle.image.specs.Image.{packedAt}
-use Rattle.image.specs.Ranges.{inRange}
+use Rattle.image.specs.Ranges.{inRange, Wide}
 use Rattle.control.specs.Obey.{ofScb}
 use Rattle.chip.specs.World.{World, Ran, afterwards}
 use Rattle.chip.specs.Arrival.{arrivalOf}
@@ -87,7 +88,9 @@ use Rattle.closure.proofs.Outside as outside
 use Rattle.closure.proofs.Turns as run-of-turns
 use Rattle.frames.specs.Arrival as arrival
 use Rattle.frames.specs.Reasons.{whyOf, Reached, IsOther, Told}
-use Rattle.frames.specs.Filtered.{EndsMcSetup, leftBy, FallsIn, SetUpBy, FilterAfter}
+use Rattle.frames.specs.Filtered.{EndsMcSetup, FallsIn, SetUpBy, FilterAfter}
+use Rattle.frames.specs.Setups.{leftBy, EndsAction, SetupAfter}
+use Rattle.frames.specs.Sent.{BeginsTransmit, HeaderPlaced, TakesBuffer, BufferTaken, EndsTransmit, TransmitEnded}
 use Rattle.frames.specs.Held.{inFrame, ends, heldFates, FatesOfHeld, GoodFate, BadFate}
 use Rattle.frames.specs.Fates.{Deed, alter, Scene, namesOf, opening, still, advance, beginnings, endings, times, timesFated, timesAltered, AllFates}
 use Rattle.frames.specs.Fates.{by-call, by-altering, isUnaltered, AllProper}
@@ -98,6 +101,8 @@ use Rattle.frames.proofs.Arrival as arrivals
 use Rattle.frames.proofs.Arrived as arrived
 use Rattle.frames.proofs.Reasons as reasons
 use Rattle.frames.proofs.Filtered as filtered
+use Rattle.frames.proofs.Setups as set-ups
+use Rattle.frames.proofs.Sent as sending
 use Rattle.frames.proofs.Parts as descriptor-parts
 use Rattle.frames.proofs.Held as holdings
 use Rattle.frames.proofs.Stands as exits
@@ -532,8 +537,9 @@ pub the-runs-do-these-deeds : (ds : List Drive) (a : Areas) (d : Device) → Hol
 the-runs-do-these-deeds = on-bytes.runs-said
 
 -- a run of turns: all areas, the record among them, are those of as many turns in a row as its answer says, and the rest of its answer is the last
--- turn's. So many is no more than the budget; no turn before the last sent a frame, reported an edge or had no work; and the last did, or the
--- budget is used up. So what is said of turns, here and below, is said of the turns inside a run, and no edge and no frame goes unreported
+-- turn's. So many is no more than the budget; no turn before the last sent a frame of at least one byte, reported an edge or had no work; and the last
+-- did, or the budget is used up. So what is said of turns, here and below, is said of the turns inside a run, and no edge and no frame that has a byte
+-- goes unreported
 pub a-run-is-so-many-turns : (a : Areas) (report budget : ℕ) → AreBytes a → isRefused (runCall a report budget) ≡ false
     → AsTurns a report budget (runCall a report budget)
 a-run-is-so-many-turns = run-of-turns.run-is-turns
@@ -567,42 +573,87 @@ no-part-is-in-the-data = header-rule.none-in-the-data
 pub the-whole-frame-goes-through-buffers : (f : Form) → f .location ≡ true → unbuffered f ≡ 0
 the-whole-frame-goes-through-buffers = header-rule.all-in-the-buffers
 
--- "Configure shall accept lengths 0 to 6 and address location 1 ... 7 and loopback still give 8000h": what it says is in force, own address and filter stay;
--- or nothing is changed
-pub a-configure-is-taken : (base : RealAddress) (s : Setup) (block : Offset) (m : List ℕ) → acceptable (byteOf base block m 3) ≡ true
-    → (act action.Configure base s block m .status ≡ done) × (act action.Configure base s block m .setup .settings .form ≡ formIn (byteOf base block m 3))
-    × (act action.Configure base s block m .setup .own ≡ s .own) × (act action.Configure base s block m .setup .filter ≡ s .filter)
-a-configure-is-taken = configured.taken
+-- "Configure shall accept lengths 0 to 6 and address location 1 ... 7 and loopback still give 8000h": which byte 3 is accepted, both ways
+pub what-a-configure-accepts : (byte : ℕ) → acceptable byte ≡ true → (bitsAt byte 0 3 ≤ 6) × (bit byte 6 ≡ false) × (bit byte 7 ≡ false)
+what-a-configure-accepts = configured.accepted
 
-pub a-configure-is-not-taken : (base : RealAddress) (s : Setup) (block : Offset) (m : List ℕ) → acceptable (byteOf base block m 3) ≡ false
-    → (act action.Configure base s block m .status ≡ failed) × (act action.Configure base s block m .setup ≡ s)
-a-configure-is-not-taken = configured.not-taken
+pub and-it-accepts-all-of-these : (byte : ℕ) → bitsAt byte 0 3 ≤ 6 → bit byte 6 ≡ false → bit byte 7 ≡ false → acceptable byte ≡ true
+and-it-accepts-all-of-these = configured.acceptable-is
 
--- a Transmit with location 0 places destination, own address and type where the rule has them: "of the own address the first bytes, up to the length, count";
--- with location 1 "the chip inserts no source address", and nothing is placed
-pub a-transmit-places-the-destination : (base : RealAddress) (own : List ℕ) (block : Offset) (m : List ℕ) (f : Form) → f .location ≡ false → f .length ≤ length own
-    → take (f .length) (headerOf base f own block m) ≡ bytesAt m (place base block destinationAt) (f .length)
-a-transmit-places-the-destination = placing.destination-placed
+-- the turn that ends one: what byte 3 says is in force, own address and filter stay, and the status is A000h; or the setup stays, and it is 8000h
+pub a-configure-is-taken : (w : World) (b : Begun) (report : ℕ) → EndsAction w b action.Configure
+    → let byte = byteOf (w .device .units .base) (b .block) (w .memory) 3 in
+    acceptable byte ≡ true
+    → (arrival.settingsOf (leftBy w report) .form ≡ record { length = bitsAt byte 0 3; location = bit byte 3 })
+    × (leftBy w report .device .own ≡ w .device .own) × (leftBy w report .device .filter ≡ w .device .filter)
+a-configure-is-taken = set-ups.configured-left
 
-pub a-transmit-places-the-own-address : (base : RealAddress) (own : List ℕ) (block : Offset) (m : List ℕ) (f : Form) → f .location ≡ false → f .length ≤ length own
-    → take (f .length) (drop (sourceIn (f .length)) (headerOf base f own block m)) ≡ take (f .length) own
-a-transmit-places-the-own-address = placing.source-placed
+pub and-its-status-is-done : (w : World) (b : Begun) (report : ℕ) → EndsAction w b action.Configure
+    → acceptable (byteOf (w .device .units .base) (b .block) (w .memory) 3) ≡ true
+    → service (partOf (w .device) (w .outgoing)) (w .memory) report .writes ≡ wordTo (place (w .device .units .base) (b .block) blockStatusAt) done ∷ []
+and-its-status-is-done = set-ups.configured-status
 
-pub a-transmit-places-the-type : (base : RealAddress) (own : List ℕ) (block : Offset) (m : List ℕ) (f : Form) → f .location ≡ false → f .length ≤ length own
-    → drop (typeIn (f .length)) (headerOf base f own block m) ≡ bytesAt m (place base block (typeAt (f .length))) typeLength
-a-transmit-places-the-type = placing.type-placed
+pub a-configure-is-not-taken : (w : World) (b : Begun) (report : ℕ) → EndsAction w b action.Configure
+    → acceptable (byteOf (w .device .units .base) (b .block) (w .memory) 3) ≡ false → setupOf (leftBy w report .device) ≡ setupOf (w .device)
+a-configure-is-not-taken = set-ups.unconfigured-left
 
-pub a-transmit-places-no-more : (base : RealAddress) (own : List ℕ) (block : Offset) (m : List ℕ) (f : Form) → f .length ≤ length own
-    → length (headerOf base f own block m) ≡ unbuffered f
-a-transmit-places-no-more = placing.placed-length
+pub and-its-status-is-failed : (w : World) (b : Begun) (report : ℕ) → EndsAction w b action.Configure
+    → acceptable (byteOf (w .device .units .base) (b .block) (w .memory) 3) ≡ false
+    → service (partOf (w .device) (w .outgoing)) (w .memory) report .writes ≡ wordTo (place (w .device .units .base) (b .block) blockStatusAt) failed ∷ []
+and-its-status-is-failed = set-ups.unconfigured-status
 
-pub a-transmit-places-nothing-with-location-1 : (base : RealAddress) (own : List ℕ) (block : Offset) (m : List ℕ) (f : Form) → f .location ≡ true
-    → headerOf base f own block m ≡ []
-a-transmit-places-nothing-with-location-1 = placing.nothing-placed
+-- and no other call changes length, location or own address but a reset, of either kind, and the turn that ends such a command: what is changed then is `act`'s
+pub the-setup-after-a-call : (c : Call) (w : World) → SetupAfter w c
+the-setup-after-a-call = set-ups.setup-after
 
-pub so-the-outgoing-area-stays-at-its-begin : (p : Part) (b : Begun) (word : ℕ) (m : List ℕ) → p .setup .settings .form .location ≡ true
-    → toBegun true p b word m .outgoing ≡ p .outgoing
-so-the-outgoing-area-stays-at-its-begin = placing.outgoing-stays
+-- "of the own address the first bytes, up to the length, count", and "a broadcast is as many FFh": both ways
+pub the-own-address-is : (l : ℕ) (own f : List ℕ) → l ≤ length own → l ≤ length f → isOwn l own f ≡ true → take l f ≡ take l own
+the-own-address-is = match.own-means
+
+pub and-what-has-it-is-taken : (l : ℕ) (own f : List ℕ) → l ≤ length own → l ≤ length f → take l f ≡ take l own → isOwn l own f ≡ true
+and-what-has-it-is-taken = match.own-if
+
+pub a-broadcast-is : (l : ℕ) (f : List ℕ) → l ≤ length f → allOnes l f ≡ true → take l f ≡ replicate l 0xFF
+a-broadcast-is = match.ones-means
+
+pub and-what-has-so-many-is-one : (l : ℕ) (f : List ℕ) → l ≤ length f → take l f ≡ replicate l 0xFF → allOnes l f ≡ true
+and-what-has-so-many-is-one = match.ones-if
+
+-- and the header is compared with location 1 as with location 0
+pub addresses-are-compared-by-either-location : (s : Settings) (location : Bool) (own : List ℕ) (filter : ℕ) (f : List ℕ)
+    → matches (match.located s location) own filter f ≡ matches s own filter f
+addresses-are-compared-by-either-location = match.alike-by-location
+
+-- at length 0 "only promiscuous mode receives"
+pub at-length-0-promiscuous-mode-alone : (w : World) (f : List ℕ) → arrival.lengthIn w ≡ 0 → arrival.isOurs w f ≡ arrival.settingsOf w .promiscuous
+at-length-0-promiscuous-mode-alone w f = match.by-no-address (arrival.settingsOf w) (w .device .own) (w .device .filter) f
+
+-- an MC-Setup takes addresses of the length in force: as many whole ones as its count has room for; without one the filter is empty
+pub as-many-whole-addresses-as-fit : (l count : ℕ) → 0 < l → (groupsOf l count * l ≤ count) × (count < groupsOf l count * l + l)
+as-many-whole-addresses-as-fit = grouping.whole-addresses
+
+pub no-address-no-filter : (base : RealAddress) (s : Setup) (block : Offset) (m : List ℕ) → groups (s .settings .form .length) base block m ≡ 0
+    → act action.McSetup base s block m .setup .filter ≡ 0
+no-address-no-filter = grouping.emptied-by-none
+
+-- the turn that begins a Transmit with location 0 places destination, own address and type where the rule has them, and leaves what is behind them; with
+-- location 1 "the chip inserts no source address", and the outgoing area stays
+pub a-transmit-places-its-header : (w : World) (o : Offset) (report : ℕ) → BeginsTransmit w o → inRange (w .device) ≡ true → Wide (w .device)
+    → length (w .outgoing) ≡ outgoingSize → arrival.settingsOf w .form .location ≡ false → HeaderPlaced w o (ran (turn report) w .outgoing)
+a-transmit-places-its-header = sending.header-placed
+
+pub a-transmit-places-nothing-with-location-1 : (w : World) (o : Offset) (report : ℕ) → BeginsTransmit w o
+    → arrival.settingsOf w .form .location ≡ true → ran (turn report) w .outgoing ≡ w .outgoing
+a-transmit-places-nothing-with-location-1 = sending.nothing-with-location-1
+
+-- each buffer's bytes go behind what is there so far, from byte 0 on with location 1
+pub a-buffer-goes-behind : (w : World) (b : Begun) (k : Walk) (report : ℕ) → TakesBuffer w b k → length (w .outgoing) ≡ outgoingSize
+    → BufferTaken w k (ran (turn report) w .outgoing)
+a-buffer-goes-behind = sending.buffer-taken
+
+-- and the end tells the length, 0 of a frame of no bytes too, which shows in its status alone
+pub a-transmit-ends : (w : World) (b : Begun) (n report : ℕ) → EndsTransmit w b n → TransmitEnded w b n report
+a-transmit-ends = sending.transmit-ended
 
 -- "Block and descriptor fields are packed": of a frame that is stored, k bytes behind the first i of what went to no buffer stand as many behind +8 of the
 -- descriptor: the destination with i = 0, the source with `sourceIn`, the type with `typeIn`
@@ -627,10 +678,6 @@ pub with-location-1-the-descriptor-stays-out-of-buffers : (c : Call) (w : World)
     → s .frame .form .location ≡ true
     → bytesAt (ran c w .memory) (inFrame w s 8) 14 ≡ bytesAt (w .memory) (inFrame w s 8) 14
 with-location-1-the-descriptor-stays-out-of-buffers = clear.lacking-stays
-
--- at length 0 "only promiscuous mode receives"
-pub at-length-0-promiscuous-mode-alone : (w : World) (f : List ℕ) → arrival.lengthIn w ≡ 0 → arrival.isOurs w f ≡ arrival.settingsOf w .promiscuous
-at-length-0-promiscuous-mode-alone w f = match.by-no-address (arrival.settingsOf w) (w .device .own) (w .device .filter) f
 
 -- ---- demand 3, first half
 
@@ -892,7 +939,7 @@ a-frame-counted-at-exit = data-run.too-few-exits
 pub held-across-a-configure : form-run.Stored freshForm 0x0A form-run.short (take 14 form-run.twenty) (drop 14 form-run.twenty ++ replicate 14 0)
 held-across-a-configure = form-run.as-six
 
-pub held-across-a-configure-with-location-1 : form-run.Stored form-run.short 0x06 freshForm (replicate 14 0) form-run.twenty
+pub held-across-a-configure-with-location-1 : form-run.Stored form-run.short 0x06 freshForm form-run.marks form-run.twenty
 held-across-a-configure-with-location-1 = form-run.as-two
 
 -- six calls, one of them refused: of two held frames one ends by a record that is lent otherwise, and one is stored

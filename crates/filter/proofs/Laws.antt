@@ -1,14 +1,16 @@
 -- What a filter's bits are once one of them is set, how large a filter is, and what passes. No contract cites this file. Assumes nothing.
-use mathlib.Core.Path.{_≡_, refl, ap, _∙_}
-use mathlib.Core.Bool.{Bool, true, false, not, _&&_, _||_, true≢false}
-use mathlib.Core.List.{List}
-use Prim.Native.Nat.{ℕ, zero, suc, _+_, _/_, _%_, _<_, _^_, max}
+use mathlib.Core.Path.{_≡_, refl, sym, ap, ap₂, _∙_}
+use mathlib.Core.Bool.{Bool, true, false, not, _&&_, _||_, true≢false, and-eq-true-iff}
+use mathlib.Core.List.{List, [], _∷_, _++_}
+use Prim.Native.Nat.{ℕ, zero, suc, _+_, _/_, _%_, _≤_, _<_, _^_, max}
 use native.Mathlib.Nat.{not-suc-le-zero, le-of-suc-le-suc, mod-lt, pow-suc, mul-div-cancel, mul-mod-left, zero-div, div-one, zero-lt-suc}
 use native.Mathlib.Omega.{arith}
 use lib.Arith.{digits-mod}
 use lib.Bits.{bitOr, or-lt, or-step, or-shr}
+use lib.ListN.{length, getD, take, replicate, length-replicate}
 use lib.Pow.{pow-lt, shr-shr}
-use borrow.Author.Tests.{lt-ltb}
+use lib.Seq.{take-suc, take-take, take-all, getD-take}
+use borrow.Author.Tests.{eqb-true, eq-eqb, lt-ltb}
 use lib.Dec.{eqb, ltb, eqb·zero-suc, eqb·suc-zero, eqb·suc-suc}
 use Rattle.scb.specs.Words.{bitsAt, bit}
 use Rattle.device.specs.Limits.{filterBits}
@@ -61,6 +63,60 @@ with-bit filter k i = rw (or-shr filter (2 ^ k) i, or-digit (filter / 2 ^ i) (2 
 pub none-set : (i : ℕ) → bit 0 i ≡ false
 unfolding bitsAt
 none-set i = rw (zero-div (2 ^ i))
+
+-- ---- what is compared
+
+-- so many bytes agree exactly if they are the same
+agree-same : (a f : List ℕ) (k : ℕ) → k ≤ length a → k ≤ length f → agree a 0 f k ≡ true → take k f ≡ take k a
+unfolding agree
+agree-same a f zero p q e = refl
+agree-same a f (suc k) p q e =
+    let x = and-eq-true-iff (agree a 0 f k) (eqb (getD a (0 + k) 0) (getD f k 0)) .0 e in
+    let z : 0 + k ≡ k = omega arith in
+    let same : getD a k 0 ≡ getD f k 0 = rw z at (eqb-true (getD a (0 + k) 0) (getD f k 0) (x .1)) in
+    let before = agree-same a f k (omega arith) (omega arith) (x .0) in
+    take-suc f k 0 (omega arith) ∙ ap₂ (λ (l : List ℕ) (b : ℕ). l ++ (b ∷ [])) before (sym same) ∙ sym (take-suc a k 0 (omega arith))
+
+same-agree : (a f : List ℕ) (k : ℕ) → k ≤ length a → k ≤ length f → take k f ≡ take k a → agree a 0 f k ≡ true
+unfolding agree
+same-agree a f zero p q e = refl
+same-agree a f (suc k) p q e =
+    let z : 0 + k ≡ k = omega arith in
+    let same : getD a k 0 ≡ getD f k 0 = sym (getD-take (suc k) a k 0 (omega arith)) ∙ ap (λ (l : List ℕ). getD l k 0) (sym e) ∙ getD-take (suc k) f k 0 (omega arith) in
+    let before : take k f ≡ take k a = sym (take-take k (suc k) f (omega arith)) ∙ ap (take k) e ∙ take-take k (suc k) a (omega arith) in
+    rw (same-agree a f k (omega arith) (omega arith) before, z, eq-eqb (getD a k 0) (getD f k 0) same)
+
+-- the own address: its first l bytes; all FFh: so many bytes FFh; each both ways
+pub own-means : (l : ℕ) (own f : List ℕ) → l ≤ length own → l ≤ length f → isOwn l own f ≡ true → take l f ≡ take l own
+own-means l own f p q e = agree-same own f l p q e
+
+pub own-if : (l : ℕ) (own f : List ℕ) → l ≤ length own → l ≤ length f → take l f ≡ take l own → isOwn l own f ≡ true
+own-if l own f p q e = same-agree own f l p q e
+
+pub ones-means : (l : ℕ) (f : List ℕ) → l ≤ length f → allOnes l f ≡ true → take l f ≡ replicate l 255
+ones-means l f q e =
+    let n = length-replicate {A = ℕ} l 255 in
+    agree-same (replicate l 255) f l (omega (arith, n)) q e ∙ take-all l (replicate l 255) (omega (arith, n))
+
+pub ones-if : (l : ℕ) (f : List ℕ) → l ≤ length f → take l f ≡ replicate l 255 → allOnes l f ≡ true
+ones-if l f q e =
+    let n = length-replicate {A = ℕ} l 255 in
+    same-agree (replicate l 255) f l (omega (arith, n)) q (e ∙ sym (take-all l (replicate l 255) (omega (arith, n))))
+
+-- 02, Wish 4: the header is compared with location 1 as with location 0
+abbrev pub located : Settings → Bool → Settings
+located s location =
+    record {
+      savebad = s .savebad;
+      promiscuous = s .promiscuous;
+      nobroadcast = s .nobroadcast;
+      minimum = s .minimum;
+      form = record { length = s .form .length; location = location };
+    }
+
+pub alike-by-location : (s : Settings) (location : Bool) (own : List ℕ) (filter : ℕ) (f : List ℕ) → matches (located s location) own filter f ≡ matches s own filter f
+unfolding matches
+alike-by-location s location own filter f = refl
 
 -- ---- what passes
 

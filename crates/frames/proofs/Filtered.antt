@@ -1,7 +1,7 @@
 -- "Addressed to us": what an MC-Setup makes of the filter, that no other call but a reset changes it, and which frames pass: 02, Wish 1. Assumes
 -- nothing.
 use mathlib.Core.Path.{_≡_, refl, sym, ap, _∙_}
-use mathlib.Core.Bool.{Bool, true, false, and-eq-true-iff}
+use mathlib.Core.Bool.{Bool, true, false, _&&_, and-eq-true-iff, true≢false}
 use mathlib.Core.List.{List, [], _∷_}
 use Prim.Native.Nat.{ℕ, _+_, _<_}
 use lib.Dec.{eqb}
@@ -35,8 +35,8 @@ use Rattle.chip.specs.Arrival.{arrivalOf}
 use Rattle.chip.specs.Attention.{attentionOf}
 use Rattle.chip.specs.Call as calls
 use Rattle.chip.specs.Call.{Call, ran}
-use Rattle.chip.specs.Turn.{servedOf, concluded, commandTurn, receiveTurn, turnOf}
-use Rattle.chip.specs.World.{World, resetOf}
+use Rattle.chip.specs.Turn.{servedOf, isCommand}
+use Rattle.chip.specs.World.{World}
 use Rattle.chip.specs.declared.Served.{Served}
 use Rattle.chip.specs.declared.Served.the-variants as served
 use Rattle.numerals.specs.Places.{field}
@@ -49,8 +49,10 @@ use Rattle.traces.specs.Bytes.{called, isRefused}
 use Rattle.traces.specs.Areas.{FrameBytes, AreBytes, Holds, worldIn}
 use Rattle.closure.proofs.Carried.{holds-back, holds-length, carry}
 use Rattle.frames.specs.Arrival.{lengthIn, settingsOf, isOurs}
-use Rattle.frames.specs.Filtered.{EndsMcSetup, leftBy, FallsIn, SetUpBy, FilterAfter, kept, by-reset, by-resetting, by-mc-setup}
-use Rattle.frames.specs.Held.{commandOf}
+use Rattle.frames.specs.Filtered.{EndsMcSetup, FallsIn, SetUpBy, actsMcSetup, renewsFilter, FilterAfter, kept, by-reset, by-resetting, by-mc-setup}
+use Rattle.frames.specs.Setups.{leftBy, acts, setsUp, EndsAction, SetupAfter}
+use Rattle.frames.specs.Setups as setups
+use Rattle.frames.proofs.Setups.{left-by-action, setup-after}
 
 -- ---- a turn that ends an MC-Setup
 
@@ -64,8 +66,7 @@ module _ (w : World) (b : Begun) (report : ℕ) (e : EndsMcSetup w b) where
 
   -- the setup that it leaves is the action's
   setup-left : setupOf (left .device) ≡ act action.McSetup (w .device .units .base) (setupOf (w .device)) (b .block) (w .memory) .setup
-  unfolding turnOf commandTurn concluded service end
-  setup-left = rw (e .served, e .begun)
+  setup-left = left-by-action w b action.McSetup report e
 
   filter-left : left .device .filter ≡ act action.McSetup (w .device .units .base) (setupOf (w .device)) (b .block) (w .memory) .setup .filter
   filter-left = ap (λ (s : Setup). s .filter) setup-left
@@ -113,58 +114,47 @@ module _ (w : World) (b : Begun) (report : ℕ) (e : EndsMcSetup w b) where
 
 -- ---- every call
 
-begun-keeps : (transmits : Bool) (p : Part) (b : Begun) (word : ℕ) (m : List ℕ) → toBegun transmits p b word m .setup ≡ p .setup
-begun-keeps true p b word m = refl
-begun-keeps false p b word m = refl
+-- a call that sets nothing up makes no filter either
+none-acts : (c : Cu) (b : Bool) → (b && acts c) ≡ false → (b && actsMcSetup c) ≡ false
+none-acts cu.Idle b e = e
+none-acts (cu.Suspended o) b e = e
+none-acts (cu.Waiting o) b e = e
+none-acts (cu.Acting x a) true e = absurd (true≢false e)
+none-acts (cu.Acting x a) false e = refl
+none-acts (cu.Sending x k) b e = e
+none-acts (cu.Ending x n) b e = e
+none-acts (cu.Failing x) b e = e
 
-module _ (w : World) (report : ℕ) (p : servedOf (w .device .units) ≡ served.CommandUnit) where
-  acting-keeps : (b : Begun) (a : Action) → isMcSetup a ≡ false → w .device .units .cu ≡ cu.Acting b a → FilterAfter w (calls.turn report)
-  unfolding turnOf commandTurn concluded service end
-  acting-keeps b a n q =
-      kept (calls.turn report) (rw (p, q) n)
-      (rw (p, q) (filtered.filter-stays a (w .device .units .base) (setupOf (w .device)) (b .block) (w .memory) n))
+none-renewed : (c : Call) (w : World) → setsUp c w ≡ false → renewsFilter c w ≡ false
+none-renewed calls.reset w e = e
+none-renewed calls.attention w e = e
+none-renewed (calls.arrive f v) w e = e
+none-renewed (calls.turn report) w e = none-acts (w .device .units .cu) (isCommand (servedOf (w .device .units))) e
 
-  acting-after : (b : Begun) (a : Action) → w .device .units .cu ≡ cu.Acting b a → FilterAfter w (calls.turn report)
-  acting-after b action.Nop q = acting-keeps b action.Nop refl q
-  acting-after b action.IaSetup q = acting-keeps b action.IaSetup refl q
-  acting-after b action.Configure q = acting-keeps b action.Configure refl q
-  acting-after b action.McSetup q = let e : EndsMcSetup w b = record { served = p; begun = q } in by-mc-setup report b e (set-up w b report e)
-  acting-after b action.Tdr q = acting-keeps b action.Tdr refl q
-  acting-after b action.Dump q = acting-keeps b action.Dump refl q
-  acting-after b action.Diagnose q = acting-keeps b action.Diagnose refl q
+module _ (w : World) (report : ℕ) (b : Begun) where
+  other-after : (a : Action) → isMcSetup a ≡ false → EndsAction w b a → FilterAfter w (calls.turn report)
+  other-after a n e =
+      kept (calls.turn report) (rw (e .served, e .begun) n)
+      (ap (λ (s : Setup). s .filter) (left-by-action w b a report e)
+      ∙ filtered.filter-stays a (w .device .units .base) (setupOf (w .device)) (b .block) (w .memory) n)
 
-  command-after : (c : Cu) → w .device .units .cu ≡ c → FilterAfter w (calls.turn report)
-  unfolding turnOf commandTurn concluded service begin buffer end sent
-  command-after cu.Idle q = kept (calls.turn report) (rw (p, q)) (rw (p, q))
-  command-after (cu.Suspended o) q = kept (calls.turn report) (rw (p, q)) (rw (p, q))
-  command-after (cu.Waiting o) q =
-      let word = wordAt (w .memory) (place (w .device .units .base) o blockCommandAt) in
-      let part = withUnit (partOf (w .device) (w .outgoing)) (cu.Waiting o) in
-      kept (calls.turn report) (rw (p, q))
-      (rw (p, q) (ap (λ (s : Setup). s .filter) (begun-keeps (eqb (cmd word) transmit) part (begunBy o word) word (w .memory))))
-  command-after (cu.Acting b a) q = acting-after b a q
-  command-after (cu.Sending b k) q = kept (calls.turn report) (rw (p, q)) (rw (p, q))
-  command-after (cu.Ending b n) q = kept (calls.turn report) (rw (p, q)) (rw (p, q))
-  command-after (cu.Failing b) q = kept (calls.turn report) (rw (p, q)) (rw (p, q))
+  action-after : (a : Action) → EndsAction w b a → FilterAfter w (calls.turn report)
+  action-after action.Nop e = other-after action.Nop refl e
+  action-after action.IaSetup e = other-after action.IaSetup refl e
+  action-after action.Configure e = other-after action.Configure refl e
+  action-after action.McSetup e = by-mc-setup report b e (set-up w b report e)
+  action-after action.Tdr e = other-after action.Tdr refl e
+  action-after action.Dump e = other-after action.Dump refl e
+  action-after action.Diagnose e = other-after action.Diagnose refl e
 
-turn-after : (w : World) (report : ℕ) (s : Served) → servedOf (w .device .units) ≡ s → FilterAfter w (calls.turn report)
-unfolding turnOf receiveTurn concluded
-turn-after w report served.Neither p = kept (calls.turn report) (rw p) (rw p)
-turn-after w report served.CommandUnit p = command-after w report p (w .device .units .cu) refl
-turn-after w report served.ReceiveUnit p = kept (calls.turn report) (rw p) (rw p)
-
-attention-after : (w : World) (i r : Bool) → w .device .units .initialised ≡ i → resets (commandOf w) ≡ r → FilterAfter w calls.attention
-unfolding attentionOf attention attend attendBy initialise
-attention-after w false r p q = kept calls.attention (rw p) (rw p)
-attention-after w true true p q = by-resetting (rw (p, q)) (rw (p, q))
-attention-after w true false p q = kept calls.attention (rw (p, q)) (rw (p, q))
+filter-by : {c : Call} (w : World) → SetupAfter w c → FilterAfter w c
+filter-by w (setups.kept c n e) = kept c (none-renewed c w n) (ap (λ (s : Setup). s .filter) e)
+filter-by w (setups.by-reset e) = by-reset e
+filter-by w (setups.by-resetting n e) = by-resetting n e
+filter-by w (setups.by-action report b a e x) = action-after w report b a e
 
 pub filter-after : (c : Call) (w : World) → FilterAfter w c
-unfolding resetOf arrivalOf
-filter-after calls.reset w = by-reset refl
-filter-after calls.attention w = attention-after w (w .device .units .initialised) (resets (commandOf w)) refl refl
-filter-after (calls.arrive f v) w = kept (calls.arrive f v) refl refl
-filter-after (calls.turn report) w = turn-after w report (servedOf (w .device .units)) refl
+filter-after c w = filter-by w (setup-after c w)
 
 -- ---- on bytes
 

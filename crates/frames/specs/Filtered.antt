@@ -13,22 +13,17 @@ use Rattle.actions.specs.Actions.{groups}
 use Rattle.actions.specs.Block.{destinationAt}
 use Rattle.actions.specs.Filtered.{Falls, isMcSetup}
 use Rattle.chip.specs.Call.{Call, reset, attention, arrive, turn, ran}
-use Rattle.chip.specs.Turn.{servedOf, isCommand, turnOf}
-use Rattle.chip.specs.World.{World, afterwards}
-use Rattle.chip.specs.declared.Served.the-variants as served
+use Rattle.chip.specs.Turn.{servedOf, isCommand}
+use Rattle.chip.specs.World.{World}
 use Rattle.frames.specs.Arrival.{settingsOf, lengthIn}
 use Rattle.frames.specs.Held.{commandOf}
+use Rattle.frames.specs.Setups.{leftBy, EndsAction}
 
 -- ---- a turn that ends an MC-Setup
 
 -- the command unit is served, and an MC-Setup is begun
-pub record EndsMcSetup (w : World) (b : Begun) : Type 0 where
-  pub served : servedOf (w .device .units) ≡ served.CommandUnit
-  pub begun : w .device .units .cu ≡ cu.Acting b action.McSetup
-
--- what the turn leaves
-abbrev pub leftBy : World → ℕ → World
-leftBy w report = afterwards (turnOf w report)
+abbrev pub EndsMcSetup : World → Begun → Type 0
+EndsMcSetup w b = EndsAction w b action.McSetup
 
 -- one of the addresses in its block, of the length in force, falls on bit k
 abbrev pub FallsIn : World → Begun → ℕ → Type 0

@@ -94,7 +94,8 @@ pub extern "C" fn lq_turn(
     )
 }
 
-// Turns in a row, until `budget` are taken or one has sent a frame, reported an edge or found no work. The record is read and written once.
+// Turns in a row, until `budget` are taken or one has sent a frame of at least one byte, reported an edge or found no work. The record is read and
+// written once.
 #[no_mangle]
 pub extern "C" fn lq_run(
     memory: &mut [u8],

@@ -4,7 +4,7 @@ use Prim.Native.Nat.{ℕ, _+_, _*_, _-_, _/_, _%_, _≤_, _^_}
 use lib.Dec.{leb, ltb}
 use Rattle.scb.specs.Words.{one}
 use Rattle.device.specs.Limits.{longestAddress}
-use Rattle.device.specs.Numbers.{verdictNumber, verdictOf}
+use Rattle.device.specs.Numbers.{verdictNumber}
 use Rattle.device.specs.declared.Form.{Form}
 use Rattle.device.specs.declared.Verdict.{Verdict}
 use Rattle.phases.specs.Fields.{flagAt}

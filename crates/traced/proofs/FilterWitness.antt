@@ -28,7 +28,8 @@ use Rattle.chip.specs.Arrival as arrivals
 use Rattle.chip.specs.Turn.{concluded, commandTurn, turnOf}
 use Rattle.chip.specs.World.{World, worldOf}
 use Rattle.frames.specs.Arrival.{isOurs}
-use Rattle.frames.specs.Filtered.{EndsMcSetup, leftBy, FallsIn}
+use Rattle.frames.specs.Filtered.{EndsMcSetup, FallsIn}
+use Rattle.frames.specs.Setups.{leftBy}
 use Rattle.traced.proofs.DataWitness.{ready, upward}
 use Rattle.frames.proofs.Filtered.{passes}
 

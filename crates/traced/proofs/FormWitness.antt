@@ -1,14 +1,14 @@
 -- 02, Wish 4: "A held frame is stored by the length and location it arrived under, whatever Configure has said since": a frame of 20 bytes arrives under one
 -- form, a Configure that is begun sets another before the first buffer is filled, and what the descriptor and the buffer get is computed; both ways. What
 -- is asked for the statement on its data is met too. Assumes nothing.
-use mathlib.Core.Path.{_≡_, refl, ap, _∙_}
+use mathlib.Core.Path.{_≡_, refl}
 use mathlib.Core.Bool.{true, false}
 use mathlib.Core.List.{List, [], _∷_, _++_}
 use Prim.Native.Nat.{ℕ}
 use native.Mathlib.Omega.{arith}
 use lib.ListN.{replicate, take, drop, length-replicate}
 use Rattle.memory.specs.Address.{place, beyond}
-use Rattle.memory.specs.Memory.{byteAt, putByte, bytesAt, putBytes, value, digits, fieldAt, Write, wordTo, apply}
+use Rattle.memory.specs.Memory.{byteAt, putByte, bytesAt, putBytes, value, digits, fieldAt, Write, bytesTo, wordTo, apply}
 use Rattle.scb.specs.Words.{noEvents, bitsAt, joined, anyOf, eventBits, statusWord}
 use Rattle.device.specs.Answers.{counts}
 use Rattle.device.specs.Limits.{holdingSize, outgoingSize}
@@ -72,9 +72,13 @@ under form =
       filter = fresh .filter;
     }
 
+-- what stands in the descriptor from +8 on
+abbrev pub marks : List ℕ
+marks = replicate 14 0x77
+
 -- a buffer of 20 bytes at 100h; the Configure has four bytes, and its byte 3 is at 209h
 abbrev words : (third : ℕ) → List Write
-words third = wordTo 0x66 0x80 ∷ wordTo 0x82 0xFFFF ∷ wordTo 0x84 0x100 ∷ wordTo 0x88 20 ∷ wordTo 0x206 4 ∷ wordTo 0x209 third ∷ []
+words third = bytesTo 0x68 marks ∷ wordTo 0x66 0x80 ∷ wordTo 0x82 0xFFFF ∷ wordTo 0x84 0x100 ∷ wordTo 0x88 20 ∷ wordTo 0x206 4 ∷ wordTo 0x209 third ∷ []
 
 abbrev pub before : Form → (third : ℕ) → World
 before form third = worldOf (under form) (apply (words third) (replicate 8192 0)) (replicate holdingSize 0) (replicate outgoingSize 0)
@@ -118,8 +122,8 @@ as-six =
       buffer = refl;
     }
 
--- under two bytes and location 1, and a Configure to six and 0: all of it is in the buffer, and nothing in the descriptor
-pub as-two : Stored short 0x06 freshForm (replicate 14 0) twenty
+-- under two bytes and location 1, and a Configure to six and 0: all of it is in the buffer, and the descriptor has its marks still
+pub as-two : Stored short 0x06 freshForm marks twenty
 unfolding byteAt putByte bytesAt putBytes value digits fieldAt place beyond bitsAt joined anyOf eventBits statusWord counts verdictOf agree matches lengthOf judged fateOf arrival receive-begin.begunBy receive-begin.begin receive-buffer.descriptorAt receive-buffer.buffer frameStatus settles close receive-service.service settingsBy act nextAfter end command-service.service statusTo arrivals.arrival arrivals.arrivalOf concluded commandTurn receiveTurn turnOf inRange unitsFit cuFits ruFits initialisedOrFresh
 as-two =
     record {

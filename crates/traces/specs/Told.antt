@@ -16,7 +16,7 @@ use Rattle.traces.specs.Driven.{Lending, refusedAt, hostOf, eventsBy, Dr
 
 -- ---- the frames that were sent
 
--- the first bytes of the outgoing area, as many as the length says; 0: none was sent
+-- the first bytes of the outgoing area, as many as the length says; 0: none was sent, or one of no bytes
 abbrev pub frameOf : (length : ℕ) → (outgoing : List ℕ) → List (List ℕ)
 frameOf zero out = []
 frameOf (suc n) out = take (suc n) out ∷ []
