@@ -192,7 +192,7 @@ pub fn arrival(
         r (now (memory .exit)) (now (holding .exit)) ⌝ }
 {
     let f = setup::form(setup);
-    if (frame.len() as u64) < form::header(f) {
+    if !form::has_header(f, frame.len() as u64) {
         return Arrived {
             packed: k,
             reason: Reason::TooFew,

@@ -123,14 +123,14 @@ fn put_header(
     requires { ⌜ (length (now setup) ≡ setupSize) × (l ≤ longestAddress) ⌝ }
     ensures { λ _. ⌜ ((s : Setup) → SetIs s (now (setup .entry)) → now (outgoing .exit) ≡ sets (now (outgoing .entry)) 0 (begins.headerBy false l base (s .own) block (now (memory .entry)))) ⌝ }
 {
-    copies::copy_out(
+    copies::few_out(
         memory,
         memory::place(base, block, DESTINATION),
         l,
         outgoing,
         0,
     );
-    memory::put_run(outgoing, l, &setup[setup::OWN..setup::OWN + l]);
+    copies::put_few(outgoing, l, &setup[setup::OWN..setup::OWN + l]);
     copies::copy_out(
         memory,
         memory::place(base, block, DESTINATION + l as u16),

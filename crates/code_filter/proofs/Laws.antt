@@ -54,7 +54,7 @@ module _ (a : List ℕ) (i : ℕ) (f : List ℕ) where
       rw e (differs-longer (l - suc k) (suc k) (differs-here k other))
 
 -- an address whose bytes are all the same
-each-of : (l v k : ℕ) → k < l → getD (replicate l v) k 0 ≡ v
+pub each-of : (l v k : ℕ) → k < l → getD (replicate l v) k 0 ≡ v
 each-of zero v k h = absurd (not-suc-le-zero h)
 each-of (suc l) v zero h = refl
 each-of (suc l) v (suc k) h = each-of l v k (le-of-suc-le-suc h)

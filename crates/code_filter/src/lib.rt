@@ -13,11 +13,23 @@ ghost use Rattle.packed.specs.SetUp.{ownAt, setupSize, SetIs};
 // The broadcast address is all FFh.
 const ONES: u8 = 0xFF;
 
-// Whether the destination of a frame, l bytes, is all FFh. Most frames are told by its first byte.
+// So many bytes of an address are compared at once: its first and its last, which lie over each other where it has fewer than both. A shorter
+// address goes byte by byte.
+const AT_ONCE: usize = 4;
+
+const ONES_AT_ONCE: u64 = 0xFFFFFFFF;
+
+// Whether the destination of a frame, l bytes, is all FFh.
 fn is_broadcast(l: usize, frame: &[u8]) -> bool
-    requires { ⌜ l ≤ length (now frame) ⌝ }
+    requires { ⌜ (l ≤ longestAddress) × (l ≤ length (now frame)) ⌝ }
     ensures { λ r. ⌜ r ≡ match.allOnes l (now (frame .entry)) ⌝ }
 {
+    if AT_ONCE <= l {
+        if numerals::read32(frame, 0) == ONES_AT_ONCE {
+            return numerals::read32(frame, l - AT_ONCE) == ONES_AT_ONCE;
+        }
+        return false;
+    }
     let mut i: usize = 0;
     while i < l {
         if frame[i] != ONES {
@@ -33,6 +45,13 @@ fn is_own(setup: &[u8], l: usize, frame: &[u8]) -> bool
     requires { ⌜ (length (now setup) ≡ setupSize) × (l ≤ longestAddress) × (l ≤ length (now frame)) ⌝ }
     ensures { λ r. ⌜ r ≡ match.agree (now (setup .entry)) ownAt (now (frame .entry)) l ⌝ }
 {
+    if AT_ONCE <= l {
+        if numerals::read32(setup, setup::OWN) == numerals::read32(frame, 0) {
+            let rest = l - AT_ONCE;
+            return numerals::read32(setup, setup::OWN + rest) == numerals::read32(frame, rest);
+        }
+        return false;
+    }
     let mut i: usize = 0;
     while i < l {
         if frame[i] != setup[setup::OWN + i] {

@@ -112,7 +112,7 @@ fn unbuffered(n: u64) -> u64
 fn is_bare(n: u64) -> bool
     ensures { λ r. ⌜ r ≡ begins.isBare (frameIn n) ⌝ }
 {
-    packed::size_of(n) <= unbuffered(n)
+    !form::has_data(ru::form(n), packed::size_of(n))
 }
 
 // No data: the end is next, and the first offset stays the next free one. Data left at FFFFh: out of buffers.
@@ -290,7 +290,7 @@ fn describe(
 {
     let fd = packed::at_of(n);
     if stored {
-        copies::copy_in(
+        copies::few_in(
             memory,
             memory::place(base, fd, HEADER_AT),
             holding,

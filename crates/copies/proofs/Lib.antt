@@ -1,2 +1,3 @@
 -- What the copies rest on.
 pub mod Laws
+pub mod Few

@@ -402,21 +402,24 @@ pub a-bad-frame-at-exit : (c : Call) (w : World) (f : Frame) → arrival.RightLe
     → BadExit f c w
 a-bad-frame-at-exit = exits.bad-exit
 
--- no piece lies over another wherever the frame descriptor's 22 bytes and the SCB's 16 have no byte in common, nor, unless No Resources follows, has +6 of
--- the next frame descriptor with either
-pub no-piece-over-another : (w : World) (s : Storing) (free : Offset) (full : Bool) → Clear w s → (s .el || full ≡ false → NextClear w s)
+-- no piece lies over another wherever the frame descriptor, eight bytes and those of the header that go to it, and the SCB's 16 have no byte in common, nor,
+-- unless No Resources follows, has +6 of the next frame descriptor with either
+pub no-piece-over-another : (w : World) (s : Storing) (free : Offset) (full : Bool) → Clear (unbuffered (s .frame .form)) w s
+    → (s .el || full ≡ false → NextClear (unbuffered (s .frame .form)) w s)
     → NoOverlap (length (w .memory)) (pieces (ru.Closing s free full) w)
 no-piece-over-another = clear.closing-clear
 
-pub no-piece-over-another-out-of-buffers : (w : World) (s : Storing) → Clear w s → NoOverlap (length (w .memory)) (pieces (ru.Lacking s) w)
+pub no-piece-over-another-out-of-buffers : (w : World) (s : Storing) → Clear (unbuffered (s .frame .form)) w s
+    → NoOverlap (length (w .memory)) (pieces (ru.Lacking s) w)
 no-piece-over-another-out-of-buffers = clear.lacking-clear
 
 -- nor lies a piece over a counter there, but RSCERRS's own if a good frame ends out of buffers
-pub no-piece-over-a-counter : (w : World) (s : Storing) (free : Offset) (full : Bool) → Clear w s → (s .el || full ≡ false → NextClear w s)
+pub no-piece-over-a-counter : (w : World) (s : Storing) (free : Offset) (full : Bool) → Clear (unbuffered (s .frame .form)) w s
+    → (s .el || full ≡ false → NextClear (unbuffered (s .frame .form)) w s)
     → Each (Spared (ru.Closing s free full) w) counters
 no-piece-over-a-counter = clear.closing-spared
 
-pub no-piece-over-a-counter-out-of-buffers : (w : World) (s : Storing) → Clear w s
+pub no-piece-over-a-counter-out-of-buffers : (w : World) (s : Storing) → Clear (unbuffered (s .frame .form)) w s
     → Each (Spared (ru.Lacking s) w) (lackingCounters (isGood (s .frame)))
 no-piece-over-a-counter-out-of-buffers = clear.lacking-spared
 
@@ -668,13 +671,13 @@ pub nothing-else-is-written-at-the-end : (c : Call) (w : World) (f : Frame) → 
 nothing-else-is-written-at-the-end = exits.nothing-else
 
 pub with-location-1-the-descriptor-stays : (c : Call) (w : World) (f : Frame) (s : Storing) (free : Offset) (full : Bool) → arrival.RightLengths w []
-    → inRange (w .device) ≡ true → heldIn (arrival.unitOf w) ≡ f ∷ [] → ends c w ≡ true → arrival.unitOf w ≡ ru.Closing s free full → Clear w s
-    → (s .el || full ≡ false → NextClear w s) → s .frame .form .location ≡ true
+    → inRange (w .device) ≡ true → heldIn (arrival.unitOf w) ≡ f ∷ [] → ends c w ≡ true → arrival.unitOf w ≡ ru.Closing s free full → Clear 14 w s
+    → (s .el || full ≡ false → NextClear 14 w s) → s .frame .form .location ≡ true
     → bytesAt (ran c w .memory) (inFrame w s 8) 14 ≡ bytesAt (w .memory) (inFrame w s 8) 14
 with-location-1-the-descriptor-stays = clear.closing-stays
 
 pub with-location-1-the-descriptor-stays-out-of-buffers : (c : Call) (w : World) (f : Frame) (s : Storing) → arrival.RightLengths w []
-    → inRange (w .device) ≡ true → heldIn (arrival.unitOf w) ≡ f ∷ [] → ends c w ≡ true → arrival.unitOf w ≡ ru.Lacking s → Clear w s
+    → inRange (w .device) ≡ true → heldIn (arrival.unitOf w) ≡ f ∷ [] → ends c w ≡ true → arrival.unitOf w ≡ ru.Lacking s → Clear 14 w s
     → s .frame .form .location ≡ true
     → bytesAt (ran c w .memory) (inFrame w s 8) 14 ≡ bytesAt (w .memory) (inFrame w s 8) 14
 with-location-1-the-descriptor-stays-out-of-buffers = clear.lacking-stays

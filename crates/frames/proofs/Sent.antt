@@ -143,4 +143,4 @@ module _ (w : World) (b : Begun) (k : Walk) (report : ℕ) (t : TakesBuffer w b 
 pub transmit-ended : (w : World) (b : Begun) (n report : ℕ) → EndsTransmit w b n → TransmitEnded w b n report
 unfolding turnOf commandTurn concluded service end sent
 transmit-ended w b n report t =
-    record { told = rw (t .served, t .ending); status = rw (t .ending); area = rw (t .served, t .ending); }
+    record { told = rw (t .served, t .ending); status = rw (t .ending); area = rw (t .served, t .ending) }

@@ -184,13 +184,13 @@ pub data BadExit (f : Frame) (c : Call) (w : World) : Type 0 where
 
 -- ---- when that is so
 
--- the frame descriptor's 22 bytes and the SCB's 16 have no byte in common; the frame's addresses have at most six bytes, as in every state in range
-pub record Clear (w : World) (s : Storing) : Type 0 where
-  pub addresses : s .frame .form .length ≤ longestAddress
-  pub room : 22 ≤ length (w .memory)
-  pub apart : Apart (length (w .memory)) (inFrame w s 0) 22 (inScb w 0) 16
+-- the frame descriptor, of which h bytes count behind its first eight, and the SCB's 16 have no byte in common; neither is larger than memory
+pub record Clear (h : ℕ) (w : World) (s : Storing) : Type 0 where
+  pub room : 8 + h ≤ length (w .memory)
+  pub scb : 16 ≤ length (w .memory)
+  pub apart : Apart (length (w .memory)) (inFrame w s 0) (8 + h) (inScb w 0) 16
 
 -- nor has +6 of the next frame descriptor with either
-pub record NextClear (w : World) (s : Storing) : Type 0 where
-  pub frame : Apart (length (w .memory)) (nextFirst w s) 2 (inFrame w s 0) 22
+pub record NextClear (h : ℕ) (w : World) (s : Storing) : Type 0 where
+  pub frame : Apart (length (w .memory)) (nextFirst w s) 2 (inFrame w s 0) (8 + h)
   pub scb : Apart (length (w .memory)) (nextFirst w s) 2 (inScb w 0) 16

@@ -5,3 +5,4 @@ pub mod Exact
 pub mod Tests
 pub mod Lent
 pub mod Examples
+mod Order

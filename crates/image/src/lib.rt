@@ -8,11 +8,12 @@ use packed::ru;
 use packed::setup;
 ghost use mathlib.Core.Bool.{cond};
 ghost use mathlib.Core.Path.{_≡_};
+ghost use lib.Dec.{leb};
 ghost use lib.ListN.{length};
 ghost use Rattle.device.specs.Limits.{recordSize};
 ghost use Rattle.device.specs.State as device;
 ghost use Rattle.numerals.specs.Places.{field};
-ghost use Rattle.phases.specs.Fields.{kindIn, offsetMost};
+ghost use Rattle.phases.specs.Fields.{kindIn, sizeIn, offsetMost};
 ghost use Rattle.phases.specs.Forms.{kindShaped};
 ghost use Rattle.packed.specs.Record.{lettersAt, statusAt, cuAt, ruAt, restAt};
 ghost use Rattle.image.specs.Image as image;
@@ -45,14 +46,13 @@ const GOOD: u64 = 0;
 
 const VERDICTS: u64 = 3;
 
-// ---- a unit's word
+// ---- a unit's word. What the form decides is asked last, and most words settle it without their form
 
-// So many bytes at least, and 2,048 at most.
-fn is_sized(n: u64, least: u64) -> bool
-    ensures { λ x. ⌜ x ≡ numbers.sizedIn least n ⌝ }
+// 2,048 bytes at most.
+fn is_within(n: u64) -> bool
+    ensures { λ x. ⌜ x ≡ leb (sizeIn n) 2048 ⌝ }
 {
-    let size = packed::size_of(n);
-    (least <= size) & (size <= LONGEST)
+    packed::size_of(n) <= LONGEST
 }
 
 // A walk goes on: fewer than 64 descriptors are used, and there is a next one.
@@ -83,18 +83,23 @@ fn acting_is(n: u64) -> bool
 fn sending_is(f: u64, n: u64) -> bool
     ensures { λ x. ⌜ x ≡ numbers.sendingIs f n ⌝ }
 {
-    (packed::flags_of(n) < cu::BEGUN_FLAGS)
-        & has_next(n, packed::kind_of(n))
-        & is_sized(n, form::unbuffered(f))
+    if (packed::flags_of(n) < cu::BEGUN_FLAGS) & has_next(n, packed::kind_of(n)) & is_within(n) {
+        return form::has_unbuffered(f, packed::size_of(n));
+    }
+    false
 }
 
 fn ending_is(f: u64, n: u64) -> bool
     ensures { λ x. ⌜ x ≡ numbers.endingIs f n ⌝ }
 {
-    (n <= packed::SIZED_MOST)
+    if (n <= packed::SIZED_MOST)
         & (packed::flags_of(n) < cu::BEGUN_FLAGS)
         & (packed::kind_of(n) == 0)
-        & is_sized(n, form::unbuffered(f))
+        & is_within(n)
+    {
+        return form::has_unbuffered(f, packed::size_of(n));
+    }
+    false
 }
 
 // A command that is begun: what its phase does not use is zero.
@@ -122,10 +127,13 @@ fn cu_is(f: u64, tag: u64, n: u64) -> bool
 
 // ---- the receive unit
 
-// The number of a verdict and a form.
+// The number of a verdict and a form. Of the form after reset it is the verdict alone.
 fn kind_is(n: u64) -> bool
     ensures { λ x. ⌜ x ≡ kindShaped (kindIn n) ⌝ }
 {
+    if packed::kind_of(n) < VERDICTS {
+        return true;
+    }
     (ru::verdict(n) < VERDICTS) & form::is_form(ru::form(n))
 }
 
@@ -133,46 +141,68 @@ fn kind_is(n: u64) -> bool
 fn frame_is(n: u64, most: u64) -> bool
     ensures { λ x. ⌜ x ≡ numbers.frameIs n most ⌝ }
 {
-    (packed::flags_of(n) < most)
-        & kind_is(n)
-        & is_sized(n, form::header(ru::form(n)))
-        & (ru::save_bad(n) | (!ru::short(n) & (ru::verdict(n) == GOOD)))
+    if kind_is(n) {
+        if (packed::flags_of(n) < most)
+            & is_within(n)
+            & (ru::save_bad(n) | (!ru::short(n) & (ru::verdict(n) == GOOD)))
+        {
+            return form::has_header(ru::form(n), packed::size_of(n));
+        }
+    }
+    false
 }
 
 // It has data for the buffers.
 fn has_data(n: u64) -> bool
     ensures { λ x. ⌜ x ≡ numbers.hasDataIn n ⌝ }
 {
-    form::unbuffered(ru::form(n)) < packed::size_of(n)
+    form::has_data(ru::form(n), packed::size_of(n))
 }
 
 fn held_is(n: u64, rest: u64) -> bool
     ensures { λ x. ⌜ x ≡ numbers.heldIs n rest ⌝ }
 {
-    (n <= packed::SIZED_MOST) & (rest == 0) & frame_is(n, ru::HELD_FLAGS)
+    if (n <= packed::SIZED_MOST) & (rest == 0) {
+        return frame_is(n, ru::HELD_FLAGS);
+    }
+    false
 }
 
 // What is being filled has data left.
 fn filling_is(n: u64, rest: u64) -> bool
     ensures { λ x. ⌜ x ≡ numbers.fillingIs n rest ⌝ }
 {
-    (rest <= ru::FILLED_MOST)
-        & frame_is(n, ru::STORING_FLAGS)
-        & has_next(n, ru::above_filled(rest))
-        & (form::unbuffered(ru::form(n)) <= ru::filled(rest))
-        & (ru::filled(rest) < packed::size_of(n))
+    if frame_is(n, ru::STORING_FLAGS) {
+        if (rest <= ru::FILLED_MOST)
+            & has_next(n, ru::above_filled(rest))
+            & (ru::filled(rest) < packed::size_of(n))
+        {
+            return form::has_unbuffered(ru::form(n), ru::filled(rest));
+        }
+    }
+    false
 }
 
 fn closing_is(n: u64, rest: u64) -> bool
     ensures { λ x. ⌜ x ≡ numbers.closingIs n rest ⌝ }
 {
-    (rest == 0) & frame_is(n, ru::CLOSING_FLAGS) & (has_data(n) | !ru::full(n))
+    if rest == 0 {
+        if frame_is(n, ru::CLOSING_FLAGS) {
+            return has_data(n) | !ru::full(n);
+        }
+    }
+    false
 }
 
 fn lacking_is(n: u64, rest: u64) -> bool
     ensures { λ x. ⌜ x ≡ numbers.lackingIs n rest ⌝ }
 {
-    (n <= packed::SIZED_MOST) & (rest == 0) & frame_is(n, ru::STORING_FLAGS) & has_data(n)
+    if (n <= packed::SIZED_MOST) & (rest == 0) {
+        if frame_is(n, ru::STORING_FLAGS) {
+            return has_data(n);
+        }
+    }
+    false
 }
 
 fn holding_is(tag: u64, n: u64, rest: u64) -> bool

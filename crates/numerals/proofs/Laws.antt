@@ -79,12 +79,27 @@ pub one : (r : List ℕ) (at : ℕ) → field r at 1 ≡ getD r at 0
 unfolding field bytesFrom value
 one r at = omega arith
 
+pub two : (r : List ℕ) (at : ℕ) → field r at 2 ≡ getD r at 0 + 256 * getD r (at + 1) 0
+unfolding field bytesFrom value
+two r at =
+    let b : at + 1 ≡ suc at = omega arith in
+    rw b (omega arith)
+
 pub three : (r : List ℕ) (at : ℕ) → field r at 3 ≡ getD r at 0 + 256 * getD r (at + 1) 0 + 65536 * getD r (at + 2) 0
 unfolding field bytesFrom value
 three r at =
     let b : at + 1 ≡ suc at = omega arith in
     let c : at + 2 ≡ suc (suc at) = omega arith in
     rw (b, c) (omega arith)
+
+pub four : (r : List ℕ) (at : ℕ)
+    → field r at 4 ≡ getD r at 0 + 256 * getD r (at + 1) 0 + 65536 * getD r (at + 2) 0 + 16777216 * getD r (at + 3) 0
+unfolding field bytesFrom value
+four r at =
+    let b : at + 1 ≡ suc at = omega arith in
+    let c : at + 2 ≡ suc (suc at) = omega arith in
+    let d : at + 3 ≡ suc (suc (suc at)) = omega arith in
+    rw (b, c, d) (omega arith)
 
 pub eight : (r : List ℕ) (at : ℕ)
     → field r at 8

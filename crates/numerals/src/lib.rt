@@ -41,12 +41,27 @@ pub fn read8(r: &[u8], at: usize) -> u8
     r[at]
 }
 
+pub fn read16(r: &[u8], at: usize) -> u64
+    requires { ⌜ at + 1 < length (now r) ⌝ }
+    ensures { λ x. ⌜ x ≡ field (now (r .entry)) at 2 ⌝ }
+{
+    wide(r[at]) + BYTE_1 * wide(r[at + 1])
+}
+
 // Three bytes.
 pub fn read24(r: &[u8], at: usize) -> u32
     requires { ⌜ at + 2 < length (now r) ⌝ }
     ensures { λ x. ⌜ x ≡ field (now (r .entry)) at 3 ⌝ }
 {
     (wide(r[at]) + BYTE_1 * wide(r[at + 1]) + BYTE_2 * wide(r[at + 2])) as u32
+}
+
+// Four bytes, in one sum, which becomes one load.
+pub fn read32(r: &[u8], at: usize) -> u64
+    requires { ⌜ at + 3 < length (now r) ⌝ }
+    ensures { λ x. ⌜ x ≡ field (now (r .entry)) at 4 ⌝ }
+{
+    wide(r[at]) + BYTE_1 * wide(r[at + 1]) + BYTE_2 * wide(r[at + 2]) + BYTE_3 * wide(r[at + 3])
 }
 
 // Six bytes.
@@ -112,7 +127,7 @@ pub fn put24(r: &mut [u8], at: usize, v: u64)
     r[at + 2] = (v / BYTE_2 % BYTES) as u8;
 }
 
-fn put32(r: &mut [u8], at: usize, v: u64)
+pub fn put32(r: &mut [u8], at: usize, v: u64)
     requires { ⌜ at + 3 < length (now r) ⌝ }
     ensures { λ _. ⌜ now (r .exit) ≡ sets (now (r .entry)) at (digits 4 v) ⌝ }
 {

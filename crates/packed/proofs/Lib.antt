@@ -4,3 +4,4 @@ pub mod Words
 pub mod Pausing
 pub mod States
 pub mod SetUps
+mod Forms

@@ -2,6 +2,7 @@
 // and 240. It takes every number, and reads one that is no form's as a form all the same.
 ghost use mathlib.Core.Path.{_≡_};
 ghost use Prim.Native.Nat.{_≤_, _<_, _^_};
+ghost use lib.Dec.{leb, ltb};
 ghost use Rattle.scb.specs.Words.{one};
 ghost use Rattle.device.specs.Header as rule;
 ghost use Rattle.device.specs.declared.Form.{Form};
@@ -11,6 +12,9 @@ ghost use Rattle.phases.specs.Forms.{formNumber, formOf, formShaped};
 const LONGEST_ADDRESS: u64 = 6;
 
 const TYPE: u64 = 2;
+
+// No header is longer.
+const LONGEST_HEADER: u64 = 2 * LONGEST_ADDRESS + TYPE;
 
 // The number of bytes that an address is short of that has three bits; above them stands the location.
 const LACKS: u64 = 1 << 3;
@@ -54,11 +58,41 @@ pub fn unbuffered(form: u64) -> u64
     header(form)
 }
 
-// Whether a number is a form's.
+// Whether so many bytes have the header. Most frames have the longest, and need not be asked for their form.
+pub fn has_header(form: u64, size: u64) -> bool
+    ensures { λ r. ⌜ r ≡ leb (rule.header (formOf form .length)) size ⌝ }
+{
+    if LONGEST_HEADER <= size {
+        return true;
+    }
+    header(form) <= size
+}
+
+// Whether they have all that does not go through buffers.
+pub fn has_unbuffered(form: u64, size: u64) -> bool
+    ensures { λ r. ⌜ r ≡ leb (rule.unbuffered (formOf form)) size ⌝ }
+{
+    if has_header(form, size) {
+        return true;
+    }
+    location(form)
+}
+
+// Whether they have more than that.
+pub fn has_data(form: u64, size: u64) -> bool
+    ensures { λ r. ⌜ r ≡ ltb (rule.unbuffered (formOf form)) size ⌝ }
+{
+    if LONGEST_HEADER < size {
+        return true;
+    }
+    unbuffered(form) < size
+}
+
+// Whether a number is a form's: there is nothing above its four bits, and no length is seven short of six. One test asks both.
 pub fn is_form(form: u64) -> bool
     ensures { λ r. ⌜ r ≡ formShaped form ⌝ }
 {
-    (form < FORMS) & (form % LACKS <= LONGEST_ADDRESS)
+    form / FORMS * FORMS + form % LACKS <= LONGEST_ADDRESS
 }
 
 // The form of an address length and a location, as Configure has them.

@@ -14,8 +14,6 @@ pub const MINIMUM: usize = 1;
 
 pub const OWN: usize = 2;
 
-pub const OWN_END: usize = 8;
-
 pub const FILTER: usize = 8;
 
 pub const SIZE: usize = 16;

@@ -147,8 +147,8 @@ storing = record { fd = record { 0 = 0x60 }; el = false; suspend = false; pausin
 pub record Exits (w : World) (unit : Ru) (unwritten : List ℕ) : Type 0 where
   pub now : unitOf w ≡ unit
   pub ends : ends (turn 0) w ≡ true
-  pub clear : Clear w storing
-  pub next : NextClear w storing
+  pub clear : Clear 14 w storing
+  pub next : NextClear 14 w storing
   pub apart : NoOverlap (length (w .memory)) (pieces (unitOf w) w)
   pub spared : Each (Spared (unitOf w) w) unwritten
   pub exit : GoodExit frame (turn 0) w
@@ -172,14 +172,14 @@ lacking : Computed (atEnd 0xFFFF 3) (ru.Lacking storing)
 unfolding byteAt putByte bytesAt putBytes value digits fieldAt place beyond bitsAt joined anyOf eventBits statusWord counts verdictOf agree matches lengthOf judged fateOf arrival receive-begin.begunBy receive-begin.begin receive-buffer.descriptorAt receive-buffer.buffer frameStatus settles close lack receive-service.service statusTo arrivals.arrival arrivals.arrivalOf concluded receiveTurn turnOf inRange unitsFit cuFits ruFits frameFits initialisedOrFresh
 lacking = record { now = refl; ends = refl; held = refl; range = refl; size = refl; area = refl; scb = refl; link = refl }
 
-is-clear : (w : World) (u : Ru) → Computed w u → Clear w storing
+is-clear : (w : World) (u : Ru) → Computed w u → Clear 14 w storing
 unfolding place
 is-clear w u k =
     let n = k .size in
     let s = k .scb in
-    record { addresses = omega arith; room = omega arith; apart = down (length (w .memory)) (inFrame w storing 0) 22 (inScb w 0) 16 (omega arith) (omega arith) }
+    record { room = omega arith; scb = omega arith; apart = down (length (w .memory)) (inFrame w storing 0) 22 (inScb w 0) 16 (omega arith) (omega arith) }
 
-next-is-clear : (w : World) (u : Ru) → Computed w u → NextClear w storing
+next-is-clear : (w : World) (u : Ru) → Computed w u → NextClear 14 w storing
 unfolding place
 next-is-clear w u k =
     let n = k .size in
@@ -209,7 +209,7 @@ exits-by w u unwritten k a b =
 pub enough-exits : Exits (atEnd 0xA0 4) (ru.Closing storing none false) counters
 enough-exits =
     let c = is-clear _ _ closing in
-    let n : false ≡ false → NextClear (atEnd 0xA0 4) storing = λ e. next-is-clear _ _ closing in
+    let n : false ≡ false → NextClear 14 (atEnd 0xA0 4) storing = λ e. next-is-clear _ _ closing in
     exits-by _ _ counters closing (closing-clear _ storing none false c n) (closing-spared _ storing none false c n)
 
 pub too-few-exits : Exits (atEnd 0xFFFF 3) (ru.Lacking storing) otherCounters

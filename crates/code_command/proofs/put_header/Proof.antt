@@ -32,11 +32,11 @@ put-header-spec =
     (λ c κs. search needs)
     (λ c. search needs)
     (λ c s h.
-    let copy-out2 = c .before .before in
-    let place2 = copy-out2 .before .before in
-    let put-run = place2 .before .before .before in
-    let copy-out = put-run .before .before .before .before .before in
-    let placed = copy-out .before .before in
+    let copy-out = c .before .before in
+    let place2 = copy-out .before .before in
+    let put-few = place2 .before .before .before in
+    let few-out = put-few .before .before .before .before .before in
+    let placed = few-out .before .before in
     let t : tie.Start = search needs in
     let m = t .args .memory .now in
     let l = t .args .l in
@@ -50,6 +50,6 @@ put-header-spec =
       ← own-first s (t .args .setup .now) h l (t .pre .1),
       ← placed .place .ensures,
       ← place2 .place2 .ensures,
-      ← copy-out .copy-out .ensures,
-      ← rw part at (put-run .put-run .ensures),
-    ) (copy-out2 .copy-out2 .ensures)))
+      ← few-out .few-out .ensures,
+      ← rw part at (put-few .put-few .ensures),
+    ) (copy-out .copy-out .ensures)))

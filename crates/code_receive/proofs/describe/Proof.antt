@@ -22,16 +22,16 @@ describe-spec =
     (λ c.
     let mark-bare = c .before .before in
     let put-word = mark-bare .before .before .before .before .before in
-    let copy-in = put-word .before .before .before .before .before .before in
-    omega (arith, mark-bare .mark-bare .kept, put-word .put-word .kept, copy-in .copy-in .kept))
+    let few-in = put-word .before .before .before .before .before .before in
+    omega (arith, mark-bare .mark-bare .kept, put-word .put-word .kept, few-in .few-in .kept))
     (λ c scb unit.
     let mark-bare = c .before .before in
     let is-bare = mark-bare .before in
     let put-word = is-bare .before .before .before .before in
     let frame-status = put-word .before in
     let place2 = frame-status .before in
-    let copy-in = place2 .before .before .before .before in
-    let unbuffered = copy-in .before in
+    let few-in = place2 .before .before .before .before in
+    let unbuffered = few-in .before in
     let place = unbuffered .before in
     let if1 = place .before .before in
     let at-of = if1 .before in
@@ -41,7 +41,7 @@ describe-spec =
       ← at-of .at-of .ensures,
       ← place .place .ensures,
       ← unbuffered .unbuffered .ensures .0,
-      ← copy-in .copy-in .ensures,
+      ← few-in .few-in .ensures,
       ← place2 .place2 .ensures,
       ← frame-status .frame-status .ensures,
       ← put-word .put-word .ensures,

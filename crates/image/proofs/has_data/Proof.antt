@@ -10,4 +10,4 @@ has-data-spec =
     (λ c κs. search needs)
     (λ c κs. search needs)
     (λ c κs. search needs)
-    (λ c. rw (c .size-of .ensures, c .before .unbuffered .ensures .0, c .before .before .form .ensures)))
+    (λ c. rw (c .has-data .ensures, c .before .size-of .ensures, c .before .before .form .ensures)))

@@ -1,11 +1,22 @@
 -- `image::sending_is` meets its contract. Assumes nothing.
-use Rattle.image.specs.Numbers.{sendingIs}
+use mathlib.Core.Path.{_≡_}
+use mathlib.Core.Bool.{_&&_}
+use Prim.Native.Nat.{ℕ}
+use lib.Dec.{leb, ltb}
+use Rattle.phases.specs.Fields.{flagsIn, kindIn, sizeIn}
+use Rattle.phases.specs.Phases.{begunFlags}
+use Rattle.image.specs.Numbers.{unbufferedIn, hasNextIn, sendingIs}
+use Rattle.image.proofs.Order.{passed, stopped, sized-last}
 use borrow.Author.Needs.{needs}
 use Rattle.image.proofs.sending_is.Statement.{statement}
 use Rattle.image.proofs.sending_is.Tie as tie
 
-pub sending-is-spec : {M : Type 1} → statement M
+law : (f n : ℕ)
+    → sendingIs f n ≡ (ltb (flagsIn n) begunFlags && hasNextIn n (kindIn n) && leb (sizeIn n) 2048 && leb (unbufferedIn f) (sizeIn n))
 unfolding sendingIs
+law f n = sized-last (ltb (flagsIn n) begunFlags && hasNextIn n (kindIn n)) (leb (unbufferedIn f) (sizeIn n)) (leb (sizeIn n) 2048)
+
+pub sending-is-spec : {M : Type 1} → statement M
 sending-is-spec =
     tie.close
     (tie.spec
@@ -14,4 +25,23 @@ sending-is-spec =
     (λ c κs. search needs)
     (λ c κs. search needs)
     (λ c κs. search needs)
-    (λ c. rw (c .before .before .before .before .flags-of .ensures, c .before .before .has-next .ensures, c .before .before .before .kind-of .ensures, c .is-sized .ensures, c .before .unbuffered .ensures .0)))
+    (λ c κs. search needs)
+    (λ c.
+    let s : tie.Start = search needs in
+    let flags : tie.After-flags-of = search needs in
+    let kind : tie.After-kind-of = search needs in
+    let next : tie.After-has-next = search needs in
+    let within : tie.After-is-within = search needs in
+    let t : tie.Then1 = search needs in
+    let size : tie.After-size-of = search needs in
+    rw (c .has-unbuffered .ensures, size .size-of .ensures)
+    (passed _ _ _ (law (s .args .f) (s .args .n))
+    (rw (flags .flags-of .ensures, next .has-next .ensures, kind .kind-of .ensures, within .is-within .ensures) at (t .if1 .taken))))
+    (λ c.
+    let s : tie.Start = search needs in
+    let flags : tie.After-flags-of = search needs in
+    let kind : tie.After-kind-of = search needs in
+    let next : tie.After-has-next = search needs in
+    let within : tie.After-is-within = search needs in
+    stopped _ _ _ (law (s .args .f) (s .args .n))
+    (rw (flags .flags-of .ensures, next .has-next .ensures, kind .kind-of .ensures, within .is-within .ensures) at (c .if1 .left))))
