@@ -120,7 +120,8 @@ pub countOf14Bits : T (eqb (addresses 0xFFFF) 2730 && eqb (addresses 0x2000) 136
 unfolding byteAt putByte bytesAt putBytes value digits fieldAt place bitsAt
 countOf14Bits = tt
 
--- 02, Wish 4: its addresses have the length in force: of six bytes, three of two, 01-00, 5E-01 and CF-00; at length 0 there is none, and the filter is emptied
+-- 02, Wish 4: its addresses have the length in force: of five bytes two of two, 01-00 and 5E-01, the remainder ignored; at length 0 there is none, and the
+-- filter is emptied; at length 1 a byte is one
 abbrev short : (length : ℕ) → Setup
 short length =
     record {

@@ -1,5 +1,5 @@
 -- The actions, done at the end turn: 01, "Turns". Each says the status, and what it changes. Assumes nothing.
-use mathlib.Core.Bool.{Bool, true, false, not, cond, _&&_, _||_}
+use mathlib.Core.Bool.{Bool, true, not, cond, _&&_, _||_}
 use mathlib.Core.List.{List, [], _∷_}
 use Prim.Native.Nat.{ℕ, zero, suc, _+_, _*_, _/_, _^_, min, max}
 use lib.Dec.{leb, ltb}

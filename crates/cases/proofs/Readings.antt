@@ -1,13 +1,13 @@
 -- Points of document 01 that could be read two ways, each with a case that tells the reading taken (docs/DECISIONS.md) from the other, by one
 -- statement over the list: `taken`. Assumes nothing.
 use mathlib.Core.List.{List, [], _∷_, _++_}
-use Prim.Native.Nat.{ℕ, _*_}
+use Prim.Native.Nat.{ℕ}
 use lib.Dec.{T}
 use lib.ListN.{replicate}
-use Rattle.chip.specs.Cases.{Word, _is_, unsaid, high, low, Step, Case, passes, allPass}
-use Rattle.chip.specs.Call.{reset, attention, arrive, turn}
+use Rattle.chip.specs.Cases.{Word, _is_, high, low, Case, passes, allPass}
+use Rattle.chip.specs.Call.{attention, arrive, turn}
 use Rattle.cases.proofs.Prepared.{all-prepared}
-use Rattle.chip.proofs.Board.{board, descriptors, bufferAt, good, crc, misaligned, counting, broadcast, quiet, edge, step, ends, turned, came, notDropped, tooFew, noMatch, unitIdle, unitSuspended, dropped, initialised, receiving, commanding, attended, raising, settling, configured, saving, working, counters}
+use Rattle.chip.proofs.Board.{board, descriptors, bufferAt, good, crc, misaligned, counting, broadcast, quiet, edge, step, ends, turned, came, notDropped, tooFew, noMatch, unitIdle, unitSuspended, dropped, initialised, receiving, commanding, attended, raising, settling, configured, saving}
 
 -- ---- the first attention
 

@@ -1,6 +1,6 @@
 // An arriving frame over numbers: how it is judged, whether the unit holds it, which counter goes up, and why it is dropped. An arrival assumes a
-// setup's bytes and a frame that has its header and matched. receive's specs/ say what is done, and specs/Arrives.antt that the numbers
-// afterwards are those.
+// setup's bytes, and is made of a frame that has its header and matched. receive's specs/ say what is done, and specs/Arrives.antt that the
+// numbers afterwards are those.
 use device::Reason;
 use memory::Offset;
 use memory::RealAddress;

@@ -1,7 +1,7 @@
 -- 01, "Readings that swap the columns", as far as they concern one service of the command unit: each is a computed case that the swap fails.
 -- Assumes nothing.
-use mathlib.Core.Bool.{Bool, true, false}
-use mathlib.Core.List.{List, [], _∷_}
+use mathlib.Core.Bool.{Bool, false}
+use mathlib.Core.List.{[], _∷_}
 use Prim.Native.Nat.{ℕ}
 use lib.Dec.{T, eqb}
 use lib.ListN.{replicate}
@@ -15,10 +15,9 @@ use Rattle.device.specs.declared.Begun.{Begun}
 use Rattle.device.specs.declared.Cu.{Cu}
 use Rattle.device.specs.declared.Cu.the-variants as cu
 use Rattle.actions.specs.Actions.{act}
-use Rattle.command.specs.Begin.{begin, begunBy}
 use Rattle.command.specs.Buffer.{descriptorAt, buffer}
 use Rattle.command.specs.End.{nextAfter, end}
-use Rattle.command.specs.Part.{Part, Service}
+use Rattle.command.specs.Part.{Part}
 use Rattle.command.specs.Service.{service}
 
 -- a unit with the SCB base at 10h, and a block at offset 40h, address 50h

@@ -1,12 +1,12 @@
 -- Further cases at the edges of document 01's rules and of document 02's Wish 4, each of which a chip that gets the rule wrong would fail, by
 -- three statements over three lists: `kept-calls`, `kept-works`, `kept-headers`. Assumes nothing.
-use mathlib.Core.Bool.{true, false}
+use mathlib.Core.Bool.{true}
 use mathlib.Core.List.{List, [], _∷_, _++_}
 use Prim.Native.Nat.{ℕ, _+_, _*_}
 use lib.Dec.{T}
 use lib.ListN.{replicate}
-use Rattle.chip.specs.Cases.{Word, _is_, unsaid, high, low, Step, Case, passes, allPass}
-use Rattle.chip.specs.Call.{reset, attention, arrive, turn}
+use Rattle.chip.specs.Cases.{Word, _is_, high, low, Step, Case, passes, allPass}
+use Rattle.chip.specs.Call.{reset, attention, turn}
 use Rattle.cases.proofs.Prepared.{all-prepared}
 use Rattle.chip.proofs.Board.{board, descriptors, bufferAt, good, crc, misaligned, counting, broadcast, quiet, edge, step, ends, turned, came, notDropped, tooFew, noMatch, unitIdle, unitSuspended, bad, dropped, initialised, receiving, commanding, attended, raising, settling, configured, saving, working, counters}
 

@@ -4,13 +4,11 @@ use mathlib.Core.Path.{_≡_, refl, sym, ap, _∙_}
 use mathlib.Core.Bool.{Bool, true, false, _&&_, and-eq-true-iff, true≢false}
 use mathlib.Core.List.{List, [], _∷_}
 use Prim.Native.Nat.{ℕ, _+_, _<_}
-use lib.Dec.{eqb}
 use lib.ListN.{take}
 use Rattle.memory.specs.Address.{place}
-use Rattle.memory.specs.Memory.{wordAt, wordTo}
-use Rattle.scb.specs.Words.{bit, resets}
+use Rattle.memory.specs.Memory.{wordTo}
+use Rattle.scb.specs.Words.{bit}
 use Rattle.hash.specs.Hash.{hash}
-use Rattle.device.specs.Numbers.{transmit}
 use Rattle.device.specs.declared.Action.{Action}
 use Rattle.device.specs.declared.Action.the-variants as action
 use Rattle.device.specs.declared.Begun.{Begun}
@@ -20,25 +18,19 @@ use Rattle.device.specs.declared.Cu.the-variants as cu
 use Rattle.device.specs.declared.Device.{Device}
 use Rattle.filter.specs.Match.{allOnes, isOwn, isGroup, isFiltered, matches}
 use Rattle.filter.proofs.Laws as match
-use Rattle.actions.specs.Actions.{countOf, act, done, sent}
-use Rattle.actions.specs.Block.{blockStatusAt, blockCommandAt}
+use Rattle.actions.specs.Actions.{countOf, act, done}
+use Rattle.actions.specs.Block.{blockStatusAt}
 use Rattle.actions.specs.Filtered.{isMcSetup}
 use Rattle.actions.specs.Setup.{Setup, setupOf}
 use Rattle.actions.proofs.Filtered as filtered
-use Rattle.command.specs.Begin.{cmd, begunBy, toBegun, begin}
-use Rattle.command.specs.Buffer.{buffer}
 use Rattle.command.specs.End.{end}
-use Rattle.command.specs.Part.{Part, withUnit, partOf}
+use Rattle.command.specs.Part.{partOf}
 use Rattle.command.specs.Service.{service}
-use Rattle.attention.specs.Attention.{attendBy, attend, initialise, attention}
-use Rattle.chip.specs.Arrival.{arrivalOf}
-use Rattle.chip.specs.Attention.{attentionOf}
+use Rattle.attention.specs.Attention.{attention}
 use Rattle.chip.specs.Call as calls
 use Rattle.chip.specs.Call.{Call, ran}
 use Rattle.chip.specs.Turn.{servedOf, isCommand}
 use Rattle.chip.specs.World.{World}
-use Rattle.chip.specs.declared.Served.{Served}
-use Rattle.chip.specs.declared.Served.the-variants as served
 use Rattle.numerals.specs.Places.{field}
 use Rattle.packed.specs.Record.{setupAt}
 use Rattle.packed.specs.SetUp.{filterSize, filterAt}

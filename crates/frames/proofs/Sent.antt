@@ -1,18 +1,17 @@
 -- What a Transmit's turns leave in the outgoing area, over every address length, and what its end tells: 01, "Turns"; 02, Wish 4. Assumes nothing.
 use mathlib.Core.Path.{_≡_, ap, _∙_}
-use mathlib.Core.Bool.{Bool, true, false}
-use mathlib.Core.List.{List, [], _++_}
+use mathlib.Core.Bool.{true, false}
+use mathlib.Core.List.{List, _++_}
 use Prim.Native.Nat.{ℕ, _+_, _≤_}
 use native.Mathlib.Omega.{arith}
 use borrow.Author.Tests.{leb-true}
-use lib.Dec.{eqb}
 use lib.ListN.{length, take, drop, length-append, length-drop}
 use lib.Seq.{sets, sets-eq, length-take-le, take-all, take-at, drop-at, take-append-le, drop-append-le}
 use Rattle.memory.specs.Address.{place}
-use Rattle.memory.specs.Memory.{wordAt, bytesAt}
+use Rattle.memory.specs.Memory.{bytesAt}
 use Rattle.memory.specs.declared.Offset.{Offset}
 use Rattle.memory.proofs.Laws.{length-bytesAt}
-use Rattle.device.specs.Header.{header, unbuffered}
+use Rattle.device.specs.Header.{header}
 use Rattle.device.specs.Limits.{typeLength, outgoingSize, longest}
 use Rattle.device.specs.declared.Begun.{Begun}
 use Rattle.device.specs.declared.Form.{Form}

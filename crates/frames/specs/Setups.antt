@@ -5,7 +5,6 @@ use Prim.Native.Nat.{ℕ}
 use Rattle.scb.specs.Words.{resets}
 use Rattle.device.specs.State.{fresh}
 use Rattle.device.specs.declared.Action.{Action}
-use Rattle.device.specs.declared.Action.the-variants as action
 use Rattle.device.specs.declared.Begun.{Begun}
 use Rattle.device.specs.declared.Cu.{Cu}
 use Rattle.device.specs.declared.Cu.the-variants as cu

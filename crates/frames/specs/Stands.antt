@@ -11,7 +11,6 @@ use Rattle.memory.specs.declared.Offset.{Offset}
 use Rattle.memory.proofs.Fields.{Apart, AllApart}
 use Rattle.scb.specs.Words.{bit, scbStatusAt}
 use Rattle.device.specs.Header.{unbuffered}
-use Rattle.device.specs.Limits.{longestAddress}
 use Rattle.device.specs.State.{isGood}
 use Rattle.device.specs.declared.Fate.the-variants as fate
 use Rattle.device.specs.declared.Frame.{Frame}

@@ -1,12 +1,12 @@
 -- Demand 3, second half, over the calls on byte areas: what holds of states holds of the records that the calls leave. That a call leaves a
 -- state in range is a premise of each statement here, `Closed`. Assumes nothing.
 use mathlib.Core.Path.{_≡_, refl, sym, ap, _∙_}
-use mathlib.Core.Bool.{Bool, true, false, not, cond, _&&_, _||_, true≢false, false≢true}
-use mathlib.Core.List.{List, [], _∷_, _++_, nil≢cons, head-eq-of-cons-eq}
+use mathlib.Core.Bool.{Bool, true, false, not, cond, _&&_, true≢false, false≢true}
+use mathlib.Core.List.{List, [], _∷_, _++_}
 use Prim.Native.Nat.{ℕ, _≤_, _<_}
 use native.Mathlib.Omega.{arith}
 use borrow.Author.Tests.{eqb-true}
-use lib.Dec.{eqb, leb, ltb, lit≤}
+use lib.Dec.{eqb, lit≤}
 use lib.ListN.{length}
 use Rattle.memory.proofs.Bytes.{Bytes}
 use Rattle.device.specs.Limits.{recordSize}
@@ -17,8 +17,6 @@ use Rattle.device.specs.declared.Fate.{Fate}
 use Rattle.device.specs.declared.Frame.{Frame}
 use Rattle.device.specs.declared.Refusal.{Refusal}
 use Rattle.device.specs.declared.Refusal.the-variants as refusal
-use Rattle.device.specs.declared.Ru.{Ru}
-use Rattle.device.specs.declared.Ru.the-variants as ru
 use Rattle.device.specs.declared.Units.{Units}
 use Rattle.phases.proofs.Units.{both}
 use Rattle.image.specs.Image.{decodeOf, deviceFrom, deviceAt}

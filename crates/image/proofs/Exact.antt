@@ -6,7 +6,7 @@ use mathlib.Core.List.{List, [], _∷_, _++_}
 use Prim.Native.Nat.{ℕ, zero, suc, _+_, _*_, _/_, _%_, _≤_, _<_}
 use native.Mathlib.Nat.{div-div-eq-div-mul, div-add-mod'}
 use native.Mathlib.Omega.{arith}
-use borrow.Author.Tests.{eqb-true, ltb-true, leb-true, lt-ltb, eq-eqb, ne-eqb, not-true}
+use borrow.Author.Tests.{eqb-true, ltb-true, leb-true, eq-eqb, ne-eqb, not-true}
 use lib.Dec.{eqb, leb, ltb, eqb→eq}
 use lib.ListN.{length, getD, replicate}
 use Rattle.memory.specs.Address.{isNone}

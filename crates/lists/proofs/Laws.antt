@@ -6,7 +6,7 @@ use mathlib.Core.List.{List, [], _∷_, _++_}
 use Prim.Native.Nat.{ℕ, zero, suc, _+_, _*_, _≤_, _<_}
 use native.Mathlib.Nat.{add-suc, add-zero, suc-add, suc-mul}
 use native.Mathlib.Omega.{arith}
-use lib.Dec.{eqb, leb, ltb}
+use lib.Dec.{eqb, ltb}
 use borrow.Author.Tests.{ltb-true}
 use Rattle.memory.specs.Memory.{fieldAt, wordAt, realAt, wordTo, apply}
 use Rattle.memory.specs.Address.{place}
@@ -22,7 +22,7 @@ use Rattle.device.specs.declared.Cu.{Cu}
 use Rattle.device.specs.declared.Cu.the-variants as cu
 use Rattle.device.specs.declared.Settings.{Settings}
 use Rattle.device.specs.declared.Walk.{Walk}
-use Rattle.actions.specs.Actions.{Acted, act, sent, notSent, clamped, byteOf, settingsBy, groups, filtering, mcSetup, configure, setting}
+use Rattle.actions.specs.Actions.{Acted, act, sent, notSent, clamped, byteOf, settingsBy, groups, filtering, mcSetup, configure}
 use Rattle.actions.specs.Block.{blockStatusAt, blockCommandAt, blockLinkAt, argumentAt, destinationAt, typeAt}
 use Rattle.actions.specs.Setup.{Setup}
 use Rattle.command.specs.Begin.{cmd, begunBy, headerBy, headerOf, toBegun, begin}

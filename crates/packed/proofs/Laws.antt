@@ -1,5 +1,5 @@
 -- The numbers of a state lead back to it, and a state put together from numbers is the state that the rules say. Assumes nothing.
-use mathlib.Core.Path.{_≡_, refl, sym, ap, _∙_}
+use mathlib.Core.Path.{_≡_, refl, ap, _∙_}
 use mathlib.Core.Bool.{Bool, true, false}
 use Prim.Native.Nat.{ℕ, _+_, _*_, _/_, _%_, _<_}
 use native.Mathlib.Omega.{arith}
@@ -8,16 +8,15 @@ use lib.Dec.{T, eqb, eqb→eq}
 use Rattle.scb.specs.Words.{one, eventBits, joined, raise}
 use Rattle.scb.specs.declared.Events.{Events}
 use Rattle.scb.proofs.Below.{all, below}
-use Rattle.device.specs.Change.{withCu, withRu, withEvents, servedRu}
 use Rattle.device.specs.declared.Cu.{Cu}
 use Rattle.device.specs.declared.Cu.the-variants as cu
 use Rattle.device.specs.declared.Ru.{Ru}
 use Rattle.device.specs.declared.Ru.the-variants as ru
 use Rattle.device.specs.declared.Units.{Units}
 use Rattle.phases.specs.Fields.{odd}
-use Rattle.phases.specs.Phases.{numberOf, wordOf, cuTag, cuWord, cuOf, ruTag, ruWord, ruRest, ruOf}
+use Rattle.phases.specs.Phases.{wordOf, cuTag, cuWord, cuOf, ruTag, ruWord, ruOf}
 use Rattle.phases.proofs.Units.{one-below, cu-back, ru-back, word-back}
-use Rattle.packed.specs.Packed.{marksBy, marksOf, statusBy, statusOf, packedOf, scbIn, marksIn, cuTagIn, ruTagIn, baseIn, CuIs, RuIs, UnitsWide, PackedIs}
+use Rattle.packed.specs.Packed.{marksBy, marksOf, statusBy, statusOf, packedOf, scbIn, marksIn, cuTagIn, ruTagIn, baseIn, CuIs, RuIs, PackedIs}
 use Rattle.packed.specs.declared.Packed.{Packed}
 
 one-odd : (b : Bool) → eqb (one b) 1 ≡ b

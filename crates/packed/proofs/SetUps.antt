@@ -1,12 +1,11 @@
 -- What is read of a setup's bytes, and stores into them: each sets up what it is said to. Assumes nothing.
 use mathlib.Core.Path.{_≡_, refl, sym, ap, _∙_}
-use mathlib.Core.Bool.{Bool, true, false}
 use mathlib.Core.List.{List, [], _∷_, _++_}
-use Prim.Native.Nat.{ℕ, zero, suc, _+_, _*_, _/_, _%_, _≤_, _<_, _^_}
+use Prim.Native.Nat.{ℕ, suc, _+_, _/_, _%_, _≤_, _<_, _^_}
 use native.Mathlib.Nat.{div-one}
 use native.Mathlib.Omega.{arith}
-use lib.ListN.{length, getD, set, take, drop, replicate, length-replicate, length-append, List·getD-append}
-use lib.Seq.{sets, sets-eq, length-sets, drop-at, take-at, take-take}
+use lib.ListN.{length, getD, set, take, drop, length-append, List·getD-append}
+use lib.Seq.{sets, sets-eq, drop-at, take-at, take-take}
 use Rattle.memory.specs.Memory.{digits}
 use Rattle.memory.proofs.Fields.{length-digits}
 use Rattle.numerals.specs.Places.{bytesFrom, field}
@@ -18,8 +17,8 @@ use Rattle.device.specs.declared.Settings.{Settings}
 use Rattle.actions.specs.Setup.{Setup}
 use Rattle.phases.specs.Fields.{odd}
 use Rattle.phases.specs.Forms.{formNumber, FormWide}
-use Rattle.phases.proofs.Units.{one-below, one-back, form-below}
-use Rattle.packed.specs.SetUp.{settingsByte, modesOf, formAt, setupBytes, filterSize, settingsAt, minimumAt, ownAt, filterAt, SetIs}
+use Rattle.phases.proofs.Units.{one-below, one-back}
+use Rattle.packed.specs.SetUp.{settingsByte, formAt, setupBytes, filterSize, settingsAt, minimumAt, ownAt, filterAt, SetIs}
 
 -- ---- the byte of settings
 

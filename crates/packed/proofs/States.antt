@@ -6,7 +6,7 @@ use native.Mathlib.Omega.{arith}
 use lib.Bits.{bitAnd}
 use Rattle.memory.specs.declared.Offset.{Offset}
 use Rattle.memory.specs.declared.RealAddress.{RealAddress}
-use Rattle.scb.specs.Words.{one, joined, eventBits}
+use Rattle.scb.specs.Words.{one, eventBits}
 use Rattle.scb.specs.declared.Events.{Events}
 use Rattle.device.specs.Change.{withEvents, initialisedAt}
 use Rattle.device.specs.declared.Units.{Units}

@@ -7,7 +7,7 @@ use lib.Dec.{eqb, eqb→eq}
 use Rattle.memory.specs.declared.Offset.{Offset}
 use Rattle.scb.specs.Words.{one}
 use Rattle.scb.proofs.Below.{below}
-use Rattle.device.specs.Numbers.{actionNumber, actionOf, verdictOf}
+use Rattle.device.specs.Numbers.{actionOf, verdictOf}
 use Rattle.device.specs.declared.Begun.{Begun}
 use Rattle.device.specs.declared.Cu.the-variants as cu
 use Rattle.device.specs.declared.Form.{Form}
@@ -17,8 +17,7 @@ use Rattle.device.specs.declared.Storing.{Storing}
 use Rattle.device.specs.declared.Walk.{Walk}
 use Rattle.phases.specs.Fields.{flagsOf, odd, flagAt, flagsIn, flagIn, restBy}
 use Rattle.phases.specs.Forms.{formNumber, FormWide}
-use Rattle.phases.specs.Phases.{numberOf, wordOf, plain, begunWord, begunOf, begunWith, cuWord, frameWord, frameNumber, storingWith, storingWord, ruWord, ruRest, WordWide}
-use Rattle.phases.specs.declared.Word.{Word}
+use Rattle.phases.specs.Phases.{numberOf, wordOf, plain, begunWord, begunOf, begunWith, cuWord, frameWord, frameNumber, storingWith, storingWord, ruWord, ruRest}
 use Rattle.phases.proofs.Units.{one-below, bits3, action-number, verdict-number, kind-below}
 use Rattle.packed.specs.Packed.{WordIs, BegunIs, CuIs, RuIs}
 

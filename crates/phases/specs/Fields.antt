@@ -1,4 +1,5 @@
--- Where the fields of a unit's words stand, and each flag in its byte: docs/record.md, bytes 16 to 39. The weights stand here alone. Assumes nothing.
+-- Where the fields of a unit's words stand, and each flag in its byte: docs/record.md, bytes 16 to 39. The weights stand here alone, but for those within
+-- a form's number, Forms. Assumes nothing.
 use mathlib.Core.Bool.{Bool}
 use Prim.Native.Nat.{ℕ, _+_, _*_, _-_, _/_, _%_, _^_}
 use lib.Dec.{eqb}

@@ -13,13 +13,12 @@ use Rattle.device.specs.Header.{unbuffered}
 use Rattle.device.specs.Numbers.{verdictOf}
 use Rattle.device.specs.State.{freshForm, freshSettings}
 use Rattle.device.specs.declared.Frame.{Frame}
-use Rattle.device.specs.declared.Ru.{Ru}
 use Rattle.device.specs.declared.Ru.the-variants as ru
 use Rattle.device.specs.declared.Storing.{Storing}
 use Rattle.device.specs.declared.Verdict.the-variants as verdict
 use Rattle.receive.specs.Arrival.{lengthOf, judged, fateOf}
 use Rattle.receive.specs.Buffer.{descriptorAt, buffer}
-use Rattle.receive.specs.Part.{Part, Service}
+use Rattle.receive.specs.Part.{Part}
 use Rattle.receive.specs.Service.{service}
 
 -- a frame of 16 bytes, all 77h, on its way into buffers

@@ -1,6 +1,5 @@
 -- What the receive unit works with besides memory, what a service of it comes to, and its descriptors: 01, "Arrival and storing".
 -- Assumes nothing.
-use mathlib.Core.Bool.{Bool}
 use mathlib.Core.List.{List, []}
 use Prim.Native.Nat.{ℕ}
 use Rattle.memory.specs.Memory.{Write}

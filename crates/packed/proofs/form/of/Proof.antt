@@ -1,5 +1,4 @@
 -- `packed::form::of` meets its contract. Assumes nothing.
-use native.Mathlib.Omega.{arith}
 use Rattle.phases.specs.Forms.{formNumber}
 use borrow.Author.Needs.{needs}
 use Rattle.packed.proofs.form.of.Statement.{statement}
