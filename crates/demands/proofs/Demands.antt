@@ -90,7 +90,7 @@ use Rattle.frames.specs.Arrival as arrival
 use Rattle.frames.specs.Reasons.{whyOf, Reached, IsOther, Told}
 use Rattle.frames.specs.Filtered.{EndsMcSetup, FallsIn, SetUpBy, FilterAfter}
 use Rattle.frames.specs.Setups.{leftBy, EndsAction, SetupAfter}
-use Rattle.frames.specs.Sent.{BeginsTransmit, HeaderPlaced, TakesBuffer, BufferTaken, EndsTransmit, TransmitEnded}
+use Rattle.frames.specs.Sent.{BeginsTransmit, unitBegun, HeaderPlaced, TakesBuffer, unitAfter, BufferTaken, EndsTransmit, TransmitEnded}
 use Rattle.frames.specs.Held.{inFrame, ends, heldFates, FatesOfHeld, GoodFate, BadFate}
 use Rattle.frames.specs.Fates.{Deed, alter, Scene, namesOf, opening, still, advance, beginnings, endings, times, timesFated, timesAltered, AllFates}
 use Rattle.frames.specs.Fates.{by-call, by-altering, isUnaltered, AllProper}
@@ -555,7 +555,9 @@ and-that-says-all = run-of-turns.one-run
 pub a-run-of-no-turn : (a : Areas) (report : ℕ) → AreBytes a → isRefused (runCall a report 0) ≡ false → runCall a report 0 ≡ record { answer = 0; areas = a }
 a-run-of-no-turn = run-of-turns.run-none
 
--- ---- 02, Wish 4: short addresses and headers in buffers
+-- ---- 02, Wish 4: short addresses and headers in buffers. What it says of arrivals, "shorter than the header", is in `every-arrival` and `why-a-frame-is-dropped`
+-- above; "at 0 it empties the filter" is `length-0-empties-the-filter`; "A held frame is stored by the length and location it arrived under" is
+-- `the-bytes-that-arrived-are-stored`
 
 -- "The header has twice the length plus two bytes": its parts, destination, source and type, lie side by side, and every byte of a frame is in one of them or
 -- behind the header. "Prove the header rule once over the length"
@@ -583,7 +585,8 @@ what-a-configure-accepts = configured.accepted
 pub and-it-accepts-all-of-these : (byte : ℕ) → bitsAt byte 0 3 ≤ 6 → bit byte 6 ≡ false → bit byte 7 ≡ false → acceptable byte ≡ true
 and-it-accepts-all-of-these = configured.acceptable-is
 
--- the turn that ends one: what byte 3 says is in force, own address and filter stay, and the status is A000h; or the setup stays, and it is 8000h
+-- the turn that ends one: what byte 3 says is in force, own address and filter stay, and the unit writes A000h to the block; or the setup stays, and it
+-- writes 8000h; the turn adds the SCB's status where it is due
 pub a-configure-is-taken : (w : World) (b : Begun) (report : ℕ) → EndsAction w b action.Configure
     → let byte = byteOf (w .device .units .base) (b .block) (w .memory) 3 in
     acceptable byte ≡ true
@@ -605,16 +608,22 @@ pub and-its-status-is-failed : (w : World) (b : Begun) (report : ℕ) → EndsAc
     → service (partOf (w .device) (w .outgoing)) (w .memory) report .writes ≡ wordTo (place (w .device .units .base) (b .block) blockStatusAt) failed ∷ []
 and-its-status-is-failed = set-ups.unconfigured-status
 
--- and no other call changes length, location or own address but a reset, of either kind, and the turn that ends such a command: what is changed then is `act`'s
+-- and settings, own address and filter change at no other call than a reset, of either kind, and the turn that ends a command that is no Transmit, by its
+-- action; on bytes, the record that is left holds them
 pub the-setup-after-a-call : (c : Call) (w : World) → SetupAfter w c
 the-setup-after-a-call = set-ups.setup-after
 
--- "of the own address the first bytes, up to the length, count", and "a broadcast is as many FFh": both ways
+pub the-setup-after-a-call-on-bytes : (c : Call) (a : Areas) (d : Device) → FrameBytes c → AreBytes a → Holds (a .kept) d → isRefused (called c a) ≡ false
+    → SetupAfter (worldIn d a) c × Holds (called c a .areas .kept) (ran c (worldIn d a) .outcome .device)
+the-setup-after-a-call-on-bytes = set-ups.setup-on-bytes
+
+-- "of the own address the first bytes, up to the length, count", and so a broadcast is as many FFh: both ways. At length 0 both are empty truths, by which
+-- nothing is received: `at-length-0-promiscuous-mode-alone`
 pub the-own-address-is : (l : ℕ) (own f : List ℕ) → l ≤ length own → l ≤ length f → isOwn l own f ≡ true → take l f ≡ take l own
 the-own-address-is = match.own-means
 
-pub and-what-has-it-is-taken : (l : ℕ) (own f : List ℕ) → l ≤ length own → l ≤ length f → take l f ≡ take l own → isOwn l own f ≡ true
-and-what-has-it-is-taken = match.own-if
+pub and-what-has-it-is-the-own-address : (l : ℕ) (own f : List ℕ) → l ≤ length own → l ≤ length f → take l f ≡ take l own → isOwn l own f ≡ true
+and-what-has-it-is-the-own-address = match.own-if
 
 pub a-broadcast-is : (l : ℕ) (f : List ℕ) → l ≤ length f → allOnes l f ≡ true → take l f ≡ replicate l 0xFF
 a-broadcast-is = match.ones-means
@@ -649,10 +658,18 @@ pub a-transmit-places-nothing-with-location-1 : (w : World) (o : Offset) (report
     → arrival.settingsOf w .form .location ≡ true → ran (turn report) w .outgoing ≡ w .outgoing
 a-transmit-places-nothing-with-location-1 = sending.nothing-with-location-1
 
--- each buffer's bytes go behind what is there so far, from byte 0 on with location 1
+-- either way so many bytes of the frame are there then as go to no buffer: `no-part-is-in-the-data`, `the-whole-frame-goes-through-buffers`
+pub so-much-of-the-frame-is-there : (w : World) (o : Offset) (report : ℕ) → BeginsTransmit w o → ran (turn report) w .outcome .device .units .cu ≡ unitBegun w o
+so-much-of-the-frame-is-there = sending.unit-begun
+
+-- each buffer's bytes go behind what is there so far, and as many more are there then
 pub a-buffer-goes-behind : (w : World) (b : Begun) (k : Walk) (report : ℕ) → TakesBuffer w b k → length (w .outgoing) ≡ outgoingSize
     → BufferTaken w k (ran (turn report) w .outgoing)
 a-buffer-goes-behind = sending.buffer-taken
+
+pub so-much-more-is-there : (w : World) (b : Begun) (k : Walk) (report : ℕ) → TakesBuffer w b k
+    → ran (turn report) w .outcome .device .units .cu ≡ unitAfter w b k
+so-much-more-is-there = sending.unit-taken
 
 -- and the end tells the length, 0 of a frame of no bytes too, which shows in its status alone
 pub a-transmit-ends : (w : World) (b : Begun) (n report : ℕ) → EndsTransmit w b n → TransmitEnded w b n report
@@ -670,17 +687,17 @@ pub nothing-else-is-written-at-the-end : (c : Call) (w : World) (f : Frame) → 
     → heldIn (arrival.unitOf w) ≡ f ∷ [] → ends c w ≡ true → (p : Piece) → PieceStands w (ran c w) p
 nothing-else-is-written-at-the-end = exits.nothing-else
 
-pub with-location-1-the-descriptor-stays : (c : Call) (w : World) (f : Frame) (s : Storing) (free : Offset) (full : Bool) → arrival.RightLengths w []
+pub with-location-1-the-descriptor-stays-from-8-on : (c : Call) (w : World) (f : Frame) (s : Storing) (free : Offset) (full : Bool) → arrival.RightLengths w []
     → inRange (w .device) ≡ true → heldIn (arrival.unitOf w) ≡ f ∷ [] → ends c w ≡ true → arrival.unitOf w ≡ ru.Closing s free full → Clear 14 w s
     → (s .el || full ≡ false → NextClear 14 w s) → s .frame .form .location ≡ true
     → bytesAt (ran c w .memory) (inFrame w s 8) 14 ≡ bytesAt (w .memory) (inFrame w s 8) 14
-with-location-1-the-descriptor-stays = clear.closing-stays
+with-location-1-the-descriptor-stays-from-8-on = clear.closing-stays
 
-pub with-location-1-the-descriptor-stays-out-of-buffers : (c : Call) (w : World) (f : Frame) (s : Storing) → arrival.RightLengths w []
+pub with-location-1-the-descriptor-stays-from-8-on-out-of-buffers : (c : Call) (w : World) (f : Frame) (s : Storing) → arrival.RightLengths w []
     → inRange (w .device) ≡ true → heldIn (arrival.unitOf w) ≡ f ∷ [] → ends c w ≡ true → arrival.unitOf w ≡ ru.Lacking s → Clear 14 w s
     → s .frame .form .location ≡ true
     → bytesAt (ran c w .memory) (inFrame w s 8) 14 ≡ bytesAt (w .memory) (inFrame w s 8) 14
-with-location-1-the-descriptor-stays-out-of-buffers = clear.lacking-stays
+with-location-1-the-descriptor-stays-from-8-on-out-of-buffers = clear.lacking-stays
 
 -- ---- demand 3, first half
 

@@ -29,7 +29,7 @@ use Rattle.chip.specs.Call.{turn, ran}
 use Rattle.chip.specs.Turn.{concluded, commandTurn, turnOf}
 use Rattle.chip.specs.World.{World}
 use Rattle.frames.specs.Arrival.{settingsOf, lengthIn}
-use Rattle.frames.specs.Sent.{BeginsTransmit, HeaderPlaced, TakesBuffer, countIn, dataIn, BufferTaken, EndsTransmit, TransmitEnded}
+use Rattle.frames.specs.Sent.{BeginsTransmit, unitBegun, unitAfter, HeaderPlaced, TakesBuffer, countIn, dataIn, BufferTaken, EndsTransmit, TransmitEnded}
 
 -- ---- runs that are put into a list
 
@@ -58,6 +58,10 @@ module _ (w : World) (o : Offset) (report : ℕ) (t : BeginsTransmit w o) where
   area-left : ran (turn report) w .outgoing ≡ sets (w .outgoing) 0 placed
   unfolding turnOf commandTurn service begin begunBy
   area-left = rw (t .served, t .waiting, t .transmits)
+
+  pub unit-begun : ran (turn report) w .outcome .device .units .cu ≡ unitBegun w o
+  unfolding turnOf commandTurn concluded service begin begunBy
+  unit-begun = rw (t .served, t .waiting, t .transmits)
 
   pub nothing-with-location-1 : form .location ≡ true → ran (turn report) w .outgoing ≡ w .outgoing
   nothing-with-location-1 e = area-left ∙ rw (nothing-placed (w .device .units .base) (w .device .own) o (w .memory) form e)
@@ -101,6 +105,10 @@ module _ (w : World) (o : Offset) (report : ℕ) (t : BeginsTransmit w o) where
         }
 
 -- ---- a buffer
+
+pub unit-taken : (w : World) (b : Begun) (k : Walk) (report : ℕ) → TakesBuffer w b k → ran (turn report) w .outcome .device .units .cu ≡ unitAfter w b k
+unfolding turnOf commandTurn concluded service buffer
+unit-taken w b k report t = rw (t .served, t .sending, t .fits)
 
 module _ (w : World) (b : Begun) (k : Walk) (report : ℕ) (t : TakesBuffer w b k) (n : length (w .outgoing) ≡ outgoingSize) where
   buffer-left : ran (turn report) w .outgoing ≡ sets (w .outgoing) (k .filled) (dataIn w k)

@@ -14,6 +14,7 @@ use Rattle.device.specs.declared.Action.the-variants as action
 use Rattle.device.specs.declared.Begun.{Begun}
 use Rattle.device.specs.declared.Cu.{Cu}
 use Rattle.device.specs.declared.Cu.the-variants as cu
+use Rattle.device.specs.declared.Device.{Device}
 use Rattle.actions.specs.Actions.{acceptable, byteOf, act, done, failed, sent}
 use Rattle.actions.specs.Block.{blockStatusAt, blockCommandAt}
 use Rattle.actions.specs.Setup.{Setup, setupOf}
@@ -27,11 +28,15 @@ use Rattle.attention.specs.Attention.{attendBy, attend, initialise, attention}
 use Rattle.chip.specs.Arrival.{arrivalOf}
 use Rattle.chip.specs.Attention.{attentionOf}
 use Rattle.chip.specs.Call as calls
-use Rattle.chip.specs.Call.{Call}
+use Rattle.chip.specs.Call.{Call, ran}
 use Rattle.chip.specs.Turn.{servedOf, concluded, commandTurn, receiveTurn, turnOf}
 use Rattle.chip.specs.World.{World, resetOf}
 use Rattle.chip.specs.declared.Served.{Served}
 use Rattle.chip.specs.declared.Served.the-variants as served
+use Rattle.calls.specs.Calls.{Areas}
+use Rattle.traces.specs.Areas.{FrameBytes, AreBytes, Holds, worldIn}
+use Rattle.traces.specs.Bytes.{called, isRefused}
+use Rattle.closure.proofs.Carried.{carry}
 use Rattle.frames.specs.Held.{commandOf}
 use Rattle.frames.specs.Setups.{leftBy, EndsAction, SetupAfter, kept, by-reset, by-resetting, by-action}
 
@@ -114,3 +119,10 @@ setup-after calls.reset w = by-reset refl
 setup-after calls.attention w = attention-after w (w .device .units .initialised) (resets (commandOf w)) refl refl
 setup-after (calls.arrive f v) w = kept (calls.arrive f v) refl refl
 setup-after (calls.turn report) w = turn-after w report (servedOf (w .device .units)) refl
+
+-- ---- on bytes
+
+-- the record that a call leaves holds the state with that setup
+pub setup-on-bytes : (c : Call) (a : Areas) (d : Device) → FrameBytes c → AreBytes a → Holds (a .kept) d → isRefused (called c a) ≡ false
+    → SetupAfter (worldIn d a) c × Holds (called c a .areas .kept) (ran c (worldIn d a) .outcome .device)
+setup-on-bytes c a d f b h r = (setup-after c (worldIn d a), carry c a d f b h r .holds)

@@ -4,25 +4,26 @@ use mathlib.Core.Bool.{true, cond}
 use mathlib.Core.List.{List, [], _∷_, _++_}
 use Prim.Native.Nat.{ℕ, _+_}
 use lib.ListN.{take, drop}
-use Rattle.memory.specs.Address.{place}
+use Rattle.memory.specs.Address.{place, offsetAt, isNone}
 use Rattle.memory.specs.Memory.{wordAt, bytesAt, wordTo}
 use Rattle.memory.specs.declared.Offset.{Offset}
-use Rattle.device.specs.Header.{sourceIn, typeIn, header}
+use Rattle.device.specs.Header.{sourceIn, typeIn, header, unbuffered}
 use Rattle.device.specs.Limits.{typeLength}
 use Rattle.device.specs.declared.Begun.{Begun}
+use Rattle.device.specs.declared.Cu.{Cu}
 use Rattle.device.specs.declared.Cu.the-variants as cu
 use Rattle.device.specs.declared.Walk.{Walk}
 use Rattle.actions.specs.Actions.{done, failed, reported, isSent}
 use Rattle.actions.specs.Block.{blockStatusAt}
-use Rattle.command.specs.Begin.{cmd}
-use Rattle.command.specs.Buffer.{descriptorAt, fits}
+use Rattle.command.specs.Begin.{cmd, begunBy, toFirst}
+use Rattle.command.specs.Buffer.{descriptorAt, isLast, afterBuffer, fits}
 use Rattle.command.specs.Part.{partOf}
 use Rattle.command.specs.Service.{service}
 use Rattle.chip.specs.Call.{turn, ran}
 use Rattle.chip.specs.Turn.{servedOf}
 use Rattle.chip.specs.World.{World}
 use Rattle.chip.specs.declared.Served.the-variants as served
-use Rattle.frames.specs.Arrival.{lengthIn}
+use Rattle.frames.specs.Arrival.{settingsOf, lengthIn}
 
 -- ---- its begin
 
@@ -31,6 +32,13 @@ pub record BeginsTransmit (w : World) (o : Offset) : Type 0 where
   pub served : servedOf (w .device .units) ≡ served.CommandUnit
   pub waiting : w .device .units .cu ≡ cu.Waiting o
   pub transmits : cmd (wordAt (w .memory) (place (w .device .units .base) o 2)) ≡ 4
+
+-- the descriptor at +6 is next, with none the end; so many bytes of the frame are in the area as go to no buffer: the header, with location 1 none
+abbrev pub unitBegun : World → Offset → Cu
+unitBegun w o =
+    let first = offsetAt (w .memory) (place (w .device .units .base) o 6) in
+    let word = wordAt (w .memory) (place (w .device .units .base) o 2) in
+    toFirst (isNone first) (unbuffered (settingsOf w .form)) (begunBy o word) first
 
 -- with location 0: the block's destination, the own address's first bytes, the block's type, one behind the other; what is behind them stays
 pub record HeaderPlaced (w : World) (o : Offset) (out : List ℕ) : Type 0 where
@@ -54,6 +62,12 @@ countIn w k = descriptorAt (w .device .units .base) (k .next) (w .memory) .count
 abbrev pub dataIn : World → Walk → List ℕ
 dataIn w k = bytesAt (w .memory) (descriptorAt (w .device .units .base) (k .next) (w .memory) .buffer .0) (countIn w k)
 
+-- so many bytes more are in the area; the next descriptor is next, at EOF the end, and 8100h follows where FFFFh or the 64th comes before it
+abbrev pub unitAfter : World → Begun → Walk → Cu
+unitAfter w b k =
+    let d = descriptorAt (w .device .units .base) (k .next) (w .memory) in
+    afterBuffer true (d .eof) (isNone (d .next)) (isLast (k .used)) b (record { next = d .next; used = k .used + 1; filled = k .filled + countIn w k })
+
 -- what was there so far, and behind it the buffer's bytes; what is behind them stays
 pub record BufferTaken (w : World) (k : Walk) (out : List ℕ) : Type 0 where
   pub so-far : take (k .filled + countIn w k) out ≡ take (k .filled) (w .outgoing) ++ dataIn w k
@@ -66,7 +80,8 @@ pub record EndsTransmit (w : World) (b : Begun) (n : ℕ) : Type 0 where
   pub served : servedOf (w .device .units) ≡ served.CommandUnit
   pub ending : w .device .units .cu ≡ cu.Ending b n
 
--- as the line reports: its length is told if it was sent, of a frame of no bytes 0 too; its status goes to the block, and nothing else; the area stays
+-- as the line reports: its length is told if it was sent, of a frame of no bytes 0 too; its status is what the unit writes, to the block, and the turn adds
+-- the SCB's status where it is due; the area stays
 pub record TransmitEnded (w : World) (b : Begun) (n report : ℕ) : Type 0 where
   pub told : ran (turn report) w .outcome .answer .length ≡ cond (isSent report) n 0
   pub status : service (partOf (w .device) (w .outgoing)) (w .memory) report .writes
