@@ -962,6 +962,12 @@ held-across-a-configure = form-run.as-six
 pub held-across-a-configure-with-location-1 : form-run.Stored form-run.short 0x06 freshForm form-run.marks form-run.twenty
 held-across-a-configure-with-location-1 = form-run.as-two
 
+-- before the turn that ends the second, what `with-location-1-the-descriptor-stays-from-8-on` asks for is met
+pub a-descriptor-that-stays : Clear 14 form-run.ended form-run.storing × NextClear 14 form-run.ended form-run.storing
+    × (bytesAt (ran (turn 0) form-run.ended .memory) (inFrame form-run.ended form-run.storing 8) 14
+    ≡ bytesAt (form-run.ended .memory) (inFrame form-run.ended form-run.storing 8) 14)
+a-descriptor-that-stays = (form-run.is-clear, form-run.next-is-clear, form-run.stays)
+
 -- six calls, one of them refused: of two held frames one ends by a record that is lent otherwise, and one is stored
 pub frames-on-bytes : AllGiven bytes-run.calls
     × (bytes-run.story ≡ record { held = 1 ∷ 2 ∷ []; ends = (1, by-altering) ∷ (2, by-call fate.Stored) ∷ []; still = [] })

@@ -100,7 +100,7 @@ pub in-range : inRange ready ≡ true
 unfolding inRange unitsFit cuFits ruFits initialisedOrFresh
 in-range = refl
 
-eight : sizeAllowed 8192 ≡ true
+pub eight : sizeAllowed 8192 ≡ true
 unfolding sizeAllowed ones
 eight = refl
 

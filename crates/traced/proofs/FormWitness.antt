@@ -1,19 +1,21 @@
 -- 02, Wish 4: "A held frame is stored by the length and location it arrived under, whatever Configure has said since": a frame of 20 bytes arrives under one
 -- form, a Configure that is begun sets another before the first buffer is filled, and what the descriptor and the buffer get is computed; both ways. What
 -- is asked for the statement on its data is met too. Assumes nothing.
-use mathlib.Core.Path.{_≡_, refl}
+use mathlib.Core.Path.{_≡_, refl, ap, _∙_}
 use mathlib.Core.Bool.{true, false}
 use mathlib.Core.List.{List, [], _∷_, _++_}
-use Prim.Native.Nat.{ℕ}
+use Prim.Native.Nat.{ℕ, _+_}
 use native.Mathlib.Omega.{arith}
-use lib.ListN.{replicate, take, drop, length-replicate}
-use Rattle.memory.specs.Address.{place, beyond}
+use lib.ListN.{length, replicate, take, drop, length-replicate}
+use Rattle.memory.specs.Address.{place, beyond, none}
 use Rattle.memory.specs.Memory.{byteAt, putByte, bytesAt, putBytes, value, digits, fieldAt, Write, bytesTo, wordTo, apply}
+use Rattle.memory.specs.Size.{sizeAllowed}
+use Rattle.memory.proofs.Fields.{up, down}
 use Rattle.scb.specs.Words.{noEvents, bitsAt, joined, anyOf, eventBits, statusWord}
 use Rattle.device.specs.Answers.{counts}
 use Rattle.device.specs.Limits.{holdingSize, outgoingSize}
 use Rattle.device.specs.Numbers.{verdictOf}
-use Rattle.device.specs.State.{fresh, freshForm}
+use Rattle.device.specs.State.{fresh, freshForm, heldIn}
 use Rattle.device.specs.declared.Action.the-variants as action
 use Rattle.device.specs.declared.Begun.{Begun}
 use Rattle.device.specs.declared.Counter.the-variants as counter
@@ -21,12 +23,15 @@ use Rattle.device.specs.declared.Cu.the-variants as cu
 use Rattle.device.specs.declared.Device.{Device}
 use Rattle.device.specs.declared.Fate.the-variants as fate
 use Rattle.device.specs.declared.Form.{Form}
+use Rattle.device.specs.declared.Frame.{Frame}
 use Rattle.device.specs.declared.Ru.the-variants as ru
+use Rattle.device.specs.declared.Storing.{Storing}
+use Rattle.device.specs.declared.Verdict.the-variants as verdict
 use Rattle.filter.specs.Match.{agree, matches}
 use Rattle.actions.specs.Actions.{settingsBy, act}
 use Rattle.command.specs.End.{nextAfter, end}
 use Rattle.command.specs.Service as command-service
-use Rattle.image.specs.Ranges.{inRange, unitsFit, cuFits, ruFits, initialisedOrFresh}
+use Rattle.image.specs.Ranges.{inRange, unitsFit, cuFits, ruFits, frameFits, initialisedOrFresh}
 use Rattle.receive.specs.Arrival.{lengthOf, judged, fateOf, arrival}
 use Rattle.receive.specs.Begin as receive-begin
 use Rattle.receive.specs.Buffer as receive-buffer
@@ -39,11 +44,13 @@ use Rattle.chip.specs.Turn.{concluded, commandTurn, receiveTurn, turnOf}
 use Rattle.chip.specs.World.{World, worldOf}
 use Rattle.progress.specs.Trace.{run, AllMay}
 use Rattle.traces.specs.Event.{Event, call, step}
-use Rattle.frames.specs.Arrival.{RightLengths, settingsOf}
-use Rattle.frames.specs.Held.{ends}
+use Rattle.frames.specs.Arrival.{RightLengths, settingsOf, inScb, unitOf}
+use Rattle.frames.specs.Held.{inFrame, linkNow, ends}
 use Rattle.frames.specs.Data.{Staying, ArrivedDelivered}
+use Rattle.frames.specs.Stands.{nextFirst, Clear, NextClear}
 use Rattle.frames.proofs.Data.{arrived}
-use Rattle.traced.proofs.DataWitness.{upward, sized}
+use Rattle.frames.proofs.Clear.{closing-stays}
+use Rattle.traced.proofs.DataWitness.{upward, eight, sized}
 
 -- two bytes an address, and the header in the buffers
 abbrev pub short : Form
@@ -143,3 +150,53 @@ lengths form third = record { size = sized (words third); area = length-replicat
 pub is-said : (form : Form) (third : ℕ) (now : Form) (inDescriptor inBuffer : List ℕ) → Stored form third now inDescriptor inBuffer → ArrivedDelivered twenty trace (arrivedAt form third) 0
 is-said form third now inDescriptor inBuffer s =
     arrived (before form third) twenty 0 counter.Uncounted trace 0 (lengths form third) (s .range) (s .fate) (s .may) (s .ends)
+
+-- ---- with location 1, before the end of the second: descriptor, SCB and +6 of the next frame descriptor lie apart, so the statement that the descriptor stays
+-- from +8 on speaks of it
+
+abbrev pub ended : World
+ended = run step trace (arrivedAt short 0x06)
+
+abbrev pub frame : Frame
+frame = record { length = 20; verdict = verdict.Good; short = false; savebad = false; form = short }
+
+abbrev pub storing : Storing
+storing = record { fd = record { 0 = 0x60 }; el = false; suspend = false; pausing = false; frame = frame }
+
+record Computed : Type 0 where
+  now : unitOf ended ≡ ru.Closing storing none false
+  held : heldIn (unitOf ended) ≡ frame ∷ []
+  range : inRange (ended .device) ≡ true
+  ends : ends (turn 0) ended ≡ true
+  size : length (ended .memory) ≡ 8192
+  area : length (ended .holding) ≡ holdingSize
+  scb : ended .device .units .scb .0 ≡ 0x40
+  link : linkNow ended storing .0 ≡ 0
+
+computed : Computed
+unfolding byteAt putByte bytesAt putBytes value digits fieldAt place beyond bitsAt joined anyOf eventBits statusWord counts verdictOf agree matches lengthOf judged fateOf arrival receive-begin.begunBy receive-begin.begin receive-buffer.descriptorAt receive-buffer.buffer frameStatus settles close receive-service.service settingsBy act nextAfter end command-service.service statusTo arrivals.arrival arrivals.arrivalOf concluded commandTurn receiveTurn turnOf inRange unitsFit cuFits ruFits frameFits initialisedOrFresh
+computed = record { now = refl; held = refl; range = refl; ends = refl; size = refl; area = refl; scb = refl; link = refl }
+
+pub is-clear : Clear 14 ended storing
+unfolding place
+is-clear =
+    let n = computed .size in
+    let s = computed .scb in
+    record { room = omega arith; scb = omega arith; apart = down (length (ended .memory)) (inFrame ended storing 0) 22 (inScb ended 0) 16 (omega arith) (omega arith) }
+
+pub next-is-clear : NextClear 14 ended storing
+unfolding place
+next-is-clear =
+    let n = computed .size in
+    let s = computed .scb in
+    let l = computed .link in
+    record {
+      frame = up (length (ended .memory)) (nextFirst ended storing) 2 (inFrame ended storing 0) 22 (omega arith) (omega arith);
+      scb = up (length (ended .memory)) (nextFirst ended storing) 2 (inScb ended 0) 16 (omega arith) (omega arith);
+    }
+
+pub stays : bytesAt (ran (turn 0) ended .memory) (inFrame ended storing 8) 14 ≡ bytesAt (ended .memory) (inFrame ended storing 8) 14
+stays =
+    let k = computed in
+    let l : RightLengths ended [] = record { size = ap sizeAllowed (k .size) ∙ eight; area = k .area; frame = omega arith } in
+    closing-stays (turn 0) ended frame storing none false l (k .range) (k .held) (k .ends) (k .now) is-clear (λ e. next-is-clear) refl
