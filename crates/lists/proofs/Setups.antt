@@ -1,25 +1,27 @@
 -- What the setup in force says of the bytes that a command uses: of a Transmit and an MC-Setup its form alone, which is address length and address
 -- location, and of any other command nothing. Only a Configure changes the form. So the bytes of a list whose commands leave the form as it is are
 -- those of its commands, each by itself under any one setup with that form, and what `NoClash` asks of it is what it asks of them. Assumes nothing.
-use mathlib.Core.Path.{_≡_, refl, ap, _∙_, subst}
+use mathlib.Core.Path.{_≡_, refl, ap, ap₂, _∙_, subst}
 use mathlib.Core.Logic.{_≢_}
 use mathlib.Core.Bool.{Bool, true, false, cond, true≢false}
 use mathlib.Core.List.{List, [], _∷_, _++_}
 use Prim.Native.Nat.{ℕ, _+_, _%_}
 use lib.Dec.{eqb}
+use Rattle.memory.specs.Address.{place, offsetAt, isNone}
 use Rattle.memory.specs.declared.RealAddress.{RealAddress}
-use Rattle.device.specs.Limits.{typeLength}
+use Rattle.device.specs.Header.{unbuffered}
+use Rattle.device.specs.Limits.{typeLength, mostBuffers}
 use Rattle.device.specs.Numbers.{transmit, actionOf, actionNumber}
 use Rattle.device.specs.declared.Action.{Action}
 use Rattle.device.specs.declared.Action.the-variants as action
 use Rattle.device.specs.declared.Form.{Form}
 use Rattle.actions.specs.Actions.{act}
-use Rattle.actions.specs.Block.{blockStatusAt, blockCommandAt, blockLinkAt, destinationAt}
+use Rattle.actions.specs.Block.{blockStatusAt, blockCommandAt, blockLinkAt, argumentAt, destinationAt}
 use Rattle.actions.specs.Setup.{Setup}
 use Rattle.command.specs.Begin.{cmd}
 use Rattle.progress.specs.Same.{In, here, there}
 use Rattle.progress.proofs.Same.{each-nil}
-use Rattle.lists.specs.Uses.{block, from, wordOf, addressLengthOf, headerBytes, headerLengthOf, argumentBytes, ownBytes, uses, marked, setupBy, setupAfter, listBytes, resultBytes, NoClash}
+use Rattle.lists.specs.Uses.{block, from, wordOf, addressLengthOf, headerBytes, headerLengthOf, argumentBytes, chainBytes, firstBytes, ownBytes, uses, marked, setupBy, setupAfter, listBytes, resultBytes, NoClash}
 use Rattle.lists.proofs.Blocks.{each-append}
 
 abbrev pub formOf : Setup → Form
@@ -60,10 +62,22 @@ argument-alike action.Tdr base s x m c e = refl
 argument-alike action.Dump base s x m c e = refl
 argument-alike action.Diagnose base s x m c e = refl
 
+header-alike : (base : RealAddress) (s x : Setup) (c : ℕ) → formOf s ≡ formOf x → headerBytes base s c ≡ headerBytes base x c
+unfolding headerBytes addressLengthOf
+header-alike base s x c e = rw e
+
+length-alike : (s x : Setup) → formOf s ≡ formOf x → headerLengthOf s ≡ headerLengthOf x
+unfolding headerLengthOf
+length-alike s x e = ap unbuffered e
+
+-- a chain is not unfolded here: it has 64 descriptors
 own-alike : (transmits : Bool) (base : RealAddress) (s x : Setup) (m : List ℕ) (c : ℕ) → formOf s ≡ formOf x
     → ownBytes transmits base s m c ≡ ownBytes transmits base x m c
-unfolding headerBytes headerLengthOf addressLengthOf
-own-alike true base s x m c e = rw e
+own-alike true base s x m c e =
+    let first = offsetAt m (place base (block c) argumentAt) in
+    ap₂ (λ (h : List ℕ) (n : ℕ).
+    from base c argumentAt 2 ++ h ++ firstBytes (isNone first) (chainBytes mostBuffers base (marked base m c) first n))
+    (header-alike base s x c e) (length-alike s x e)
 own-alike false base s x m c e = argument-alike (actionOf (cmd (wordOf base m c))) base s x m c e
 
 -- beside the six bytes of its block
