@@ -71,6 +71,15 @@
 #define RECEIVING \
     STEP(WORDS({0x32, 0xF010}, {0x36, 0x60}), ATTENTION, QUIET, WORDS({0x30, 0x0040}, {0x32, 0}), LOW)
 
+/* the same; then a frame that is not for us is dropped, and a turn finds nothing to do; and one that is for us is held
+   and begun */
+#define RECEIVING_ONE_OF(other, ours) \
+    RECEIVING, \
+    DROPPED(LQ_DROPPED_NO_MATCH, other, GOOD, NOTHING), \
+    TURNED(WORDS({0x60, 0})), \
+    CAME(ours, GOOD, NOTHING), \
+    TURNED(WORDS({0x60, 0x4000}))
+
 /* the command unit is started at the block 40h, and every event acknowledged */
 #define COMMANDING \
     STEP(WORDS({0x32, 0xF100}, {0x34, 0x40}), ATTENTION, QUIET, WORDS({0x30, 0x0200}, {0x32, 0}), LOW)

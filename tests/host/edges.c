@@ -64,11 +64,7 @@
     CASE("bit of ones", \
          LISTED_AND_SET(first, second, third, 2), \
          BOTH_DONE, \
-         RECEIVING, \
-         DROPPED(LQ_DROPPED_NO_MATCH, BROADCAST(46), GOOD, NOTHING), \
-         TURNED(WORDS({0x60, 0})), \
-         CAME(TO(0xAB, 0, 0, 2, 0, 0), GOOD, NOTHING), \
-         TURNED(WORDS({0x60, 0x4000})))
+         RECEIVING_ONE_OF(BROADCAST(46), TO(0xAB, 0, 0, 2, 0, 0)))
 
 /* byte 3: any length but 7, either location, no loopback; bits 4 and 5 are free */
 #define THIRD_BYTE(byte, status) \
@@ -462,11 +458,7 @@ static const struct worked_case cases[] = {
     /* an own address with the low bit set matches, though it is not listed */
     CASE("own group", WORDS({0x42, 0x8001}, {0x46, 0x0201}, DESCRIPTORS, BOARD),
          CONFIGURED,
-         RECEIVING,
-         DROPPED(LQ_DROPPED_NO_MATCH, TO(1, 3, 0, 0, 0, 0), GOOD, NOTHING),
-         TURNED(WORDS({0x60, 0})),
-         CAME(TO(1, 2, 0, 0, 0, 0), GOOD, NOTHING),
-         TURNED(WORDS({0x60, 0x4000}))),
+         RECEIVING_ONE_OF(TO(1, 3, 0, 0, 0, 0), TO(1, 2, 0, 0, 0, 0))),
     LISTED_ONES(2, 0, LQ_DROPPED_NO_MATCH),
     LISTED_ONES(3, 0x4000, LQ_NOT_DROPPED),
     BIT_OF_ONES(0xFFFF, 0xFFFF, 0xFFFF),
@@ -510,11 +502,7 @@ static const struct worked_case cases[] = {
     /* thirty addresses: the last of them is in the filter, another group is not */
     CASE("thirtieth", WORDS({0x42, 0x8003}, {0x46, 180}, {0xF6, 0x0203}, BOARD),
          CONFIGURED,
-         RECEIVING,
-         DROPPED(LQ_DROPPED_NO_MATCH, TO(3, 3, 0, 0, 0, 0), GOOD, NOTHING),
-         TURNED(WORDS({0x60, 0})),
-         CAME(TO(3, 2, 0, 0, 0, 0), GOOD, NOTHING),
-         TURNED(WORDS({0x60, 0x4000}))),
+         RECEIVING_ONE_OF(TO(3, 3, 0, 0, 0, 0), TO(3, 2, 0, 0, 0, 0))),
 
     /* +6, destination and type are read at begin, a next offset in its descriptor's own turn; other turns'
        reports say nothing; bit 14 of +0 neither */
@@ -662,11 +650,7 @@ static const struct worked_case cases[] = {
          WORDS({0x42, 0x0001}, {0x44, 0x80}, {0x46, 0x0302}, {0x48, 0x0504}, {0x4A, 0x0706}, {0x82, 0x8002},
                {0x86, 0x0004}, {0x88, 0x0200}, DESCRIPTORS, BOARD),
          BOTH_DONE,
-         RECEIVING,
-         DROPPED(LQ_DROPPED_NO_MATCH, TO(2, 4, 4, 5, 6, 7), GOOD, NOTHING),
-         TURNED(WORDS({0x60, 0})),
-         CAME(TO(2, 3, 9, 9, 9, 9), GOOD, NOTHING),
-         TURNED(WORDS({0x60, 0x4000}))),
+         RECEIVING_ONE_OF(TO(2, 4, 4, 5, 6, 7), TO(2, 3, 9, 9, 9, 9))),
 
     /* "MC-Setup's addresses have that length": of five bytes two addresses of two, 03-02 and 05-02, and 07-03 is none
        of them */
@@ -674,22 +658,14 @@ static const struct worked_case cases[] = {
          WORDS({0x42, 0x0002}, {0x44, 0x80}, {0x46, 0x0004}, {0x48, 0x0200}, {0x82, 0x8003}, {0x86, 5},
                {0x88, 0x0203}, {0x8A, 0x0205}, {0x8C, 0x0307}, DESCRIPTORS, BOARD),
          BOTH_DONE,
-         RECEIVING,
-         DROPPED(LQ_DROPPED_NO_MATCH, TO(7, 3, 0, 0, 0, 0), GOOD, NOTHING),
-         TURNED(WORDS({0x60, 0})),
-         CAME(TO(5, 2, 9, 9, 9, 9), GOOD, NOTHING),
-         TURNED(WORDS({0x60, 0x4000}))),
+         RECEIVING_ONE_OF(TO(7, 3, 0, 0, 0, 0), TO(5, 2, 9, 9, 9, 9))),
 
     /* a filter outlives the length it was made by: 01-22 falls on the bit of 03-02-00-00-00-00, and 03-02 does not */
     CASE("bits outlive",
          WORDS({0x42, 0x0003}, {0x44, 0x80}, {0x46, 6}, {0x48, 0x0203}, {0x82, 0x8002}, {0x86, 0x0004},
                {0x88, 0x0200}, DESCRIPTORS, BOARD),
          BOTH_DONE,
-         RECEIVING,
-         DROPPED(LQ_DROPPED_NO_MATCH, TO(3, 2, 0, 0, 0, 0), GOOD, NOTHING),
-         TURNED(WORDS({0x60, 0})),
-         CAME(TO(1, 0x22, 0, 0, 0, 0), GOOD, NOTHING),
-         TURNED(WORDS({0x60, 0x4000}))),
+         RECEIVING_ONE_OF(TO(3, 2, 0, 0, 0, 0), TO(1, 0x22, 0, 0, 0, 0))),
 
     /* at length 0 "only promiscuous mode receives": all FFh is neither everyone's nor the own address, which is six
        FFh; received, its header is two bytes of type */

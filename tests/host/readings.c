@@ -237,11 +237,7 @@ static const struct worked_case cases[] = {
     /* the filter is no list: 01-0B-00-00-00-00 is not listed and passes by the bit of 03-02-00-00-00-00, which is */
     CASE("shared bit", WORDS({0x42, 0x8003}, {0x46, 6}, {0x48, 0x0203}, DESCRIPTORS, BOARD),
          CONFIGURED,
-         RECEIVING,
-         DROPPED(LQ_DROPPED_NO_MATCH, TO(3, 3, 0, 0, 0, 0), GOOD, NOTHING),
-         TURNED(WORDS({0x60, 0})),
-         CAME(TO(1, 0x0B, 0, 0, 0, 0), GOOD, NOTHING),
-         TURNED(WORDS({0x60, 0x4000}))),
+         RECEIVING_ONE_OF(TO(3, 3, 0, 0, 0, 0), TO(1, 0x0B, 0, 0, 0, 0))),
 
     /* every listed address sets its bit, 04-02-00-00-00-00 too, whose low bit is clear: 01-1A-00-00-00-00 shares it and
        passes */
@@ -262,11 +258,7 @@ static const struct worked_case cases[] = {
          COMMANDING,
          TURNED(NOTHING),
          STEP(WORDS({0x46, 12}, {0x48, 0}, {0x4E, 0x0203}), TURN(0), EDGE, WORDS({0x40, 0xA000}, {0x30, 0x2000}), HIGH),
-         RECEIVING,
-         DROPPED(LQ_DROPPED_NO_MATCH, TO(3, 3, 0, 0, 0, 0), GOOD, NOTHING),
-         TURNED(WORDS({0x60, 0})),
-         CAME(TO(3, 2, 0, 0, 0, 0), GOOD, NOTHING),
-         TURNED(WORDS({0x60, 0x4000}))),
+         RECEIVING_ONE_OF(TO(3, 3, 0, 0, 0, 0), TO(3, 2, 0, 0, 0, 0))),
 
     /* TDR, Dump and Diagnose, one behind the other */
     CASE("three more", WORDS({0x42, 0x0005}, {0x44, 0x50}, {0x52, 0x0006}, {0x54, 0x58}, {0x5A, 0x8007}, BOARD),
