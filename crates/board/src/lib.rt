@@ -1,5 +1,8 @@
 // The board of the replay program: one device record that is held for the whole run, and N. What a call on it leaves is said here, by the
 // exported calls' definitions, and needs none of their code; the room `calling` makes the calls. Every function takes every board.
+
+#![tactic(auto)]
+
 ghost use Rattle.std.specs.Prelude.{◌≡◌, min};
 ghost use Rattle.board.specs.Board as board;
 

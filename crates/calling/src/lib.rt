@@ -1,6 +1,9 @@
 // A line that is right is obeyed: a call that it makes is made on the board, as often as the line says, and each answer is put into a slice;
 // all else is the scene's. Memory, holding and outgoing area are lent whole; the first N bytes of memory go on to the front. It takes every
 // line, every board and slices of every length.
+
+#![tactic(auto)]
+
 ghost use Rattle.board.specs.Board.{call_of, exported_of};
 ghost use Rattle.board.specs.Front.{areas_with, Fronted};
 ghost use Rattle.scene.specs.Scene.{Plays, scene_of, called, calls_of, obeyed};

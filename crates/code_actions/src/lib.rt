@@ -1,5 +1,8 @@
 // The actions of the commands over lent bytes: what each reads from its block, puts into the setup or into memory, and its status.
 // It takes every memory and a setup's bytes; the definitions are those of the crate `actions`, in document 01's order.
+
+#![tactic(auto)]
+
 ghost use Rattle.std.specs.Prelude.{◌≡◌, ◌≤◌, ◌<◌, ◌^◌, length};
 ghost use Rattle.device.specs.Limits.{longest_address};
 ghost use Rattle.device.specs.Numbers.{action_of};

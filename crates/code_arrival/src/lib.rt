@@ -1,6 +1,9 @@
 // An arriving frame over numbers: how it is judged, whether the unit holds it, which counter goes up, and why it is dropped. An arrival assumes a
 // setup's bytes, and is made of a frame that has its header and matched. receive's specs/ say what is done, and specs/Arrives.antt that the
 // numbers afterwards are those.
+
+#![tactic(auto)]
+
 ghost use Rattle.std.specs.Prelude.{◌≡◌, ◌<◌, ◌≤◌, ◌^◌, length};
 ghost use Rattle.memory.specs.Memory.{apply};
 ghost use Rattle.device.specs.Answers.{counter_of, counts, is_held, reason_of};

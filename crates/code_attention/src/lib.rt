@@ -1,5 +1,8 @@
 // A channel attention over the units' numbers: the first after reset initialises, every other obeys the command word of the SCB.
 // It takes every memory and all numbers; specs/ says what comes of numbers that are a device's, in the words of the room attention.
+
+#![tactic(auto)]
+
 ghost use Rattle.std.specs.Prelude.{◌≡◌, false, [], ◌∷◌, ◌*◌, ◌<◌, length};
 ghost use Rattle.memory.specs.Address as addresses;
 ghost use Rattle.memory.specs.Memory as bytes;

@@ -1,5 +1,8 @@
 // The code of the calls, of which lentoquist offers C each by its name: refusals first, then the chip under the record's image. They take slices
 // of every length and every content. The room calls says what each answers and leaves in every lent byte.
+
+#![tactic(auto)]
+
 ghost use Rattle.std.specs.Prelude.{◌≡◌, ◌+◌, ◌*◌, ◌^◌, ◌<◌, ◌≤◌, length};
 ghost use Rattle.scb.specs.Words as words;
 ghost use Rattle.device.specs.Limits.{record_size};

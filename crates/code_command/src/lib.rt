@@ -1,5 +1,8 @@
 // The command unit over its numbers: one service, which begins a command, takes a buffer of a Transmit, or ends a command.
 // It takes every memory, every tag and word, and a setup's bytes; the definitions are those of the crate `command`, in the same order as here.
+
+#![tactic(auto)]
+
 ghost use Rattle.std.specs.Prelude.{◌≡◌, true, false, ◌+◌, ◌≤◌, ◌<◌, ◌^◌, length};
 ghost use Rattle.std.proofs.lemmas.List.Edits.{sets};
 ghost use Rattle.memory.specs.Address as address;

@@ -1,5 +1,8 @@
 // The control codes over the units' numbers: where CUC and RUC take a unit, and what an abort writes.
 // It takes every memory and all numbers; specs/ says what comes of numbers that are a unit's, in the words of the room control.
+
+#![tactic(auto)]
+
 ghost use Rattle.std.specs.Prelude.{◌≡◌, ◌<◌};
 ghost use Rattle.memory.specs.Memory as bytes;
 ghost use Rattle.scb.specs.Words as words;

@@ -1,5 +1,8 @@
 // Is this frame for us: the one question that an arrival asks of the settings, the own address and the filter, which are lent as the record
 // keeps them. It assumes all their bytes, and a frame that has an address. filter's Match says the answer.
+
+#![tactic(auto)]
+
 ghost use Rattle.std.specs.Prelude.{◌≡◌, ◌≤◌, ◌<◌, length, take};
 ghost use Rattle.hash.specs.Hash.{hash};
 ghost use Rattle.device.specs.Limits.{longest_address, filter_bits};

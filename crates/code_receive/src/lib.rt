@@ -1,5 +1,8 @@
 // The receive unit over numbers: one service, which begins a held frame, fills a buffer, or ends the frame. It assumes nothing. receive's specs/
 // say what is done, and specs/Receives.antt that the numbers afterwards are those. The room code_arrival has what comes before.
+
+#![tactic(auto)]
+
 ghost use Rattle.std.specs.Prelude.{◌≡◌, cond, ◌-◌, ◌%◌, ◌<◌, ◌≤◌, ◌^◌, min};
 ghost use Rattle.memory.specs.Address.{is_none, place};
 ghost use Rattle.memory.specs.Memory.{apply};

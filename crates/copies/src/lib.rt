@@ -1,5 +1,8 @@
 // Copies between shared memory and other slices, by stretches: bytes up to the end of memory are one run, and those behind it are a run from
 // its start. They take every length and index; the last, for a few bytes, take up to 16.
+
+#![tactic(auto)]
+
 ghost use Rattle.std.specs.Prelude.{◌≡◌, ◌-◌, ◌≤◌, ◌<◌, length, take, drop};
 ghost use Rattle.std.proofs.lemmas.List.Edits.{sets};
 ghost use Rattle.memory.specs.Memory.{bytes_at, put_bytes};

@@ -1,6 +1,9 @@
 // The device's state and what a call answers, as the types that the definitions speak of. The code that C runs carries a state as the numbers
 // of the room packed; specs/ has what is known of a state, the changes that the rules make to it and the paper's numbers. Nothing is kept modulo
 // N, since N may differ from call to call.
+
+#![tactic(auto)]
+
 ghost use Rattle.std.specs.Prelude.{◌≡◌};
 ghost use Rattle.device.specs.Numbers as numbers;
 

@@ -1,5 +1,8 @@
 // What the replay program says of a bad line (docs/replay.md, "Bad input"): where it went wrong and what was expected, put into a slice as texts
 // puts its texts.
+
+#![tactic(auto)]
+
 ghost use Rattle.texts.specs.Texts.{Puts};
 ghost use Rattle.faults.specs.Faults as faults;
 

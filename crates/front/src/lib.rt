@@ -1,6 +1,9 @@
 // The thin front: attention and arrival on one device record that is lent and changed in place; the third, turn, is in the room `turning`.
 // Each hands the record by value to the core, which is the call that C makes, and stores the record that it gives. Above each stands a
 // lender, for a program that holds its record by value: it lends it for one call and gives it back. Reset goes by value alone.
+
+#![tactic(auto)]
+
 ghost use Rattle.calls.specs.Calls as calls;
 ghost use Rattle.board.specs.Front as front;
 

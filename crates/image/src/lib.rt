@@ -1,5 +1,8 @@
 // The 256 bytes of the device record: which bytes are the image of a state in range, the numbers of that state, and writing them back.
 // Where everything stands is `packed`'s to say. `is_image` asks for 256 bytes; the others take a slice of every length.
+
+#![tactic(auto)]
+
 ghost use Rattle.std.specs.Prelude.{cond, ◌≡◌, leb, length};
 ghost use Rattle.device.specs.Limits.{record_size};
 ghost use Rattle.device.specs.State as device;

@@ -1,5 +1,8 @@
 // The five calls that C links, each one call of code_calls. They take slices of every length and every content. The room calls says what each
 // answers and leaves in every lent byte.
+
+#![tactic(auto)]
+
 ghost use Rattle.calls.specs.Calls as calls;
 
 use code_calls::Asked;

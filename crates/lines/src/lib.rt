@@ -1,6 +1,9 @@
 // Reads a list of calls, character by character, and says what each line asks for. docs/replay.md has the forms.
 // A line is read by an automaton, so a stretch of input behind a stretch is read as both at once. The bytes that a line brings, or its text, go
 // to a slice that is lent beside it; what would pass its end goes nowhere. It takes every slice and every reader.
+
+#![tactic(auto)]
+
 ghost use Rattle.std.specs.Prelude.{◌≡◌};
 ghost use Rattle.lines.specs.Reader as reader;
 

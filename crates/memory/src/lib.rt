@@ -1,6 +1,9 @@
 // Shared memory: bytes, words and real addresses in a slice of any length, each address taken modulo that length, byte by byte.
 // The only room that makes a real address. All that the chip reads and writes in shared memory goes through here or through copies, which
 // stands on slot, room and copy_run; the replay program's host goes by an index, with put_run in scene, and with its own reads in texts.
+
+#![tactic(auto)]
+
 ghost use Rattle.std.specs.Prelude.{◌≡◌, ◌+◌, ◌-◌, ◌*◌, ◌%◌, ◌<◌, ◌≤◌, min, [], ◌∷◌, length, take, drop};
 ghost use Rattle.std.proofs.lemmas.List.Edits.{sets};
 ghost use Rattle.memory.specs.Memory.{byte_at, put_byte, word_at, put_bytes, digits};
@@ -8,11 +11,11 @@ ghost use Rattle.memory.specs.Address.{place, beyond, offset_at, is_none, addres
 ghost use Rattle.memory.specs.Size.{size_allowed};
 
 // The distance from the SCB base.
-#[derive(Drop)]
+#[derive(Clone, Copy)]
 pub struct Offset(pub u16);
 
 // An address of 24 bits.
-#[derive(Drop)]
+#[derive(Clone, Copy)]
 pub struct RealAddress(pub u32);
 
 // Whether an offset stands for none.

@@ -1,5 +1,8 @@
 // Numbers at places of a slice, the low byte first. It knows no record, and asks that what it reads or writes lies
 // in the slice.
+
+#![tactic(auto)]
+
 ghost use Rattle.std.specs.Prelude.{◌≡◌, ◌+◌, ◌*◌, ◌<◌, ◌≤◌, eqb, length, replicate};
 ghost use Rattle.std.proofs.lemmas.List.Edits.{sets};
 ghost use Rattle.memory.specs.Memory.{digits};

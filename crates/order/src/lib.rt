@@ -1,1 +1,3 @@
 // What is ordered of the builder.
+
+#![tactic(auto)]

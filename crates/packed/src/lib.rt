@@ -2,6 +2,9 @@
 // the commands set up. It reads a field where one is needed and puts a unit back; specs/Packed.antt says which numbers are a state's, specs/SetUp.antt
 // which bytes a setup's. The units' tags and words are in `cu` and `ru`, a frame's form in `form`, a setup's places in `setup`, the record's in
 // `record`.
+
+#![tactic(auto)]
+
 pub mod cu;
 pub mod form;
 pub mod record;

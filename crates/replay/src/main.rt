@@ -1,6 +1,9 @@
 // Replays a list of calls and host writes, from the file that its argument names or from standard input, and prints each answer.
 // docs/replay.md has the forms. What is done with the input is `running`'s; here it is run stretch by stretch, and what each prints is written
 // out. A program has no exit status: if anything went wrong, and only then, the error stream has a line.
+
+#![tactic(auto)]
+
 ghost use Rattle.std.specs.Prelude.{◌≡◌, length};
 ghost use Rattle.printing.specs.Line.{program_room};
 

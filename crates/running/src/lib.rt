@@ -1,6 +1,9 @@
 // A run of the replay program: characters are read, and at each line's end what was read is obeyed. docs/replay.md has the forms. A session
 // goes in and comes out, so a run in stretches is a run of the whole. It takes every session, slices of every length, and a stretch in which
 // at most one line ends.
+
+#![tactic(auto)]
+
 ghost use Rattle.std.specs.Prelude.{◌≤◌};
 ghost use Rattle.session.specs.Run.{Runs};
 ghost use Rattle.session.specs.Run as run;

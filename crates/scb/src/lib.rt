@@ -1,5 +1,8 @@
 // The words of the SCB: what its command word says, and where a control code takes a unit. It takes every word, and asks for a state's number
 // where a table has a place for each; specs/ says how the status word is made, which the room code_attention does.
+
+#![tactic(auto)]
+
 ghost use Rattle.std.specs.Prelude.{◌≡◌, ◌<◌};
 ghost use Rattle.scb.specs.Words as words;
 ghost use Rattle.scb.specs.Control as control;

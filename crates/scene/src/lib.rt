@@ -1,6 +1,9 @@
 // What one line does: which call it makes and how often, what the host writes, what is shown and said; and the texts that it prints are put
 // into a slice. docs/replay.md has the forms. The calls themselves are made in the room `calling`. It takes every line, every board and slices
 // of every length.
+
+#![tactic(auto)]
+
 ghost use Rattle.std.specs.Prelude.{◌≡◌, List, ℕ};
 ghost use Rattle.board.specs.Board as board;
 ghost use Rattle.texts.specs.Texts.{Puts};

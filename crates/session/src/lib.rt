@@ -1,5 +1,8 @@
 // A session of the replay program: the board, the reader of a line, and where the next text goes; what a line's end makes of it. What a run
 // is, character by character, is said here, and needs no code of the calls; the room `running` runs it. Every function takes every session.
+
+#![tactic(auto)]
+
 ghost use Rattle.std.specs.Prelude.{◌≡◌, ℕ, min, List};
 ghost use Rattle.lines.specs.Reader as lines;
 ghost use Rattle.session.specs.Run.{Runs};

@@ -1,6 +1,9 @@
 // What the replay program reads and writes, and where it cuts: the input comes in pieces, a stretch ends where a line does, and what a session
 // has put is written out, answers to standard output and a fault to the error stream. Nothing is run here. What goes wrong with either is told
 // on the error stream, and ends the run.
+
+#![tactic(auto)]
+
 ghost use Rattle.std.specs.Prelude.{◌⊎◌, ◌≡◌, ◌-◌, ◌<◌, ◌≤◌, length, take, drop};
 ghost use Rattle.session.specs.Run.{halted};
 ghost use Rattle.printing.specs.Run.{newlines};

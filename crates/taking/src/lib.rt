@@ -1,5 +1,8 @@
 // A word that has been read is taken by its line, as what the line wants there, or it is what is wrong. docs/replay.md has the forms. The bytes
 // that it brings go to a slice; what would pass its end goes nowhere. It takes every slice, every word and every line.
+
+#![tactic(auto)]
+
 ghost use Rattle.std.specs.Prelude.{◌≡◌};
 ghost use Rattle.wording.specs.Take as take;
 

@@ -1,5 +1,8 @@
 // What the replay program prints (docs/replay.md), as text: numbers, answers and stretches of memory, put one behind the other into a slice. Each
 // function answers where the next text goes. What would pass the slice's end goes nowhere, and the place stays at the end.
+
+#![tactic(auto)]
+
 ghost use Rattle.std.specs.Prelude.{◌≡◌, [], ◌∷◌, ◌++◌, ◌+◌, ◌-◌, ◌%◌, min, get_or};
 ghost use Rattle.texts.specs.Codes.{codes};
 ghost use Rattle.texts.specs.Texts.{Puts};

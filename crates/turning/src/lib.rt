@@ -1,5 +1,8 @@
 // The thin front, as in the room `front`: turn, on one device record that is lent and changed in place, with its core and its lender; and a
 // run of turns, which goes by value.
+
+#![tactic(auto)]
+
 ghost use Rattle.calls.specs.Calls as calls;
 ghost use Rattle.board.specs.Front as front;
 

@@ -1,6 +1,9 @@
 // The words of a list of calls: how a word is read, character by character, as a name, a number or a piece of bytes; and, in specs/, what a
 // line's words must be and what each makes of its line. docs/replay.md has the forms. The bytes that a line brings go to a slice that is lent
 // beside it; what would pass its end goes nowhere. It takes every slice, every word and every line.
+
+#![tactic(auto)]
+
 ghost use Rattle.std.specs.Prelude.{◌≡◌, ◌-◌, min, set, replicate};
 ghost use Rattle.std.proofs.lemmas.List.Edits.{sets};
 ghost use Rattle.wording.specs.Chars as chars;

@@ -1,4 +1,7 @@
 // For bench/ alone: the record's decoding and writing back, as calls that C can count. The product's archive has none of this.
+
+#![tactic(auto)]
+
 ghost use Rattle.std.specs.Prelude.{◌≡◌};
 ghost use Rattle.image.specs.Image as image;
 ghost use Rattle.yardstick.specs.Yardstick as yardstick;
