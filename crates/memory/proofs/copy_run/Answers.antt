@@ -1,5 +1,5 @@
 -- `memory::copy_run` meets its contract: what one turn of the loop adds. Assumes nothing.
-use Rattle.std.proofs.Common.{◌+◌, ◌<◌, length, le_antisymm, rules, arith}
+use Rattle.std.proofs.Common.{◌+◌, ◌<◌, length, rules, arith}
 use Rattle.memory.proofs.Laws.{run_step}
 use Rattle.memory.proofs.copy_run.Goals as goal
 

@@ -18,5 +18,5 @@ returns-else-n-le16777216 c =
           let above : 16777216 < c.args.n = omega (arith, w.if-n-ge8192.true, c.if-n-le16777216.either) in
           rw (le-leb 8192 c.args.n w.if-n-ge8192.true, lt-leb c.args.n 16777216 above) (w.t-3-is ∙ lt-leb c.args.n 16777216 above)
       | else-n-ge8192 w ↦
-          rw lt-leb 8192 c.args.n w.if-n-ge8192.false (w.t-3-is ∙ lt-leb 8192 c.args.n w.if-n-ge8192.false)
+          rw (lt-leb 8192 c.args.n w.if-n-ge8192.false) (w.t-3-is ∙ lt-leb 8192 c.args.n w.if-n-ge8192.false)
     ]
