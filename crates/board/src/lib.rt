@@ -14,34 +14,34 @@ const EVENTS: usize = 5;
 const START: usize = 1 << 16;
 
 // The device record.
-#[derive(Drop)]
+#[derive(Clone, Copy)]
 pub struct Record {
     pub bytes: [u8; RECORD],
 }
 
 // What a call gives back to a program that holds its record by value: the record, and the answer as one number.
-#[derive(Drop)]
+#[derive(Clone, Copy)]
 pub struct Returned {
     pub kept: Record,
     pub answer: u64,
 }
 
 // The device record; N.
-#[derive(Drop)]
+#[derive(Clone, Copy)]
 pub struct Board {
     pub kept: Record,
     pub size: usize,
 }
 
 // A board after a call, and the call's answer as one number.
-#[derive(Drop)]
+#[derive(Clone, Copy)]
 pub struct Said {
     pub board: Board,
     pub answer: u64,
 }
 
 // The calls.
-#[derive(Drop)]
+#[derive(Clone, Copy)]
 pub enum Which {
     Reset,
     Attention,
@@ -52,7 +52,7 @@ pub enum Which {
 
 // The call that a line makes, how often it makes it, and the numbers that go with it: an arrival's verdict, the report of a turn or a run,
 // a run's budget.
-#[derive(Drop)]
+#[derive(Clone, Copy)]
 pub struct Asked {
     pub which: Which,
     pub times: u16,

@@ -4,7 +4,7 @@
 #![tactic(auto)]
 
 // The unit that a turn serves.
-#[derive(Drop)]
+#[derive(Clone, Copy)]
 pub enum Served {
     Neither,
     CommandUnit,

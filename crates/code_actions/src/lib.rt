@@ -61,7 +61,7 @@ const SAVE_BAD: u8 = 1 << 7;
 const MODES: u8 = 1 << 2;
 
 // What an action comes to besides the lent bytes: the status, the length sent.
-#[derive(Drop)]
+#[derive(Clone, Copy)]
 pub struct Done {
     pub status: u16,
     pub length: u16,

@@ -153,7 +153,7 @@ pub fn count(memory: &mut [u8], base: RealAddress, scb: Offset, counter: u16)
 }
 
 // What an arrival comes to, besides the lent bytes: the numbers afterwards, and why the frame was dropped.
-#[derive(Drop)]
+#[derive(Clone, Copy)]
 pub struct Arrived {
     pub packed: Packed,
     pub reason: Reason,

@@ -275,7 +275,7 @@ fn initialised(k: Packed) -> bool
 // ---- an attention
 
 // The units after an attention, and whether it reports an edge. It sends nothing.
-#[derive(Drop)]
+#[derive(Clone, Copy)]
 pub struct Attended {
     pub packed: Packed,
     pub edge: bool,

@@ -191,7 +191,7 @@ pub fn reset(kept: &mut [u8]) -> u64
 }
 
 // What is asked of the chip.
-#[derive(Drop)]
+#[derive(Clone, Copy)]
 pub enum Asked {
     Attention,
     Arrival,

@@ -17,7 +17,7 @@ use packed::{Packed, cu, form, ru, setup};
 
 // What a turn comes to, besides the lent bytes; `told` is the length that it sent, with TOLD_EDGE above it if it reports an edge. A turn that sends a
 // frame, reports an edge or has no work ends a run.
-#[derive(Drop)]
+#[derive(Clone, Copy)]
 pub struct Turned {
     pub packed: Packed,
     pub told: u32,
@@ -25,7 +25,7 @@ pub struct Turned {
 }
 
 // What turns in a row come to: what the last one told, and how many were taken.
-#[derive(Drop)]
+#[derive(Clone, Copy)]
 pub struct Turns {
     pub packed: Packed,
     pub told: u32,

@@ -23,7 +23,7 @@ use memory::{Offset, RealAddress};
 use packed::{cu, form, setup};
 
 // What a service comes to besides the lent bytes: the unit's tag and word, the events as a number below 16, the length sent.
-#[derive(Drop)]
+#[derive(Clone, Copy)]
 pub struct Commanded {
     pub tag: u64,
     pub word: u64,

@@ -71,7 +71,7 @@ fn first_of(
 // ---- the command unit
 
 // The command unit after a control code.
-#[derive(Drop)]
+#[derive(Clone, Copy)]
 pub struct CuObeyed {
     pub tag: u64,
     pub word: u64,
@@ -157,7 +157,7 @@ pub fn obey_cuc(
 // ---- the receive unit
 
 // The receive unit after a control code.
-#[derive(Drop)]
+#[derive(Clone, Copy)]
 pub struct RuObeyed {
     pub tag: u64,
     pub word: u64,

@@ -25,7 +25,7 @@ use memory::{Offset, RealAddress};
 use packed::{form, ru};
 
 // What a service comes to, besides the lent bytes: the unit as its tag and words, and the events that came up.
-#[derive(Drop)]
+#[derive(Clone, Copy)]
 pub struct Received {
     pub tag: u64,
     pub word: u64,

@@ -6,7 +6,7 @@
 use memory::{Offset, RealAddress};
 
 // A Transmit's buffer descriptor.
-#[derive(Drop)]
+#[derive(Clone, Copy)]
 struct Descriptor {
     eof: bool,
     count: u16,

@@ -13,7 +13,7 @@ use scb::Events;
 // ---- the command unit
 
 // What a begun command does at its end. Transmit is not among them: it has phases of its own.
-#[derive(Drop)]
+#[derive(Clone, Copy)]
 pub enum Action {
     Nop,
     IaSetup,
@@ -25,7 +25,7 @@ pub enum Action {
 }
 
 // A begun command: its block, what its command word said, and whether a SUSPEND waits for its end.
-#[derive(Drop)]
+#[derive(Clone, Copy)]
 pub struct Begun {
     pub block: Offset,
     pub el: bool,
@@ -35,7 +35,7 @@ pub struct Begun {
 }
 
 // A walk along buffer descriptors: the next one, how many were used, and how many bytes of the frame are done.
-#[derive(Drop)]
+#[derive(Clone, Copy)]
 pub struct Walk {
     pub next: Offset,
     pub used: u8,
@@ -44,7 +44,7 @@ pub struct Walk {
 
 // The command unit: Idle; Suspended before a block; Active at a block that is not begun; a begun command whose end is next; a
 // Transmit at its descriptors; a Transmit whose end is next, with so many bytes in the outgoing area; one that will not be sent.
-#[derive(Drop)]
+#[derive(Clone, Copy)]
 pub enum Cu {
     Idle,
     Suspended(Offset),
@@ -58,7 +58,7 @@ pub enum Cu {
 // ---- the receive unit
 
 // The line side's verdict on an arriving frame.
-#[derive(Drop)]
+#[derive(Clone, Copy)]
 pub enum Verdict {
     Good,
     Crc,
@@ -66,14 +66,14 @@ pub enum Verdict {
 }
 
 // The form of a frame's header: the address length, and whether the address location is 1, by which the header goes through buffers as data does.
-#[derive(Drop)]
+#[derive(Clone, Copy)]
 pub struct Form {
     pub length: u8,
     pub location: bool,
 }
 
 // A held frame, as it was judged at its arrival, with the form that was in force then.
-#[derive(Drop)]
+#[derive(Clone, Copy)]
 pub struct Frame {
     pub length: u16,
     pub verdict: Verdict,
@@ -83,7 +83,7 @@ pub struct Frame {
 }
 
 // A held frame whose storing is begun: its descriptor, what that said, and whether a SUSPEND waits for its end.
-#[derive(Drop)]
+#[derive(Clone, Copy)]
 pub struct Storing {
     pub fd: Offset,
     pub el: bool,
@@ -94,7 +94,7 @@ pub struct Storing {
 
 // The receive unit: Idle; No Resources; Suspended or Ready before a frame descriptor; with a frame held and perhaps a SUSPEND
 // waiting; storing into buffers; all stored, with the next free offset and whether the last buffer used had EL; out of buffers.
-#[derive(Drop)]
+#[derive(Clone, Copy)]
 pub enum Ru {
     Idle,
     NoResources,
@@ -109,7 +109,7 @@ pub enum Ru {
 // ---- the device
 
 // What Configure sets, as far as it acts.
-#[derive(Drop)]
+#[derive(Clone, Copy)]
 pub struct Settings {
     pub savebad: bool,
     pub promiscuous: bool,
@@ -119,7 +119,7 @@ pub struct Settings {
 }
 
 // All of the state but the own address and the filter. `rulast`: the receive unit was served at the last working turn.
-#[derive(Drop)]
+#[derive(Clone, Copy)]
 pub struct Units {
     pub initialised: bool,
     pub base: RealAddress,
@@ -133,7 +133,7 @@ pub struct Units {
 
 // The state. `filter` is 64 bits: bit k is set exactly if the last MC-Setup since reset brought an address that falls
 // on it.
-#[derive(Drop)]
+#[derive(Clone, Copy)]
 pub struct Device {
     pub units: Units,
     pub own: [u8; 6],
@@ -143,7 +143,7 @@ pub struct Device {
 // ---- what a call answers
 
 // Why a call is refused: a case for each row of the table of refusals.
-#[derive(Drop)]
+#[derive(Clone, Copy)]
 pub enum Refusal {
     Accepted,
     Memory,
@@ -155,7 +155,7 @@ pub enum Refusal {
 }
 
 // Why an arriving frame was dropped, in the order of the rules; or that it was not: it is held, or lost and counted by OVRNERRS or RSCERRS.
-#[derive(Drop)]
+#[derive(Clone, Copy)]
 pub enum Reason {
     NotDropped,
     TooFew,
@@ -166,7 +166,7 @@ pub enum Reason {
 }
 
 // An answer: the number, the length sent, whether an interrupt edge is reported, and why an arriving frame was dropped.
-#[derive(Drop)]
+#[derive(Clone, Copy)]
 pub struct Answer {
     pub number: Refusal,
     pub length: u16,
@@ -175,7 +175,7 @@ pub struct Answer {
 }
 
 // The SCB's error counters, or none of them.
-#[derive(Drop)]
+#[derive(Clone, Copy)]
 pub enum Counter {
     Uncounted,
     Crc,
@@ -185,7 +185,7 @@ pub enum Counter {
 }
 
 // What a call makes of a frame: first the fates of an arriving one, in the order of the rules, then those of a held one.
-#[derive(Drop)]
+#[derive(Clone, Copy)]
 pub enum Fate {
     TooFew,
     NoMatch,

@@ -7,7 +7,7 @@ ghost use Rattle.texts.specs.Texts.{Puts};
 ghost use Rattle.faults.specs.Faults as faults;
 
 // What was expected where a line went wrong.
-#[derive(Drop)]
+#[derive(Clone, Copy)]
 pub enum Expected {
     First,
     Number,

@@ -16,7 +16,7 @@ ghost use Rattle.image.specs.Numbers as numbers;
 use packed::{Packed, cu, form, record, ru, setup};
 
 // What a record is found to be.
-#[derive(Drop)]
+#[derive(Clone, Copy)]
 pub enum Decoded {
     Units(Packed),
     Foreign,

@@ -10,7 +10,7 @@ ghost use Rattle.lines.specs.Reader as reader;
 use wording::{Fault, Line, Taken, Want, Word, Wrong};
 
 // Where in a line a character stands.
-#[derive(Drop)]
+#[derive(Clone, Copy)]
 pub enum Part {
     Between,
     Word,
@@ -19,7 +19,7 @@ pub enum Part {
 }
 
 // The reader: where it stands, the column of the next character, the column behind the last word, the word, the line.
-#[derive(Drop)]
+#[derive(Clone, Copy)]
 pub struct Reader {
     pub part: Part,
     pub column: u32,

@@ -27,7 +27,7 @@ ghost use Rattle.packed.specs.Packed as packed;
 use memory::{Offset, RealAddress};
 
 // The status: events, marks, the units' tags, the SCB's offset, the base. Then the command unit's word, and the receive unit's two.
-#[derive(Drop)]
+#[derive(Clone, Copy)]
 pub struct Packed {
     pub status: u64,
     pub cu: u64,

@@ -4,7 +4,7 @@
 #![tactic(auto)]
 
 // A unit's eight bytes: an offset, six flags, a small number, a size, and another offset.
-#[derive(Drop)]
+#[derive(Clone, Copy)]
 pub struct Word {
     pub at: u16,
     pub first: bool,

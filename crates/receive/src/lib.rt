@@ -7,7 +7,7 @@
 use memory::{Offset, RealAddress};
 
 // A receive buffer descriptor, as far as it is read: the next one, its buffer, whether it is the last one, and the buffer's size.
-#[derive(Drop)]
+#[derive(Clone, Copy)]
 pub struct Descriptor {
     pub next: Offset,
     pub buffer: RealAddress,

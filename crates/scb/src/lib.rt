@@ -11,7 +11,7 @@ ghost use Rattle.scb.specs.declared.CuState.{CuState};
 ghost use Rattle.scb.specs.declared.RuState.{RuState};
 
 // The command unit's state, CUS.
-#[derive(Drop)]
+#[derive(Clone, Copy)]
 pub enum CuState {
     Idle,
     Suspended,
@@ -19,7 +19,7 @@ pub enum CuState {
 }
 
 // The receive unit's state, RUS.
-#[derive(Drop)]
+#[derive(Clone, Copy)]
 pub enum RuState {
     Idle,
     Suspended,
@@ -28,7 +28,7 @@ pub enum RuState {
 }
 
 // The events that stand in bits 15 to 12 of the status.
-#[derive(Drop)]
+#[derive(Clone, Copy)]
 pub struct Events {
     pub cx: bool,
     pub fr: bool,

@@ -14,14 +14,14 @@ use board::{Asked, Board, Said, Which};
 use wording::{Area, Line, Verb};
 
 // The board, and where the next text goes.
-#[derive(Drop)]
+#[derive(Clone, Copy)]
 pub struct Play {
     pub board: Board,
     pub at: usize,
 }
 
 // What a line is for that makes no call: another size of memory, a host write, or what it prints, which may be nothing.
-#[derive(Drop)]
+#[derive(Clone, Copy)]
 pub enum Part {
     Size,
     Write,
@@ -29,7 +29,7 @@ pub enum Part {
 }
 
 // A line makes a call, or it is the host's alone.
-#[derive(Drop)]
+#[derive(Clone, Copy)]
 pub enum Deed {
     Call(Which),
     Host(Part),

@@ -16,7 +16,7 @@ use wording::Wrong;
 
 // The board; where the next text goes; the number of the line that is being read; its reader; whether it has stopped, as it does at a line that
 // is wrong.
-#[derive(Drop)]
+#[derive(Clone, Copy)]
 pub struct Session {
     pub board: Board,
     pub at: usize,

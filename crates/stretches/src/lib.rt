@@ -61,7 +61,7 @@ pub fn write_out(s: Session, out: &[u8]) -> Session
 }
 
 // A piece of input: how many bytes it has, and whether it is the last.
-#[derive(Drop)]
+#[derive(Clone, Copy)]
 pub struct Piece {
     pub length: usize,
     pub last: bool,

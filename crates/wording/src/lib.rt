@@ -12,7 +12,7 @@ ghost use Rattle.wording.specs.Spelling as words;
 ghost use Rattle.wording.specs.Lines as lines;
 
 // What a line does, by its first word.
-#[derive(Drop)]
+#[derive(Clone, Copy)]
 pub enum Verb {
     Nothing,
     Size,
@@ -30,7 +30,7 @@ pub enum Verb {
     Say,
 }
 
-#[derive(Drop)]
+#[derive(Clone, Copy)]
 pub enum Area {
     Memory,
     Holding,
@@ -38,7 +38,7 @@ pub enum Area {
 }
 
 // What was expected where a line went wrong; `Nothing` while it is right.
-#[derive(Drop)]
+#[derive(Clone, Copy)]
 pub enum Wrong {
     Nothing,
     First,
@@ -53,7 +53,7 @@ pub enum Wrong {
 }
 
 // What the next word must be.
-#[derive(Drop)]
+#[derive(Clone, Copy)]
 pub enum Want {
     First,
     Size,
@@ -68,7 +68,7 @@ pub enum Want {
 }
 
 // What a word is that must be a number.
-#[derive(Drop)]
+#[derive(Clone, Copy)]
 pub enum Found {
     Number(u64),
     Other,
@@ -76,7 +76,7 @@ pub enum Found {
 
 // The digits of a word, read both ways: as decimal, and as hex with an h behind it. `any`: there are some; `tens`, `sixteens`: all of them are
 // decimal, hex digits; `closed`: hex digits and then an h.
-#[derive(Drop)]
+#[derive(Clone, Copy)]
 pub struct Digits {
     pub any: bool,
     pub decimal: u64,
@@ -87,7 +87,7 @@ pub struct Digits {
 }
 
 // A piece of bytes. `stored`: bytes of it so far; `half`: a digit that waits for its second, or the byte that is repeated; `stage`: what is next.
-#[derive(Drop)]
+#[derive(Clone, Copy)]
 pub struct Piece {
     pub stored: u32,
     pub times: u64,
@@ -96,7 +96,7 @@ pub struct Piece {
 }
 
 // A first digit; a second; after COUNTx a first digit, a second; nothing more; it is no piece.
-#[derive(Drop)]
+#[derive(Clone, Copy)]
 pub enum Stage {
     High,
     Low,
@@ -107,7 +107,7 @@ pub enum Stage {
 }
 
 // The word that is being read: the column of its first character, its letters as one number, its digits, its piece.
-#[derive(Drop)]
+#[derive(Clone, Copy)]
 pub struct Word {
     pub start: u32,
     pub letters: u64,
@@ -116,7 +116,7 @@ pub struct Word {
 }
 
 // What a line brought so far: its verb, how many further words, the area, two numbers, the bytes stored, the column of the place.
-#[derive(Drop)]
+#[derive(Clone, Copy)]
 pub struct Line {
     pub verb: Verb,
     pub taken: u32,
@@ -128,7 +128,7 @@ pub struct Line {
 }
 
 // What is wrong, and the column.
-#[derive(Drop)]
+#[derive(Clone, Copy)]
 pub struct Fault {
     pub wrong: Wrong,
     pub column: u32,
@@ -254,7 +254,7 @@ pub fn verb_of(letters: u64) -> Verb
 }
 
 // An area, or none.
-#[derive(Drop)]
+#[derive(Clone, Copy)]
 pub enum Named {
     Area(Area),
     Other,
@@ -564,7 +564,7 @@ pub fn is_verb(verb: Verb) -> bool
 }
 
 // What a word makes of its line, and what is wrong with it.
-#[derive(Drop)]
+#[derive(Clone, Copy)]
 pub struct Taken {
     pub line: Line,
     pub fault: Fault,
