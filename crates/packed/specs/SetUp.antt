@@ -42,11 +42,11 @@ settings_at = 0
 abbrev pub minimum_at : ℕ
 minimum_at = 1
 
-abbrev pub field_own : ℕ
-field_own = 2
+abbrev pub own_at : ℕ
+own_at = 2
 
 abbrev pub filter_at : ℕ
-filter_at = field_own + longest_address
+filter_at = own_at + longest_address
 
 abbrev pub setup_size : ℕ
 setup_size = filter_at + filter_size
