@@ -1,4 +1,4 @@
--- `words::put16` meets its contract. Assumes nothing.
+-- `numerals::put16` meets its contract. Assumes nothing.
 use native.Mathlib.Numerals.{add-one}
 use Rattle.memory.specs.Memory.{digits}
 use borrow.Author.Rules.{rules}

@@ -1,4 +1,4 @@
--- `words::put24` meets its contract: two bytes, then the third. Assumes nothing.
+-- `numerals::put24` meets its contract: two bytes, then the third. Assumes nothing.
 use Rattle.numerals.proofs.Laws.{put_parts}
 use Rattle.memory.specs.Memory.{digits}
 use borrow.Author.Rules.{rules}

@@ -1,4 +1,4 @@
--- `words::put32` meets its contract: two bytes, then two more. Assumes nothing.
+-- `numerals::put32` meets its contract: two bytes, then two more. Assumes nothing.
 use Rattle.numerals.proofs.Laws.{put_parts}
 use borrow.Author.Rules.{rules}
 use Rattle.numerals.proofs.put32.Statement.{statement}

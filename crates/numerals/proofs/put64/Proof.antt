@@ -1,4 +1,4 @@
--- `words::put64` meets its contract: four bytes, then four more. Assumes nothing.
+-- `numerals::put64` meets its contract: four bytes, then four more. Assumes nothing.
 use Rattle.numerals.proofs.Laws.{put_parts}
 use borrow.Author.Rules.{rules}
 use Rattle.numerals.proofs.put64.Statement.{statement}

@@ -1,4 +1,4 @@
--- `words::put8` meets its contract: a byte is its own digit. Assumes nothing.
+-- `numerals::put8` meets its contract: a byte is its own digit. Assumes nothing.
 use mathlib.Core.Path.{◌≡◌}
 use Prim.Native.Nat.{◌%◌}
 use native.Mathlib.Omega.{arith}

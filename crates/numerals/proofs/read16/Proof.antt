@@ -1,4 +1,4 @@
--- `words::read16` meets its contract. Assumes nothing.
+-- `numerals::read16` meets its contract. Assumes nothing.
 use Rattle.numerals.proofs.Laws.{two}
 use borrow.Author.Rules.{rules}
 use Rattle.numerals.proofs.read16.Statement.{statement}

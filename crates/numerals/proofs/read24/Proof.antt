@@ -1,4 +1,4 @@
--- `words::read24` meets its contract. Assumes nothing.
+-- `numerals::read24` meets its contract. Assumes nothing.
 use Rattle.numerals.proofs.Laws.{three}
 use borrow.Author.Rules.{rules}
 use Rattle.numerals.proofs.read24.Statement.{statement}

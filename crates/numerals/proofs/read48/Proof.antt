@@ -1,4 +1,4 @@
--- `words::read48` meets its contract. Assumes nothing.
+-- `numerals::read48` meets its contract. Assumes nothing.
 use Rattle.numerals.proofs.Laws.{halves}
 use borrow.Author.Rules.{rules}
 use Rattle.numerals.proofs.read48.Statement.{statement}

@@ -1,4 +1,4 @@
--- `words::read8` meets its contract. Assumes nothing.
+-- `numerals::read8` meets its contract. Assumes nothing.
 use Rattle.numerals.proofs.Laws.{one}
 use borrow.Author.Rules.{rules}
 use Rattle.numerals.proofs.read8.Statement.{statement}
