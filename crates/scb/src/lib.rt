@@ -1,5 +1,8 @@
 // The words of the SCB: what its command word says, and where a control code takes a unit. It takes every word, and asks for a state's number
 // where a table has a place for each; specs/ says how the status word is made, which the room code_attention does.
+
+#![tactic(auto)]
+
 ghost use Rattle.std.specs.Prelude.{◌≡◌, ◌<◌};
 ghost use Rattle.scb.specs.Words as words;
 ghost use Rattle.scb.specs.Control as control;
@@ -8,7 +11,7 @@ ghost use Rattle.scb.specs.declared.CuState.{CuState};
 ghost use Rattle.scb.specs.declared.RuState.{RuState};
 
 // The command unit's state, CUS.
-#[derive(Drop)]
+#[derive(Clone, Copy)]
 pub enum CuState {
     Idle,
     Suspended,
@@ -16,7 +19,7 @@ pub enum CuState {
 }
 
 // The receive unit's state, RUS.
-#[derive(Drop)]
+#[derive(Clone, Copy)]
 pub enum RuState {
     Idle,
     Suspended,
@@ -25,7 +28,7 @@ pub enum RuState {
 }
 
 // The events that stand in bits 15 to 12 of the status.
-#[derive(Drop)]
+#[derive(Clone, Copy)]
 pub struct Events {
     pub cx: bool,
     pub fr: bool,
