@@ -1,6 +1,9 @@
 // The function HASH of document 000, section 5.5: on which of the filter's 64 bits an address falls. Its register is a number here, A[31] the
 // lowest bit, which takes an address byte by byte, and of a byte four bits at a time. It takes every register and byte; specs/Hash.antt has the
 // paper's program.
+
+#![tactic(auto)]
+
 ghost use Rattle.std.specs.Prelude.{◌≡◌, List, [], ◌∷◌, ◌++◌, ℕ, ◌<◌};
 ghost use Rattle.hash.specs.Hash.{hash};
 ghost use Rattle.hash.specs.Numbers as numbers;
