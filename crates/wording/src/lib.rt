@@ -1,6 +1,9 @@
 // The words of a list of calls: how a word is read, character by character, as a name, a number or a piece of bytes; and, in specs/, what a
 // line's words must be and what each makes of its line. docs/replay.md has the forms. The bytes that a line brings go to a slice that is lent
 // beside it; what would pass its end goes nowhere. It takes every slice, every word and every line.
+
+#![tactic(auto)]
+
 ghost use Rattle.std.specs.Prelude.{◌≡◌, ◌-◌, min, set, replicate};
 ghost use Rattle.std.proofs.lemmas.List.Edits.{sets};
 ghost use Rattle.wording.specs.Chars as chars;
@@ -9,7 +12,7 @@ ghost use Rattle.wording.specs.Spelling as words;
 ghost use Rattle.wording.specs.Lines as lines;
 
 // What a line does, by its first word.
-#[derive(Drop)]
+#[derive(Clone, Copy)]
 pub enum Verb {
     Nothing,
     Size,
@@ -27,7 +30,7 @@ pub enum Verb {
     Say,
 }
 
-#[derive(Drop)]
+#[derive(Clone, Copy)]
 pub enum Area {
     Memory,
     Holding,
@@ -35,7 +38,7 @@ pub enum Area {
 }
 
 // What was expected where a line went wrong; `Nothing` while it is right.
-#[derive(Drop)]
+#[derive(Clone, Copy)]
 pub enum Wrong {
     Nothing,
     First,
@@ -50,7 +53,7 @@ pub enum Wrong {
 }
 
 // What the next word must be.
-#[derive(Drop)]
+#[derive(Clone, Copy)]
 pub enum Want {
     First,
     Size,
@@ -65,7 +68,7 @@ pub enum Want {
 }
 
 // What a word is that must be a number.
-#[derive(Drop)]
+#[derive(Clone, Copy)]
 pub enum Found {
     Number(u64),
     Other,
@@ -73,7 +76,7 @@ pub enum Found {
 
 // The digits of a word, read both ways: as decimal, and as hex with an h behind it. `any`: there are some; `tens`, `sixteens`: all of them are
 // decimal, hex digits; `closed`: hex digits and then an h.
-#[derive(Drop)]
+#[derive(Clone, Copy)]
 pub struct Digits {
     pub any: bool,
     pub decimal: u64,
@@ -84,7 +87,7 @@ pub struct Digits {
 }
 
 // A piece of bytes. `stored`: bytes of it so far; `half`: a digit that waits for its second, or the byte that is repeated; `stage`: what is next.
-#[derive(Drop)]
+#[derive(Clone, Copy)]
 pub struct Piece {
     pub stored: u32,
     pub times: u64,
@@ -93,7 +96,7 @@ pub struct Piece {
 }
 
 // A first digit; a second; after COUNTx a first digit, a second; nothing more; it is no piece.
-#[derive(Drop)]
+#[derive(Clone, Copy)]
 pub enum Stage {
     High,
     Low,
@@ -104,7 +107,7 @@ pub enum Stage {
 }
 
 // The word that is being read: the column of its first character, its letters as one number, its digits, its piece.
-#[derive(Drop)]
+#[derive(Clone, Copy)]
 pub struct Word {
     pub start: u32,
     pub letters: u64,
@@ -113,7 +116,7 @@ pub struct Word {
 }
 
 // What a line brought so far: its verb, how many further words, the area, two numbers, the bytes stored, the column of the place.
-#[derive(Drop)]
+#[derive(Clone, Copy)]
 pub struct Line {
     pub verb: Verb,
     pub taken: u32,
@@ -125,7 +128,7 @@ pub struct Line {
 }
 
 // What is wrong, and the column.
-#[derive(Drop)]
+#[derive(Clone, Copy)]
 pub struct Fault {
     pub wrong: Wrong,
     pub column: u32,
@@ -156,6 +159,7 @@ pub fn is_blank(c: u8) -> bool
 }
 
 // The value of a hex digit in either case; 16 for every other character.
+#[tactic(auto, unfolding(crate::specs::Chars::digit))]
 fn digit(c: u8) -> u8
     ensures { result ≡ chars.digit c }
 {
@@ -213,6 +217,7 @@ pub fn counted(sofar: u32, n: u64) -> u32
 const NO_WORD: u64 = 0x1000_0000_0000_0000;
 
 // A further letter, five bits each.
+#[tactic(auto, unfolding(crate::specs::Names::more_letters))]
 fn more_letters(letters: u64, c: u8) -> u64
     ensures { result ≡ names.more_letters letters c }
 {
@@ -229,6 +234,7 @@ fn more_letters(letters: u64, c: u8) -> u64
 }
 
 // The verb that a first word names.
+#[tactic(auto, unfolding(crate::specs::Names::verb_of))]
 pub fn verb_of(letters: u64) -> Verb
     ensures { result ≡ names.verb_of letters }
 {
@@ -251,13 +257,14 @@ pub fn verb_of(letters: u64) -> Verb
 }
 
 // An area, or none.
-#[derive(Drop)]
+#[derive(Clone, Copy)]
 pub enum Named {
     Area(Area),
     Other,
 }
 
 // The area that a word names.
+#[tactic(auto, unfolding(crate::specs::Names::area_of))]
 pub fn area_of(letters: u64) -> Named
     ensures { result ≡ names.area_of letters }
 {
@@ -316,6 +323,7 @@ fn more_hex(n: u64, d: u8) -> u64
 }
 
 // A further character of a number.
+#[tactic(auto, unfolding(crate::specs::Spelling::more_digits))]
 fn more_digits(n: Digits, c: u8) -> Digits
     ensures { result ≡ words.more_digits n c }
 {
@@ -341,6 +349,7 @@ fn number(n: u64) -> Found
 }
 
 // The number that a whole word is, if it is one.
+#[tactic(auto, unfolding(crate::specs::Spelling::number_of))]
 pub fn number_of(n: Digits) -> Found
     ensures { result ≡ words.number_of n }
 {
@@ -386,6 +395,7 @@ fn joined(high: u8, low: u8) -> u8
 }
 
 // What is no digit: the x of COUNTx, behind digits that are a COUNT. n: the digits before it.
+#[tactic(auto, unfolding(crate::specs::Spelling::after_count))]
 fn after_count(n: Digits, c: u8) -> Piece
     ensures { result ≡ words.after_count n c }
 {
@@ -424,6 +434,7 @@ fn with_digit(stage: Stage, p: Piece, d: u8) -> Piece
 }
 
 // A further character of a piece. n: the word's digits before it.
+#[tactic(auto, unfolding(crate::specs::Spelling::more_piece))]
 fn more_piece(p: Piece, n: Digits, c: u8) -> Piece
     ensures { result ≡ words.more_piece p n c }
 {
@@ -484,6 +495,7 @@ fn store_digit(bytes: &mut [u8], stage: Stage, i: usize, high: u8, d: u8)
 }
 
 // What a further character of a piece stores; the piece begins at place `at`.
+#[tactic(auto, unfolding(crate::specs::Spelling::store))]
 pub fn store(bytes: &mut [u8], p: Piece, at: u32, c: u8)
     ensures { bytes.new ≡ words.store p at c bytes.old }
 {
@@ -509,6 +521,7 @@ pub fn word_at(column: u32) -> Word
 }
 
 // A further character of the word.
+#[tactic(auto, unfolding(crate::specs::Spelling::more_word))]
 pub fn more_word(w: Word, c: u8) -> Word
     ensures { result ≡ words.more_word w c }
 {
@@ -561,7 +574,7 @@ pub fn is_verb(verb: Verb) -> bool
 }
 
 // What a word makes of its line, and what is wrong with it.
-#[derive(Drop)]
+#[derive(Clone, Copy)]
 pub struct Taken {
     pub line: Line,
     pub fault: Fault,
