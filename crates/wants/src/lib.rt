@@ -1,5 +1,8 @@
 // What a line wants: which word stands next by its verb, what is missing where it ends, and whether what it names lies within its area.
 // docs/replay.md has the forms. It takes every line.
+
+#![tactic(auto)]
+
 ghost use Rattle.std.specs.Prelude.{◌≡◌};
 ghost use Rattle.wording.specs.Lines as lines;
 
