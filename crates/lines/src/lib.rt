@@ -32,6 +32,7 @@ pub struct Reader {
 // ---- the reader
 
 // Before the first character of a line.
+#[tactic(auto, unfolding(crate::specs::Reader::start))]
 pub fn start() -> Reader
     ensures { result ≡ reader.start }
 {
@@ -46,6 +47,7 @@ pub fn start() -> Reader
 }
 
 // Whether a reader has found nothing wrong.
+#[tactic(auto, unfolding(crate::specs::Reader::is_right))]
 pub fn is_right(r: Reader) -> bool
     ensures { result ≡ reader.is_right r }
 {
@@ -55,6 +57,7 @@ pub fn is_right(r: Reader) -> bool
 }
 
 // The reader behind a character that says nothing more.
+#[tactic(auto, unfolding(crate::specs::Reader::past))]
 fn past(r: Reader, part: Part) -> Reader
     ensures { result ≡ reader.past r part }
 {
@@ -65,18 +68,21 @@ fn past(r: Reader, part: Part) -> Reader
     }
 }
 
+#[tactic(auto, unfolding(crate::specs::Reader::with_word))]
 fn with_word(r: Reader, w: Word) -> Reader
     ensures { result ≡ reader.with_word r w }
 {
     Reader { word: w, ..r }
 }
 
+#[tactic(auto, unfolding(crate::specs::Reader::with_line))]
 fn with_line(r: Reader, line: Line) -> Reader
     ensures { result ≡ reader.with_line r line }
 {
     Reader { line: line, ..r }
 }
 
+#[tactic(auto, unfolding(crate::specs::Reader::with_fault))]
 fn with_fault(r: Reader, fault: Fault) -> Reader
     ensures { result ≡ reader.with_fault r fault }
 {
@@ -84,6 +90,7 @@ fn with_fault(r: Reader, fault: Fault) -> Reader
 }
 
 // The reader behind a word, with what the word made of its line.
+#[tactic(auto, unfolding(crate::specs::Reader::with_taken))]
 fn with_taken(r: Reader, t: Taken) -> Reader
     ensures { result ≡ reader.with_taken r t }
 {
@@ -98,6 +105,7 @@ fn with_taken(r: Reader, t: Taken) -> Reader
 }
 
 // The word that was read is taken.
+#[tactic(auto, unfolding(crate::specs::Reader::end_word))]
 fn end_word(bytes: &mut [u8], r: Reader) -> Reader
     ensures { reader.Reads (reader.end_word r bytes.old) result bytes.new }
 {
@@ -109,6 +117,7 @@ fn end_word(bytes: &mut [u8], r: Reader) -> Reader
 }
 
 // A word begins, where one may stand.
+#[tactic(auto, unfolding(crate::specs::Reader::begin_word))]
 fn begin_word(r: Reader, c: u8) -> Reader
     ensures { result ≡ reader.begin_word r c }
 {
@@ -119,6 +128,7 @@ fn begin_word(r: Reader, c: u8) -> Reader
 }
 
 // A character of a line's text.
+#[tactic(auto, unfolding(crate::specs::Reader::more_text))]
 fn more_text(bytes: &mut [u8], r: Reader, c: u8) -> Reader
     ensures { reader.Reads (reader.more_text r c bytes.old) result bytes.new }
 {
@@ -137,6 +147,7 @@ fn more_text(bytes: &mut [u8], r: Reader, c: u8) -> Reader
 }
 
 // A character that is neither blank nor the start of a comment, with no word before it.
+#[tactic(auto, unfolding(crate::specs::Reader::first_of))]
 fn first_of(bytes: &mut [u8], r: Reader, c: u8, want: Want) -> Reader
     ensures { reader.Reads (reader.first_of want r c bytes.old) result bytes.new }
 {
@@ -150,6 +161,7 @@ fn first_of(bytes: &mut [u8], r: Reader, c: u8, want: Want) -> Reader
 }
 
 // A character outside of words.
+#[tactic(auto, unfolding(crate::specs::Reader::between))]
 fn between(bytes: &mut [u8], r: Reader, c: u8) -> Reader
     ensures { reader.Reads (reader.between r c bytes.old) result bytes.new }
 {
@@ -165,6 +177,7 @@ fn between(bytes: &mut [u8], r: Reader, c: u8) -> Reader
 }
 
 // A further character of a word.
+#[tactic(auto, unfolding(crate::specs::Reader::further_of))]
 fn further_of(bytes: &mut [u8], r: Reader, c: u8) -> Reader
     ensures { reader.Reads (reader.further_of r c bytes.old) result bytes.new }
 {
@@ -176,6 +189,7 @@ fn further_of(bytes: &mut [u8], r: Reader, c: u8) -> Reader
 }
 
 // The word that was read is taken, and the reader goes past what ended it.
+#[tactic(auto, unfolding(crate::specs::Reader::past_word))]
 fn past_word(bytes: &mut [u8], r: Reader, part: Part) -> Reader
     ensures { reader.Reads (reader.past_word r part bytes.old) result bytes.new }
 {
@@ -183,6 +197,7 @@ fn past_word(bytes: &mut [u8], r: Reader, part: Part) -> Reader
 }
 
 // A character behind a word's first.
+#[tactic(auto, unfolding(crate::specs::Reader::in_word))]
 fn in_word(bytes: &mut [u8], r: Reader, c: u8) -> Reader
     ensures { reader.Reads (reader.in_word r c bytes.old) result bytes.new }
 {
@@ -196,6 +211,7 @@ fn in_word(bytes: &mut [u8], r: Reader, c: u8) -> Reader
 }
 
 // A character of a text.
+#[tactic(auto, unfolding(crate::specs::Reader::in_text))]
 fn in_text(bytes: &mut [u8], r: Reader, c: u8) -> Reader
     ensures { reader.Reads (reader.in_text r c bytes.old) result bytes.new }
 {
@@ -206,6 +222,7 @@ fn in_text(bytes: &mut [u8], r: Reader, c: u8) -> Reader
 }
 
 // A character, by where it stands.
+#[tactic(auto, unfolding(crate::specs::Reader::read_in))]
 fn read_in(bytes: &mut [u8], r: Reader, c: u8, part: Part) -> Reader
     ensures { reader.Reads (reader.read_in part r c bytes.old) result bytes.new }
 {
@@ -218,6 +235,7 @@ fn read_in(bytes: &mut [u8], r: Reader, c: u8, part: Part) -> Reader
 }
 
 // A character that ends no line. Once something is wrong nothing more is read, so the first wrong thing is told.
+#[tactic(auto, unfolding(crate::specs::Reader::read))]
 pub fn read(bytes: &mut [u8], r: Reader, c: u8) -> Reader
     ensures { reader.Reads (reader.read r c bytes.old) result bytes.new }
 {
@@ -240,6 +258,7 @@ fn is_word(part: Part) -> bool
 }
 
 // The last word, if the line ends with one, is taken.
+#[tactic(auto, unfolding(crate::specs::Reader::last_word))]
 fn last_word(bytes: &mut [u8], r: Reader, part: Part) -> Reader
     ensures { reader.Reads (reader.last_word part r bytes.old) result bytes.new }
 {
@@ -250,6 +269,7 @@ fn last_word(bytes: &mut [u8], r: Reader, part: Part) -> Reader
 }
 
 // The line is judged, if its words are right.
+#[tactic(auto, unfolding(crate::specs::Reader::judge))]
 fn judge(r: Reader) -> Reader
     ensures { result ≡ reader.judge r }
 {
@@ -261,6 +281,7 @@ fn judge(r: Reader) -> Reader
 }
 
 // The line has ended: its last word is taken, and the line judged.
+#[tactic(auto, unfolding(crate::specs::Reader::end))]
 pub fn end(bytes: &mut [u8], r: Reader) -> Reader
     ensures { reader.Reads (reader.end r bytes.old) result bytes.new }
 {

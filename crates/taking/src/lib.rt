@@ -47,6 +47,7 @@ fn refused(line: Line, wrong: Wrong, column: u32) -> Taken
 }
 
 // A number in its slot: the first word's in the first, a later one's in the second.
+#[tactic(auto, unfolding(wording::specs::Take::with_number))]
 fn with_number(line: Line, n: u64) -> Line
     ensures { result ≡ take.with_number line n }
 {
@@ -56,6 +57,7 @@ fn with_number(line: Line, n: u64) -> Line
     Line { second: n, ..line }
 }
 
+#[tactic(auto, unfolding(wording::specs::Take::take_verb))]
 fn take_verb(line: Line, verb: Verb, start: u32) -> Taken
     ensures { result ≡ take.take_verb verb line start }
 {
@@ -66,6 +68,7 @@ fn take_verb(line: Line, verb: Verb, start: u32) -> Taken
 }
 
 // A number below a bound; what is said of one that is not.
+#[tactic(auto, unfolding(wording::specs::Take::take_number))]
 fn take_number(line: Line, found: Found, start: u32, bound: u64, beyond: Wrong) -> Taken
     ensures { result ≡ take.take_number found line start bound beyond }
 {
@@ -80,6 +83,7 @@ fn take_number(line: Line, found: Found, start: u32, bound: u64, beyond: Wrong) 
     }
 }
 
+#[tactic(auto, unfolding(wording::specs::Take::take_area))]
 fn take_area(line: Line, named: Named, start: u32) -> Taken
     ensures { result ≡ take.take_area named line start }
 {
@@ -90,6 +94,7 @@ fn take_area(line: Line, named: Named, start: u32) -> Taken
 }
 
 // A place below the area's size.
+#[tactic(auto, unfolding(wording::specs::Take::take_place))]
 fn take_place(line: Line, found: Found, start: u32, size: u64) -> Taken
     ensures { result ≡ take.take_place found line start size }
 {
@@ -109,6 +114,7 @@ fn take_place(line: Line, found: Found, start: u32, size: u64) -> Taken
 }
 
 // Bytes that were stored digit by digit, or one byte so often.
+#[tactic(auto, unfolding(wording::specs::Take::take_bytes))]
 fn take_bytes(bytes: &mut [u8], line: Line, p: Piece, stage: Stage, start: u32) -> Taken
     ensures { take.Takes (take.take_bytes stage p line start bytes.old) result bytes.new }
 {
@@ -126,6 +132,7 @@ fn take_bytes(bytes: &mut [u8], line: Line, p: Piece, stage: Stage, start: u32) 
 }
 
 // A word of 16 bits goes to a place, low byte first.
+#[tactic(auto, unfolding(wording::specs::Take::put_value))]
 fn put_value(bytes: &mut [u8], i: u32, n: u64)
     ensures { bytes.new ≡ take.put_value i n bytes.old }
 {
@@ -133,6 +140,7 @@ fn put_value(bytes: &mut [u8], i: u32, n: u64)
     wording::put(bytes, i as usize + 1, (n / 256 % 256) as u8);
 }
 
+#[tactic(auto, unfolding(wording::specs::Take::take_value))]
 fn take_value(bytes: &mut [u8], line: Line, found: Found, start: u32) -> Taken
     ensures { take.Takes (take.take_value found line start bytes.old) result bytes.new }
 {
@@ -149,6 +157,7 @@ fn take_value(bytes: &mut [u8], line: Line, found: Found, start: u32) -> Taken
 }
 
 // A word that must be what is wanted.
+#[tactic(auto, unfolding(wording::specs::Take::take_word))]
 pub fn take(bytes: &mut [u8], line: Line, w: Word, want: Want) -> Taken
     ensures { take.Takes (take.take_word want line w bytes.old) result bytes.new }
 {

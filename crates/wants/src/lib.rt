@@ -159,6 +159,7 @@ fn fits(verb: Verb, line: Line, end: u64) -> bool
 }
 
 // What is wrong with a line that has ended.
+#[tactic(auto, unfolding(wording::specs::Lines::judged))]
 pub fn judged(line: Line, behind: u32) -> Fault
     ensures { result ≡ lines.judged line behind }
 {

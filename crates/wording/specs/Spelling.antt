@@ -1,5 +1,5 @@
 -- A word of a line, character by character: docs/replay.md, NUMBER and BYTES. Assumes nothing.
-use Rattle.std.specs.Prelude.{Bool, true, false, cond, ◌&&◌, List, ℕ, ◌+◌, ◌*◌, ◌%◌, min, eqb, ltb, set}
+use Rattle.std.specs.Prelude.{true, false, cond, ◌&&◌, List, ℕ, ◌+◌, ◌*◌, ◌%◌, min, eqb, ltb, set}
 use Rattle.wording.specs.Chars.{digit, counted}
 use Rattle.wording.specs.Names.{more_letters}
 use Rattle.wording.specs.declared.Digits.{Digits}

@@ -159,6 +159,7 @@ pub fn is_blank(c: u8) -> bool
 }
 
 // The value of a hex digit in either case; 16 for every other character.
+#[tactic(auto, unfolding(crate::specs::Chars::digit))]
 fn digit(c: u8) -> u8
     ensures { result ≡ chars.digit c }
 {
@@ -216,6 +217,7 @@ pub fn counted(sofar: u32, n: u64) -> u32
 const NO_WORD: u64 = 0x1000_0000_0000_0000;
 
 // A further letter, five bits each.
+#[tactic(auto, unfolding(crate::specs::Names::more_letters))]
 fn more_letters(letters: u64, c: u8) -> u64
     ensures { result ≡ names.more_letters letters c }
 {
@@ -232,6 +234,7 @@ fn more_letters(letters: u64, c: u8) -> u64
 }
 
 // The verb that a first word names.
+#[tactic(auto, unfolding(crate::specs::Names::verb_of))]
 pub fn verb_of(letters: u64) -> Verb
     ensures { result ≡ names.verb_of letters }
 {
@@ -261,6 +264,7 @@ pub enum Named {
 }
 
 // The area that a word names.
+#[tactic(auto, unfolding(crate::specs::Names::area_of))]
 pub fn area_of(letters: u64) -> Named
     ensures { result ≡ names.area_of letters }
 {
@@ -319,6 +323,7 @@ fn more_hex(n: u64, d: u8) -> u64
 }
 
 // A further character of a number.
+#[tactic(auto, unfolding(crate::specs::Spelling::more_digits))]
 fn more_digits(n: Digits, c: u8) -> Digits
     ensures { result ≡ words.more_digits n c }
 {
@@ -344,6 +349,7 @@ fn number(n: u64) -> Found
 }
 
 // The number that a whole word is, if it is one.
+#[tactic(auto, unfolding(crate::specs::Spelling::number_of))]
 pub fn number_of(n: Digits) -> Found
     ensures { result ≡ words.number_of n }
 {
@@ -389,6 +395,7 @@ fn joined(high: u8, low: u8) -> u8
 }
 
 // What is no digit: the x of COUNTx, behind digits that are a COUNT. n: the digits before it.
+#[tactic(auto, unfolding(crate::specs::Spelling::after_count))]
 fn after_count(n: Digits, c: u8) -> Piece
     ensures { result ≡ words.after_count n c }
 {
@@ -427,6 +434,7 @@ fn with_digit(stage: Stage, p: Piece, d: u8) -> Piece
 }
 
 // A further character of a piece. n: the word's digits before it.
+#[tactic(auto, unfolding(crate::specs::Spelling::more_piece))]
 fn more_piece(p: Piece, n: Digits, c: u8) -> Piece
     ensures { result ≡ words.more_piece p n c }
 {
@@ -487,6 +495,7 @@ fn store_digit(bytes: &mut [u8], stage: Stage, i: usize, high: u8, d: u8)
 }
 
 // What a further character of a piece stores; the piece begins at place `at`.
+#[tactic(auto, unfolding(crate::specs::Spelling::store))]
 pub fn store(bytes: &mut [u8], p: Piece, at: u32, c: u8)
     ensures { bytes.new ≡ words.store p at c bytes.old }
 {
@@ -512,6 +521,7 @@ pub fn word_at(column: u32) -> Word
 }
 
 // A further character of the word.
+#[tactic(auto, unfolding(crate::specs::Spelling::more_word))]
 pub fn more_word(w: Word, c: u8) -> Word
     ensures { result ≡ words.more_word w c }
 {

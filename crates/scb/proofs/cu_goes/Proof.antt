@@ -16,4 +16,4 @@ cu_goes_spec =
     (λ c. omega (arith, bits_below c.before.args.command 8 3))
     (λ c. search rules)
     (λ c. search rules)
-    (λ c. λ x e. rw (e, c.cu-control.ensures) (cu_table_lem (cuc c.before.args.command) x (bits_below c.before.args.command 8 3))))
+    (λ c. λ x e. rw (e, c.cu_control.ensures) (cu_table_lem (cuc c.before.args.command) x (bits_below c.before.args.command 8 3))))

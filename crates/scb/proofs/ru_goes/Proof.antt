@@ -16,4 +16,4 @@ ru_goes_spec =
     (λ c. omega (arith, bits_below c.before.args.command 4 3))
     (λ c. search rules)
     (λ c. search rules)
-    (λ c. λ x e. rw (e, c.ru-control.ensures) (ru_table_lem (ruc c.before.args.command) x (bits_below c.before.args.command 4 3))))
+    (λ c. λ x e. rw (e, c.ru_control.ensures) (ru_table_lem (ruc c.before.args.command) x (bits_below c.before.args.command 4 3))))
