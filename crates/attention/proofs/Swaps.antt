@@ -1,5 +1,5 @@
 -- 01, "Readings that swap the columns", as far as they concern an attention: a computed case that the swap fails. Assumes nothing.
-use mathlib.Core.Bool.{true, false, ◌&&◌}
+use mathlib.Core.Bool.{◌&&◌}
 use mathlib.Core.List.{List, [], ◌∷◌}
 use Prim.Native.Nat.{ℕ}
 use lib.Dec.{T, eqb}

@@ -1,7 +1,7 @@
 -- An answer taken apart gives back its parts: number, length, edge, reason, and the turns of a run. Assumes nothing.
 use mathlib.Core.Path.{◌≡◌, sym, ap, ◌∙◌, subst}
 use mathlib.Core.Bool.{Bool, true, false}
-use Prim.Native.Nat.{ℕ, ◌+◌, ◌*◌, ◌/◌, ◌%◌, ◌^◌, ◌<◌}
+use Prim.Native.Nat.{ℕ, ◌+◌, ◌*◌, ◌/◌, ◌^◌, ◌<◌}
 use native.Mathlib.Omega.{arith}
 use Rattle.scb.specs.Words.{bits_at, one}
 use Rattle.device.specs.Numbers.{refusal_number, reason_number}

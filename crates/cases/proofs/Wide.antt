@@ -1,13 +1,12 @@
 -- What 8,192 bytes cannot show: offsets of 16 bits and real addresses of 24 in larger memories. Assumes nothing.
-use mathlib.Core.Bool.{Bool, true, false, ◌&&◌}
-use mathlib.Core.List.{List, [], ◌∷◌, ◌++◌}
-use Prim.Native.Nat.{ℕ}
+use mathlib.Core.Bool.{◌&&◌}
+use mathlib.Core.List.{[], ◌∷◌}
 use lib.Dec.{T, eqb}
 use lib.ListN.{replicate}
-use Rattle.memory.specs.Address.{place, beyond, origin}
-use Rattle.memory.specs.Memory.{byte_at, put_byte, bytes_at, put_bytes, value, digits, field_at, real_at}
-use Rattle.chip.specs.Cases.{Word, ◌is◌, unsaid, high, low, Step, Case, put, start_on, walk, passes}
-use Rattle.chip.specs.Call.{attention, arrive, turn}
+use Rattle.memory.specs.Address.{place, origin}
+use Rattle.memory.specs.Memory.{byte_at, bytes_at, value, field_at, real_at}
+use Rattle.chip.specs.Cases.{◌is◌, high, low, put, start_on, walk, passes}
+use Rattle.chip.specs.Call.{attention, turn}
 use Rattle.chip.proofs.Board.{board, good, broadcast, quiet, edge, step, turned, came, initialised}
 
 -- a field of offset FFFEh is not folded at 65,536; a real address has three bytes, and the fourth says nothing; a base has 24 bits

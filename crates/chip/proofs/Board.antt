@@ -1,6 +1,6 @@
 -- The board that the cases run on: 8,192 bytes, all structures below 256 but the SCP's pointer, and the steps that several cases share.
 -- Assumes nothing.
-use mathlib.Core.Bool.{Bool, true, false}
+use mathlib.Core.Bool.{true, false}
 use mathlib.Core.List.{List, [], ◌∷◌, ◌++◌}
 use Prim.Native.Nat.{ℕ, zero, suc, ◌+◌}
 use lib.ListN.{replicate}

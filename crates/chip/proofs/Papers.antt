@@ -1,10 +1,9 @@
 -- P1 to P8 of document 01, "Cases at the edges", by one statement over the list of them: `shown`. Assumes nothing.
-use mathlib.Core.Bool.{Bool, true, false}
 use mathlib.Core.List.{List, [], ◌∷◌, ◌++◌}
 use Prim.Native.Nat.{ℕ}
 use lib.Dec.{T}
-use Rattle.chip.specs.Cases.{Word, ◌is◌, Level, unsaid, high, low, Said, Step, Case, passes, all_pass}
-use Rattle.chip.specs.Call.{Call, attention, arrive, turn}
+use Rattle.chip.specs.Cases.{Word, ◌is◌, high, low, Case, passes, all_pass}
+use Rattle.chip.specs.Call.{attention, turn}
 use Rattle.chip.proofs.Board.{board, descriptors, buffer_at, good, crc, misaligned, broadcast, quiet, edge, step, ends, turned, came, bad, dropped, initialised, receiving, commanding}
 
 -- (P1) after initialisation A000h: BUSY is cleared, the command too

@@ -1,10 +1,9 @@
 -- Document 01, "Readings that swap the columns": for each of them a case that the swap would fail, by one statement over the list: `refuted`.
 -- Assumes nothing.
 use mathlib.Core.List.{List, [], ◌∷◌, ◌++◌}
-use Prim.Native.Nat.{ℕ}
 use lib.Dec.{T}
-use Rattle.chip.specs.Cases.{Word, ◌is◌, unsaid, high, low, Step, Case, passes, all_pass}
-use Rattle.chip.specs.Call.{attention, arrive, turn}
+use Rattle.chip.specs.Cases.{Word, ◌is◌, high, low, Step, Case, passes, all_pass}
+use Rattle.chip.specs.Call.{attention, turn}
 use Rattle.chip.proofs.Board.{board_at, board, descriptors, buffer_at, good, crc, misaligned, broadcast, quiet, edge, step, ends, turned, came, unit_idle, dropped, initialised, receiving, commanding}
 
 -- ---- Adding the base to a buffer's real address. With a base of 10h the SCB is at 40h, and offset 90h is address A0h; the buffer is at C0h

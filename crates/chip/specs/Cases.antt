@@ -1,6 +1,6 @@
 -- Worked cases of the definitions: words given, then steps. A step is a call with the answer that it must give, and the words that memory and
 -- the outgoing area must hold after it, changed or unchanged. Assumes nothing.
-use Rattle.std.specs.Prelude.{Bool, true, false, not, cond, ◌&&◌, List, [], ◌∷◌, ℕ, ◌+◌, ◌*◌, eqb, replicate}
+use Rattle.std.specs.Prelude.{Bool, true, false, not, ◌&&◌, List, [], ◌∷◌, ℕ, eqb, replicate}
 use Rattle.memory.specs.Memory.{byte_at, put_byte, bytes_at, put_bytes, value, digits, field_at, word_at, word_to, apply}
 use Rattle.memory.specs.Address.{place, beyond}
 use Rattle.scb.specs.Control.{code_of}

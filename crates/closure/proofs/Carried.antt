@@ -20,7 +20,6 @@ use Rattle.device.specs.declared.Refusal.{Refusal}
 use Rattle.device.specs.declared.Refusal.TheVariants as refusal
 use Rattle.device.specs.declared.Ru.{Ru}
 use Rattle.device.specs.declared.Ru.TheVariants as ru
-use Rattle.device.specs.declared.Units.{Units}
 use Rattle.image.specs.Image.{image_of, decode_of, device_at}
 use Rattle.image.specs.Found as is
 use Rattle.image.proofs.Steps.{length_image}

@@ -30,7 +30,7 @@ use Rattle.chip.proofs.Run as cause
 use Rattle.calls.specs.Answer.{turns_taken, without_turns}
 use Rattle.calls.specs.Calls.{Areas, areas_of, Called, answer_number, refusal_of, refused, on_bytes, decoded_on, called_on, run_on_bytes, turn_call, run_call}
 use Rattle.calls.proofs.Answer.{told, told_number, told_number_of_run}
-use Rattle.traces.specs.Bytes.{number, edge, is_refused}
+use Rattle.traces.specs.Bytes.{number, is_refused}
 use Rattle.traces.specs.Areas.{AreBytes, Holds, world_in, Shows}
 use Rattle.closure.specs.Sound.{Sound}
 use Rattle.closure.specs.Refusals.{Untouched}

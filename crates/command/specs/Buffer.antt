@@ -1,5 +1,5 @@
 -- A buffer of a Transmit: 01, "Turns". Assumes nothing.
-use Rattle.std.specs.Prelude.{Bool, true, false, cond, List, [], ℕ, ◌+◌, eqb, leb}
+use Rattle.std.specs.Prelude.{Bool, true, false, List, [], ℕ, ◌+◌, leb}
 use Rattle.std.proofs.lemmas.List.Edits.{sets}
 use Rattle.memory.specs.Memory.{word_at, bytes_at}
 use Rattle.memory.specs.Address.{place, offset_at, address_at, is_none}

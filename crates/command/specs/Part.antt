@@ -1,5 +1,5 @@
 -- What the command unit works with besides memory, and what a service of it comes to: 01, "Turns". Assumes nothing.
-use Rattle.std.specs.Prelude.{List, [], ℕ}
+use Rattle.std.specs.Prelude.{List, ℕ}
 use Rattle.memory.specs.Memory.{Write}
 use Rattle.memory.specs.declared.RealAddress.{RealAddress}
 use Rattle.scb.specs.Words.{no_events}

@@ -59,3 +59,12 @@ two_runs d s to from k w h g p q =
     let e : k - w + w ≡ k = omega arith in
     rw (← drop-drop (k - w) from s)
     (overlaid d (drop from s) to (k - w) w (omega arith) (omega arith) ∙ ap (λ (n : ℕ). sets d to (take n (drop from s))) e)
+
+-- ---- one byte
+
+pub one_byte : (d s : List ℕ) (to from k : ℕ) → k < 2 → (k ≡ 0 → ⊥) → k ≤ length s - from
+    → set d to (get_or s from 0) ≡ sets d to (take k (drop from s))
+one_byte d s to from k h g q =
+    let e : k ≡ 1 = omega (arith, g) in
+    let l : from < length s = omega arith in
+    rw (e, drop-cons s from 0 l)

@@ -104,7 +104,13 @@ put_stretch m a bs k e =
     rw z (sym (none_puts m a bs (omega arith)) ∙ none_puts m 0 bs (omega arith)))
     (below_or_not 0 (length m))
 
--- ---- a stretch of both loops
+-- ---- a stretch of both loops: it lies within both areas, and is not empty
+
+pub fits : (len at k done run most : ℕ) → k ≤ len - at → run ≡ min (k - done) most → run ≤ len - (at + done)
+fits len at k done run most h e = omega arith
+
+pub up_to_the_end : (i len left run : ℕ) → i < len → run ≡ min left (len - i) → i + run ≤ len
+up_to_the_end i len left run h e = omega arith
 
 reaches : (i len left run : ℕ) → i < len → run ≡ min left (len - i) → 0 < left - run → i + run ≡ len
 reaches i len left run h e q = omega arith
@@ -114,6 +120,12 @@ some_left l n k e h = omega arith
 
 pub within_left : (left most run : ℕ) → run ≡ min left most → run ≤ left
 within_left left most run e = omega arith
+
+pub within_reach : (left most run : ℕ) → run ≡ min left most → run ≤ most
+within_reach left most run e = omega arith
+
+pub gains : (k done i len run : ℕ) → done < k → i < len → run ≡ min (k - done) (len - i) → k - (done + run) < k - done
+gains k done i len run h p e = omega arith
 
 -- ---- out of memory: a turn of the loop; k bytes from index i on, for n from address a on; the empty memory
 

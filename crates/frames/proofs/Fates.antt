@@ -235,6 +235,8 @@ lost_loss attention w l (by_resetting r e d m) =
     subst (λ (fs : List Fate). AllLoss (loses attention w) (held_fates fs)) (sym e) (each_loss (loses attention w) fate.Reset (held_in (unit_of w)) (sym l))
 lost_loss attention w l (by_abort r a e u m) =
     subst (λ (fs : List Fate). AllLoss (loses attention w) (held_fates fs)) (sym e) (each_loss (loses attention w) fate.Aborted (held_in (unit_of w)) (sym l))
+lost_loss (arrive f v) w l h = elim h [ ]
+lost_loss (turn r) w l h = elim h [ ]
 
 good_loss : (c : Call) (w : World) (f : Frame) → GoodFate f c w → AllLoss (loses c w) (held_fates (ran c w).outcome.fates)
 good_loss c w f (held.stays l n k m) = stay_loss c w k.fates

@@ -26,7 +26,6 @@ use Rattle.actions.proofs.Filtered as filtered
 use Rattle.command.specs.End.{end}
 use Rattle.command.specs.Part.{part_of}
 use Rattle.command.specs.Service.{service}
-use Rattle.attention.specs.Attention.{attention}
 use Rattle.chip.specs.Call as calls
 use Rattle.chip.specs.Call.{Call, ran}
 use Rattle.chip.specs.Turn.{served_of, is_command}

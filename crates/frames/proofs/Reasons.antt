@@ -32,7 +32,7 @@ use Rattle.closure.proofs.Refusals.{untouched}
 use Rattle.closure.proofs.Turns.{run_is_turns, run_untouched, turns_lent}
 use Rattle.frames.specs.Arrival.{RightLengths, ArrivalFate}
 use Rattle.frames.specs.Arrival as classes
-use Rattle.frames.specs.Reasons.{why_of, unset, unready, NotDropped, overrun, held, lost, saved, Reached, IsOther}
+use Rattle.frames.specs.Reasons.{why_of, unset, unready, overrun, held, lost, saved, Reached, IsOther}
 use Rattle.frames.proofs.Arrival as arrivals
 use Rattle.frames.proofs.Arrived.{right_lengths}
 

@@ -11,7 +11,7 @@ use Rattle.device.specs.State.{fresh}
 use Rattle.image.proofs.Exact.{level}
 use Rattle.chip.specs.World.{Ran, world_of}
 use Rattle.chip.specs.Call.{Call, reset, attention, arrive, turn, ran}
-use Rattle.calls.specs.Calls.{Areas, Called, refused, on_bytes, renewed, reset_call}
+use Rattle.calls.specs.Calls.{Areas, Called, on_bytes, reset_call}
 use Rattle.traces.specs.Bytes.{called, number}
 use Rattle.kinds.specs.Chips.{Chip, ours, Handed, Meets}
 use Rattle.closure.specs.Refusals.{When, Untouched}

@@ -47,11 +47,11 @@ module _ (base : RealAddress) (m₀ : List ℕ) where
   first_todo true filled b o c cs = refl
   first_todo false filled b o c cs = refl
 
-  begun_todo : (t : Bool) (p : Part) (b : Begun) (word : ℕ) (m : List ℕ) (c : ℕ) (cs : List ℕ)
+  begun_todo_lem : (t : Bool) (p : Part) (b : Begun) (word : ℕ) (m : List ℕ) (c : ℕ) (cs : List ℕ)
       → todo base m₀ (to_begun t p b word m).unit (c ∷ cs) ≡ begun_todo base m₀ c cs
-  begun_todo true p b word m c cs =
+  begun_todo_lem true p b word m c cs =
       let first = offset_at m (place p.base b.block argument_at) in first_todo (is_none first) (unbuffered p.setup.settings.form) b first c cs
-  begun_todo false p b word m c cs = refl
+  begun_todo_lem false p b word m c cs = refl
 
   first_now : (none : Bool) (s : Setup) (b : Begun) (o : Offset) (c : ℕ) (q : List ℕ) → Begins base m₀ true s b c q
       → Sub (first_bytes none (chain_bytes most_buffers base (marked base m₀ c) o (header_length_of s))) (uses base s m₀ c)
@@ -133,7 +133,7 @@ module _ (base : RealAddress) (m₀ : List ℕ) where
         );
         part = subst (λ (x : Setup). Sub (list_bytes base x m₀ (c ∷ cs)) (list_bytes base s m₀ (c ∷ cs))) k (sub_refl (list_bytes base s m₀ (c ∷ cs)));
         setup = ap (λ (x : Setup). list_setup base x m₀ (c ∷ cs)) (begun_setup t p b w q);
-        noted = ap (λ (x : List Tag). begun c ∷ x) (begun_todo t p b w q c cs);
+        noted = ap (λ (x : List Tag). begun c ∷ x) (begun_todo_lem t p b w q c cs);
         fewer = begun_rank t p b w q (length cs);
         writes = λ a i. in_left _ (status_in base s m₀ c a (word_targets (place base (block c) block_status_at) 0x4000 a i));
         words = sub-nil (list_bytes base s m₀ (c ∷ cs));

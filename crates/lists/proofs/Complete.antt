@@ -6,7 +6,6 @@ use Prim.Native.Nat.{ℕ, ◌+◌, ◌/◌, ◌%◌, ◌≤◌, ◌<◌}
 use native.Mathlib.Nat.{mod-eq_of_lt}
 use native.Mathlib.Omega.{arith}
 use borrow.Author.Tests.{eq-eqb}
-use lib.Dec.{leb}
 use lib.ListN.{length}
 use Rattle.memory.specs.Memory.{word_at, Write, word_to, apply}
 use Rattle.memory.specs.Address.{place}
@@ -21,7 +20,7 @@ use Rattle.device.specs.declared.Action.TheVariants as action
 use Rattle.device.specs.declared.Begun.{Begun}
 use Rattle.device.specs.declared.Cu.{Cu}
 use Rattle.device.specs.declared.Cu.TheVariants as cu
-use Rattle.actions.specs.Actions.{Acted, done, failed, acceptable, byte_of, groups, act, reported, is_sent, sent, not_sent}
+use Rattle.actions.specs.Actions.{Acted, done, failed, acceptable, byte_of, act, reported, is_sent, sent, not_sent}
 use Rattle.actions.specs.Block.{block_status_at}
 use Rattle.actions.specs.Setup.{Setup}
 use Rattle.command.specs.End.{end}

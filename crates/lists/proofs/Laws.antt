@@ -38,7 +38,7 @@ use Rattle.traces.specs.Event.{Event, call, host, is_turn, DuringList}
 use Rattle.progress.specs.Machine.{Laws, Served, Passed, Between}
 use Rattle.progress.specs.Same.{In, here, there, range, Same}
 use Rattle.progress.proofs.Same.{in_left, in_right, same_part, same_apply, same_bytes_lem, same_field}
-use Rattle.lists.specs.Uses.{block, from, address_length_of, header_bytes_by, header_bytes, argument_bytes, descriptor_bytes}
+use Rattle.lists.specs.Uses.{from, address_length_of, header_bytes_by, header_bytes, argument_bytes, descriptor_bytes}
 use Rattle.lists.specs.Unit.{note_by, begin_reads, data_reads, end_reads, reads_by, command_next, machine}
 
 -- ---- parts of a list of addresses

@@ -35,7 +35,7 @@ use Rattle.chip.specs.World.{World, afterwards, reset_of}
 use Rattle.chip.specs.Attention.{attention_of}
 use Rattle.chip.specs.Arrival as arrivals
 use Rattle.chip.specs.Turn.{concluded, command_turn, receive_turn, served_by, is_command, turn_by, turn_of}
-use Rattle.chip.specs.Call.{attention, turn}
+use Rattle.chip.specs.Call.{turn}
 use Rattle.traces.specs.Event.{Event, call, host, step, is_calm, DuringList}
 use Rattle.progress.specs.Same.{In, here, there, range, Same}
 use Rattle.progress.specs.Trace.{run, AllMay}
@@ -74,6 +74,7 @@ bytesb [] m q = true
 bytesb (a ∷ L) m q = eqb (byte_at m a) (byte_at q a) && bytesb L m q
 
 bytes_ok : (L m q : List ℕ) → T (bytesb L m q) → (a : ℕ) → In a L → byte_at m a ≡ byte_at q a
+bytes_ok [] m q t a i = elim i [ ]
 bytes_ok (b ∷ L) m q t a here = eqb→eq (byte_at m b) (byte_at q b) (and_l (eqb (byte_at m b) (byte_at q b)) (bytesb L m q) t)
 bytes_ok (b ∷ L) m q t a (there i) = bytes_ok L m q (and_r (eqb (byte_at m b) (byte_at q b)) (bytesb L m q) t) a i
 
@@ -122,6 +123,7 @@ in_ok a [] t = absurd t
 in_ok a (b ∷ L) t = in_by (eqb a b) a b L refl (in_ok a L) t
 
 pub sub_ok : (F L : List ℕ) → T (subb F L) → Sub F L
+sub_ok [] L t a i = elim i [ ]
 sub_ok (b ∷ F) L t a here = in_ok b L (and_l (is_in b L) (subb F L) t)
 sub_ok (b ∷ F) L t a (there i) = sub_ok F L (and_r (is_in b L) (subb F L) t) a i
 
@@ -148,10 +150,12 @@ not_eq : (a b : ℕ) → T (not (eqb a b)) → a ≢ b
 not_eq a b t e = T_not (eqb a b) t (subst (λ (x : ℕ). T (eqb a x)) e (eqb_refl a))
 
 near_ok : (n x : ℕ) (ys : List ℕ) → T (nearb n x ys) → (y : ℕ) → In y ys → x % n ≢ y % n
+near_ok n x [] t y i = elim i [ ]
 near_ok n x (z ∷ ys) t y here = not_eq (x % n) (z % n) (and_l (not (eqb (x % n) (z % n))) (nearb n x ys) t)
 near_ok n x (z ∷ ys) t y (there i) = near_ok n x ys (and_r (not (eqb (x % n) (z % n))) (nearb n x ys) t) y i
 
 apart_ok : (n : ℕ) (xs ys : List ℕ) → T (apartb n xs ys) → (x : ℕ) → In x xs → (y : ℕ) → In y ys → x % n ≢ y % n
+apart_ok n [] ys t x i = elim i [ ]
 apart_ok n (z ∷ xs) ys t x here = near_ok n z ys (and_l (nearb n z ys) (apartb n xs ys) t)
 apart_ok n (z ∷ xs) ys t x (there i) = apart_ok n xs ys (and_r (nearb n z ys) (apartb n xs ys) t) x i
 

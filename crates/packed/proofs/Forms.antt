@@ -4,7 +4,7 @@ use mathlib.Core.Bool.{Bool, true, false}
 use mathlib.Core.Logic.{⊎_elim}
 use Prim.Native.Nat.{ℕ, ◌+◌, ◌*◌, ◌/◌, ◌%◌, ◌≤◌, ◌<◌}
 use native.Mathlib.Omega.{arith}
-use borrow.Author.Tests.{lt-ltb, le-ltb, le-leb, lt-leb}
+use borrow.Author.Tests.{leb-true, lt-ltb, le-ltb, le-leb, lt-leb}
 use lib.Dec.{leb, ltb}
 use Rattle.memory.proofs.Laws.{below_or_not}
 use Rattle.device.specs.Header.{header, unbuffered_by, unbuffered}
@@ -37,3 +37,13 @@ header_had n size h = sym (le-leb _ size (omega (arith, header_most n)))
 pub data_had : (n size : ℕ) → 14 < size → true ≡ ltb (unbuffered (form_of n)) size
 data_had n size h =
     sym (lt-ltb (unbuffered (form_of n)) size (omega (arith, header_most n, unbuffered_header (form_of n).location (form_of n).length)))
+
+-- ---- what has the header has all that goes to no buffer; what has not is enough with location 1 alone
+
+pub enough : (location : Bool) (l size : ℕ) → leb (header l) size ≡ true → true ≡ leb (unbuffered_by location l) size
+enough location l size h =
+    sym (le-leb (unbuffered_by location l) size (omega (arith, leb-true (header l) size h, unbuffered_header location l)))
+
+pub by_location : (location : Bool) (l size : ℕ) → leb (header l) size ≡ false → location ≡ leb (unbuffered_by location l) size
+by_location true l size h = sym (le-leb 0 size (omega arith))
+by_location false l size h = sym h

@@ -2,11 +2,10 @@
 use mathlib.Core.Path.{◌≡◌, refl, sym, ◌∙◌}
 use mathlib.Core.Logic.{◌≢◌}
 use mathlib.Core.List.{List, [], ◌∷◌, ◌++◌}
-use Prim.Native.Nat.{ℕ, zero, suc, ◌+◌, ◌%◌}
+use Prim.Native.Nat.{ℕ, zero, suc, ◌%◌}
 use native.Mathlib.Nat.{suc_inj, suc-ne-zero}
-use native.Mathlib.Omega.{arith}
 use lib.ListN.{length, get_or, set}
-use Rattle.memory.specs.Memory.{byte_at, put_byte, bytes_at, put_bytes, value, field_at, Write, apply}
+use Rattle.memory.specs.Memory.{byte_at, put_byte, bytes_at, put_bytes, field_at, Write, apply}
 use Rattle.memory.proofs.Laws.{length-put_byte, length-put_bytes, byte_other}
 use Rattle.progress.specs.Same.{In, here, there, range, targets, Same}
 

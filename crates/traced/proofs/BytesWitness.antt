@@ -1,7 +1,7 @@
 -- The laws over calls on bytes are about something: among these calls one is refused; a frame is held and lost, as the record lent next is not the one
 -- left; and another is held and stored, its record lent as it was left. Assumes nothing.
 use mathlib.Core.Path.{◌≡◌, refl, sym, ap, ◌∙◌, subst}
-use mathlib.Core.Bool.{Bool, true, false, not, true≢false}
+use mathlib.Core.Bool.{Bool, true, false, true≢false}
 use mathlib.Core.List.{List, [], ◌∷◌, ◌++◌, map}
 use Prim.Native.Nat.{ℕ}
 use native.Mathlib.Omega.{arith}
@@ -35,7 +35,7 @@ use Rattle.chip.specs.World.{World}
 use Rattle.calls.specs.Calls.{Areas, areas_of, Called, answer_number, refusal_of, turn_call}
 use Rattle.progress.specs.Trace.{run}
 use Rattle.traces.specs.Areas.{FrameBytes, AreBytes, Holds, world_in}
-use Rattle.traces.specs.Bytes.{called, number}
+use Rattle.traces.specs.Bytes.{called}
 use Rattle.traces.specs.Driven.{Lending, lending, refused_at, left_by, host_of}
 use Rattle.traces.specs.Event.{call}
 use Rattle.closure.specs.Carried.{Carried}

@@ -20,7 +20,7 @@ use Rattle.chip.specs.Cases.{Word, ◌is◌, put}
 use Rattle.chip.specs.Call.{attention, arrive, turn}
 use Rattle.chip.specs.World.{World, world_of}
 use Rattle.traces.specs.Event.{Event, call, host, step, DuringList}
-use Rattle.progress.specs.Trace.{run, turns}
+use Rattle.progress.specs.Trace.{run}
 use Rattle.progress.specs.Machine.{Undisturbed, log}
 use Rattle.progress.proofs.Trace.{may_append}
 use Rattle.lists.specs.Uses.{Listed, first_of}

@@ -14,7 +14,7 @@ use Rattle.chip.specs.Cases.{Word, ◌is◌, put, start_on}
 use Rattle.chip.specs.Call.{attention, arrive, turn}
 use Rattle.chip.specs.World.{World}
 use Rattle.traces.specs.Event.{Event, call, host, step, DuringList}
-use Rattle.progress.specs.Trace.{run, AllMay, turns}
+use Rattle.progress.specs.Trace.{run, AllMay}
 use Rattle.progress.specs.Machine.{Undisturbed, log}
 use Rattle.progress.proofs.Trace.{may_append}
 use Rattle.lists.specs.Unit.{machine, began, ended}
