@@ -14,7 +14,7 @@ use Rattle.lines.specs.declared.Reader.{Reader}
 use Rattle.lines.specs.Reader as lines
 use Rattle.session.specs.Run.{State, state_of, start, fault_of, stopped_by, line_obeyed, judged, line_ended, fed, ran}
 use Rattle.printing.specs.Line.{program_room}
-use Rattle.printing.specs.Run.{judged_text, char_text, text_of, emptied_in, written, joined, Room, quietly, newlines, Cut}
+use Rattle.printing.specs.Run.{judged_text, char_text, text_of, emptied_in, joined, Room, quietly, newlines, Cut}
 use Rattle.printing.specs.Streams.{Stream, output, errors, judged_on, char_on, text_on, stream_of, seen_on, written_on, in_stretches_on}
 use Rattle.printing.proofs.Run.{fed_alike, ran_alike, text_alike, stretch}
 use Rattle.printing.proofs.Whole.{rooms, start_sane}

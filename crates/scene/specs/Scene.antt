@@ -1,5 +1,5 @@
 -- What a line does and prints: docs/replay.md, "Lines" and "Answers". Assumes nothing.
-use Rattle.std.specs.Prelude.{◌≡◌, Bool, true, false, cond, List, [], ◌∷◌, ◌++◌, ℕ, zero, suc, ◌+◌, ◌-◌, ◌%◌, min, eqb, length}
+use Rattle.std.specs.Prelude.{◌≡◌, cond, List, [], ◌∷◌, ◌++◌, ℕ, zero, suc, ◌+◌, ◌-◌, ◌%◌, min, eqb, length}
 use Rattle.std.proofs.lemmas.List.Edits.{sets}
 use Rattle.device.specs.Limits.{record_size}
 use Rattle.board.specs.declared.Board.{Board}

@@ -62,6 +62,7 @@ fn turn_count(line: Line) -> u16
 }
 
 // The host writes.
+#[tactic(auto, unfolding(crate::specs::Scene::areas_by))]
 fn write(
     area: Area,
     memory: &mut [u8],
@@ -80,6 +81,7 @@ fn write(
     }
 }
 
+#[tactic(auto, unfolding(crate::specs::Scene::shown))]
 fn show(
     area: Area,
     memory: &[u8],
@@ -99,6 +101,7 @@ fn show(
     }
 }
 
+#[tactic(auto, unfolding(crate::specs::Scene::looked))]
 fn look(
     area: Area,
     memory: &[u8],
