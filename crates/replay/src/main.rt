@@ -1,17 +1,22 @@
 // Replays a list of calls and host writes, from the file that its argument names or from standard input, and prints each answer.
 // docs/replay.md has the forms. What is done with the input is `running`'s; here it is run stretch by stretch, and what each prints is written
-// out. A program has no exit status: if anything went wrong, and only then, the error stream has a line.
+// out. Its exit status is 0: if anything went wrong, and only then, the error stream has a line.
 
 #![tactic(auto)]
 
 ghost use Rattle.std.specs.Prelude.{◌≡◌, length};
 ghost use Rattle.printing.specs.Line.{program_room};
 
-use libc::STDIN_FILENO;
 use session::Session;
+use std::alloc::Global;
+use std::io::{Read, Write};
+use std::{env, fs, io};
 
 // A piece of input, line by line.
-fn run_lines(
+fn run_lines<O: Write, E: Write>(
+    alloc: Global,
+    output: &mut O,
+    errors: &mut E,
     s: Session,
     memory: &mut [u8],
     holding: &mut [u8],
@@ -25,7 +30,7 @@ fn run_lines(
     while from < input.len() {
         let to = stretches::line_end(input, from);
         t = running::run_stretch(t, memory, holding, outgoing, bytes, &input[from..to], out);
-        t = stretches::write_out(t, out);
+        t = stretches::write_out(alloc, output, errors, t, out);
         from = to;
     }
     t
@@ -33,21 +38,35 @@ fn run_lines(
 
 // All of the input, piece by piece. A proved loop has to end, and nothing says that a file does: the loop counts its turns, up to a number
 // that no run uses up.
-fn run_all(
+fn run_all<R: Read, O: Write, E: Write>(
+    alloc: Global,
+    list: &mut R,
+    output: &mut O,
+    errors: &mut E,
     memory: &mut [u8],
     holding: &mut [u8],
     outgoing: &mut [u8],
     bytes: &mut [u8],
     out: &mut [u8],
-    fd: i32,
 ) {
-    let mut input = io::buffer();
+    let mut input = [0u8; 4096];
     let mut s = session::start();
     let mut turns = u64::MAX;
     while turns > 0 {
-        let piece = stretches::read_piece(&mut input, fd);
+        let piece = stretches::read_piece(alloc, &mut input, list, errors);
         let n = piece.length;
-        s = run_lines(s, memory, holding, outgoing, bytes, &input[..n], out);
+        s = run_lines(
+            alloc,
+            output,
+            errors,
+            s,
+            memory,
+            holding,
+            outgoing,
+            bytes,
+            &input[..n],
+            out,
+        );
         turns = stretches::turns_left(turns, piece.last, s.stopped);
     }
 }
@@ -61,38 +80,57 @@ fn room() -> [u8; ROOM]
     [0; ROOM]
 }
 
-fn run_file(fd: i32) {
-    let mut memory = io::large_buffer();
+fn run_list<R: Read, O: Write, E: Write>(
+    alloc: Global,
+    list: &mut R,
+    output: &mut O,
+    errors: &mut E,
+) {
+    let mut memory = [0u8; 65536];
     let mut holding = [0u8; 2048];
     let mut outgoing = [0u8; 2048];
-    let mut bytes = io::large_buffer();
+    let mut bytes = [0u8; 65536];
     let mut out = room();
     run_all(
+        alloc,
+        list,
+        output,
+        errors,
         &mut memory,
         &mut holding,
         &mut outgoing,
         &mut bytes,
         &mut out,
-        fd,
     );
 }
 
-fn main() {
-    if os::arg_count() < 2 {
-        run_file(STDIN_FILENO);
+// The longest name of a file, and the system's number for one that is longer.
+const LONGEST_NAME: usize = 4096;
+
+const ENAMETOOLONG: i32 = 36;
+
+fn main(rt: HostRuntime) {
+    let alloc = rt.alloc();
+    let mut output = rt.stdout();
+    let mut errors = rt.stderr();
+    let mut words = match env::args(&rt) {
+        Ok(words) => words,
+        Err(error) => {
+            stretches::fail(alloc, &mut errors, "the file's name", error);
+            return;
+        }
+    };
+    let Some(name) = words.nth(1) else {
+        run_list(alloc, &mut rt.stdin(), &mut output, &mut errors);
+        return;
+    };
+    if name.len() > LONGEST_NAME {
+        let error = io::Error::from_raw_os_error(ENAMETOOLONG);
+        stretches::fail(alloc, &mut errors, "the file's name", error);
         return;
     }
-    let mut path = io::buffer();
-    let length = os::arg(1, &mut path);
-    if os::errno() != 0 {
-        os::fail(b"the file's name");
-        return;
+    match fs::open(&rt, name.as_str()) {
+        Ok(mut list) => run_list(alloc, &mut list, &mut output, &mut errors),
+        Err(error) => stretches::fail(alloc, &mut errors, name.as_str(), error),
     }
-    let fd = os::open_read(&path[..length]);
-    if fd < 0 {
-        os::fail(&path[..length]);
-        return;
-    }
-    run_file(fd);
-    libc::close(fd);
 }

@@ -9,8 +9,15 @@ ghost use Rattle.session.specs.Run.{halted};
 ghost use Rattle.printing.specs.Run.{newlines};
 ghost use Rattle.printing.specs.Streams.{descriptor, stream_of};
 
-use libc::{STDERR_FILENO, STDOUT_FILENO};
 use session::Session;
+use std::alloc::Global;
+use std::io;
+use std::io::{Read, Write};
+
+// Standard output and the error stream, as the system numbers them.
+const STDOUT_FILENO: i32 = 1;
+
+const STDERR_FILENO: i32 = 2;
 
 // The smaller of two numbers.
 fn least(a: usize, b: usize) -> usize
@@ -48,16 +55,49 @@ fn stream(s: Session) -> i32
     STDOUT_FILENO
 }
 
+// What goes wrong is told on the error stream: what failed, a colon and the system's words for it.
+pub fn fail<E: Write>(alloc: Global, errors: &mut E, what: &str, error: io::Error) {
+    let text = error.to_string(alloc);
+    let _told = match text {
+        Ok(words) => match words.as_str().split_once(" (os error ") {
+            Some((known, _)) => writeln!(errors, "{what}: {known}"),
+            None => writeln!(errors, "{what}: {words}"),
+        },
+        Err(_) => writeln!(errors, "{what}: {error}"),
+    };
+}
+
+// A text on one of the two streams.
+fn write_to<O: Write, E: Write>(
+    fd: i32,
+    output: &mut O,
+    errors: &mut E,
+    text: &[u8],
+) -> io::Result<()> {
+    if fd == STDERR_FILENO {
+        return errors.write_all(text);
+    }
+    output.write_all(text)
+}
+
 // What a session has put is written out. Where that fails the session stops, and is else as it was.
-pub fn write_out(s: Session, out: &[u8]) -> Session
+pub fn write_out<O: Write, E: Write>(
+    alloc: Global,
+    output: &mut O,
+    errors: &mut E,
+    s: Session,
+    out: &[u8],
+) -> Session
     ensures { (result ≡ s) ⊎ (result ≡ halted s) }
 {
     let n = least(s.at, out.len());
-    if io::write_all(stream(s), &out[..n]) {
-        return s;
+    match write_to(stream(s), output, errors, &out[..n]) {
+        Ok(()) => s,
+        Err(error) => {
+            fail(alloc, errors, "standard output", error);
+            session::halted(s)
+        }
     }
-    os::fail(b"standard output");
-    session::halted(s)
 }
 
 // A piece of input: how many bytes it has, and whether it is the last.
@@ -69,29 +109,40 @@ pub struct Piece {
 
 // What is read next: nothing at the end of the input. Where it cannot be read there is nothing more, and no line's end either: a line that is
 // not there whole is not obeyed.
-fn read_some(input: &mut [u8], fd: i32) -> Piece
+fn read_some<R: Read, E: Write>(
+    alloc: Global,
+    input: &mut [u8],
+    list: &mut R,
+    errors: &mut E,
+) -> Piece
     ensures { result.length ≤ length input.new }
 {
-    let got = libc::read(fd, input);
-    if got < 0 {
-        os::fail(b"the list");
-        return Piece {
-            length: 0,
-            last: true,
-        };
-    }
-    Piece {
-        length: io::count(got, input),
-        last: false,
+    match list.read(input) {
+        Ok(length) => Piece {
+            length,
+            last: false,
+        },
+        Err(error) => {
+            fail(alloc, errors, "the list", error);
+            Piece {
+                length: 0,
+                last: true,
+            }
+        }
     }
 }
 
 // The next piece of input. The last line needs no newline: the last piece, behind the end of the input, is one.
-pub fn read_piece(input: &mut [u8], fd: i32) -> Piece
+pub fn read_piece<R: Read, E: Write>(
+    alloc: Global,
+    input: &mut [u8],
+    list: &mut R,
+    errors: &mut E,
+) -> Piece
     requires { 0 < length input.old }
     ensures { result.length ≤ length input.new }
 {
-    let p = read_some(input, fd);
+    let p = read_some(alloc, input, list, errors);
     if p.last {
         return p;
     }
