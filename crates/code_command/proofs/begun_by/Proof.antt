@@ -1,5 +1,4 @@
 -- `code_command::begun_by` meets its contract. Assumes nothing.
-use native.Mathlib.Omega.{arith}
 use Rattle.code_command.proofs.Laws.{begun_by_is}
 use borrow.Author.Rules.{rules}
 use Rattle.code_command.proofs.begun_by.Statement.{statement}
