@@ -8,8 +8,8 @@ cd "$(dirname "$0")/../.."
 self=tests/commands/run.sh
 . tests/command.sh
 . tests/kit.sh
-[ -x target/bin/replay ] || cannot "the replay program is not built: rt check replay"
-[ -f target/staticlib/liblentoquist.a ] || cannot "the archive is not built: rt staticlib lentoquist"
+[ -x target/bin/replay ] || cannot "the replay program is not built: ./replay examples/sample.list"
+[ -f target/staticlib/liblentoquist.a ] || cannot "the archive is not built: tests/host/run.sh"
 work=$(mktemp -d)
 trap 'rm -rf "$work"' EXIT
 

@@ -1,6 +1,6 @@
 #!/usr/bin/env bash
 # Builds the archive, the example and the host's tests with the kit's own compiler and linker, and runs them; then installs the archive and
-# builds the example from there. Nothing need be installed but the kit; where the machine is not x86-64 the programs run under the kit's emulator.
+# builds the example from there. Nothing need be installed but the kit. They are programs for x86-64.
 # All outputs go to target/host. Stops at the first failure.
 #   --long          ten times as many random calls
 #   --seed NUMBER   another seed for them
@@ -16,13 +16,13 @@ self=tests/host
 out=target/host
 rm -rf "$out"
 mkdir -p "$out"
-archive=${LQ_ARCHIVE:-}
-if [ -z "$archive" ]; then
-    rt staticlib lentoquist >"$out/staticlib.log" 2>&1 || cannot "rt staticlib lentoquist failed:
-$(tail -n 20 "$out/staticlib.log")"
-    archive=target/staticlib/liblentoquist.a
+product=${LQ_ARCHIVE:-}
+if [ -z "$product" ]; then
+    archive lentoquist "$out/archive.log" || cannot "the archive is not proved:
+$(tail -n 20 "$out/archive.log")"
+    product=target/staticlib/liblentoquist.a
 fi
-[ -f "$archive" ] || cannot "there is no archive $archive"
+[ -f "$product" ] || cannot "there is no archive $product"
 
 # ---- compile and link
 
@@ -34,7 +34,7 @@ compile() { # SOURCE [INCLUDE]: to $out/NAME.o
 link() { # NAME OBJECT...
     local name=$1
     shift
-    "$own/bin/rattle-link" --target x86_64-unknown-linux-gnu --toolchain "$tools" -o "$out/$name" "$@" "$archive" 2>"$out/$name.link" ||
+    "$home/bin/rattle-link" --target x86_64-unknown-linux-gnu --toolchain "$tools" -o "$out/$name" "$@" "$product" 2>"$out/$name.link" ||
         fail "$name does not link: $(cat "$out/$name.link")"
 }
 
@@ -55,10 +55,10 @@ as_expected() { # COMMAND ..: what runs the example
 $(diff examples/host.expected "$out/host.out" | head -n 10)"
 }
 
-as_expected "${loader[@]}" "$out/example"
+as_expected "$out/example"
 echo "example    as expected, $(wc -l <"$out/host.out") lines"
 
-"${loader[@]}" "$out/host_tests" "$@" || fail "a test failed"
+"$out/host_tests" "$@" || fail "a test failed"
 
 # ---- installed: the example from the installed files alone, as pkg-config tells a C compiler to build it, or where there is none by their paths
 if [ -z "${LQ_ARCHIVE:-}" ]; then
@@ -73,10 +73,10 @@ if [ -z "${LQ_ARCHIVE:-}" ]; then
         as_expected "$out/installed"
         echo "installed  the example as expected, by pkg-config"
     else
-        archive=$room/prefix/lib/liblentoquist.a
+        product=$room/prefix/lib/liblentoquist.a
         compile examples/host.c "$room/prefix/include"
         link installed "$out/host.o"
-        as_expected "${loader[@]}" "$out/installed"
+        as_expected "$out/installed"
         echo "installed  the example as expected, by the installed paths"
     fi
 fi
