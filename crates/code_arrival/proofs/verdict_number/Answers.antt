@@ -1,12 +1,8 @@
 -- `code_arrival::verdict_number` meets its contract. Assumes nothing.
-use mathlib.Core.Path.{◌≡◌, refl}
-use Prim.Native.Nat.{ℕ, zero, suc, ◌<◌, ◌≤◌}
-use native.Mathlib.Omega.{arith}
+use Rattle.std.proofs.Common.{◌≡◌, ◌<◌, ◌≤◌, ℕ, zero, suc, refl, arith}
 use borrow.Author.Tests.{ne_eqb}
-use borrow.Author.Rules.{rules}
 use Rattle.device.specs.Numbers.{verdict_of, verdict_number}
-use Rattle.code_arrival.proofs.verdict_number.Statement.{statement}
-use Rattle.code_arrival.proofs.verdict_number.Tie as tie
+use Rattle.code_arrival.proofs.verdict_number.Goals as goal
 
 small : (v : ℕ) → v < 2 → v ≡ verdict_number (verdict_of v)
 unfolding verdict_of
@@ -18,9 +14,8 @@ large : (v : ℕ) → 2 ≤ v → 2 ≡ verdict_number (verdict_of v)
 unfolding verdict_of
 large v h = simp (ne_eqb v 0 (λ z. omega (arith, z, h)), ne_eqb v 1 (λ z. omega (arith, z, h))) refl
 
-pub verdict_number_spec : {M : Type 1} → statement M
-verdict_number_spec =
-    tie.close
-    (tie.spec
-    (λ c. (small _ c.if1.true, omega (arith, c.if1.true)))
-    (λ c. (large _ c.if1.false, omega arith)))
+pub returns-then-v-lt2 : goal.returns-then-v-lt2
+returns-then-v-lt2 c = (small _ c.if-v-lt2.true, omega arith)
+
+pub returns-else-v-lt2 : goal.returns-else-v-lt2
+returns-else-v-lt2 c = (large _ c.if-v-lt2.false, omega arith)

@@ -1,0 +1,11 @@
+-- The loop of `code_filter::is_own`: the first i bytes agree. Assumes nothing.
+use Rattle.std.proofs.Common.{◌-◌, ◌≡◌, ◌≤◌, true}
+use Rattle.filter.specs.Match.{agree}
+use Rattle.packed.specs.SetUp.{own_at}
+use Rattle.code_filter.proofs.is_own.Given as goal
+
+abbrev pub invariant-loop-i : goal.invariant-loop-i
+invariant-loop-i l = (l.i ≤ l.l) × (agree l.setup own_at l.frame l.i ≡ true)
+
+abbrev pub decreases-loop-i : goal.decreases-loop-i
+decreases-loop-i l = l.l - l.i
