@@ -1,4 +1,4 @@
-// The code of the calls, of which lentoquist offers C each by its name: refusals first, then the chip under the record's image. They take slices
+// The code of the calls, of which lentoquist has each by its name: refusals first, then the chip under the record's image. They take slices
 // of every length and every content. The room calls says what each answers and leaves in every lent byte.
 
 #![tactic(auto)]
