@@ -14,7 +14,6 @@ use Rattle.chip.proofs.Run.{from_start, from_none, from_stops, from_goes}
 use Rattle.packed.specs.declared.Packed.{Packed}
 use Rattle.code_chip.specs.Does.{DeviceIs, Does, Runs}
 use Rattle.code_chip.specs.declared.Turned.{Turned}
-use Rattle.code_chip.specs.declared.Turns.{Turns}
 
 -- a turn only reads the holding area
 holding_by : (s : Served) (w : World) (report : ℕ) → (turn_by s w report).holding ≡ w.holding
