@@ -1,8 +1,8 @@
 -- What the inner functions come to: a call whatever is asked, and the record that numbers go back to. Assumes nothing.
 use mathlib.Core.Path.{◌≡◌, refl, sym, ap, subst, ◌∙◌}
 use mathlib.Core.Bool.{Bool, true, false}
-use mathlib.Core.List.{List, [], ◌++◌}
-use Prim.Native.Nat.{ℕ, zero, suc, ◌+◌, ◌*◌, ◌<◌}
+use mathlib.Core.List.{List, ◌++◌}
+use Prim.Native.Nat.{ℕ, zero, suc, ◌+◌, ◌*◌}
 use native.Mathlib.Omega.{arith}
 use lib.ListN.{length, take, drop, replicate, take-append-drop}
 use Rattle.memory.proofs.Bytes.{Bytes}
@@ -26,14 +26,12 @@ use Rattle.chip.specs.Attention.{attention_of}
 use Rattle.chip.specs.Arrival.{arrival_of}
 use Rattle.chip.specs.Turn.{turn_of}
 use Rattle.chip.specs.Run.{Run, stops_at, continued, run_of}
-use Rattle.chip.proofs.Run.{run_one}
 use Rattle.code_chip.proofs.Loop.{holding_kept}
 use Rattle.chip.proofs.Answers.{Plain, run_plain}
 use Rattle.calls.specs.Calls.{Areas, is_image, lengths_of, refusal_of, refused, unless_refused, answer_number}
 use Rattle.calls.proofs.Rows.{LengthsRight, rows_right, by_length_lem}
 use Rattle.calls.proofs.Laws.{refuses, no_image, accepted}
 use Rattle.code_calls.specs.declared.Asked.{Asked}
-use Rattle.code_calls.specs.declared.Asked.TheVariants as asked
 use Rattle.code_calls.specs.Inner.{by_lengths, Finds, kept_turns, asked_on, asked_call}
 
 -- ---- a call, whatever is asked

@@ -1,5 +1,5 @@
-// The five calls that C links, each one call of code_calls. They take slices of every length and every content. The room calls says what each
-// answers and leaves in every lent byte.
+// The five calls, each one call of code_calls. They take slices of every length and every content. The room calls says what each answers and leaves
+// in every lent byte. What C links is lentoquist_c.
 
 #![tactic(auto)]
 
@@ -11,16 +11,14 @@ use code_calls::Asked;
 const TURN: u64 = 1 << 48;
 
 // Reset takes the record alone, ignores its content and writes a fresh one.
-#[unsafe(no_mangle)]
-pub extern "C" fn lq_reset(kept: &mut [u8]) -> u64
+pub fn lq_reset(kept: &mut [u8]) -> u64
     ensures { calls.Renews (calls.reset_call kept.old) result kept.new }
 {
     code_calls::reset(kept)
 }
 
 // A channel attention.
-#[unsafe(no_mangle)]
-pub extern "C" fn lq_attention(
+pub fn lq_attention(
     memory: &mut [u8],
     holding: &mut [u8],
     outgoing: &mut [u8],
@@ -45,8 +43,7 @@ pub extern "C" fn lq_attention(
 }
 
 // A frame arrives, with the line side's verdict.
-#[unsafe(no_mangle)]
-pub extern "C" fn lq_arrival(
+pub fn lq_arrival(
     memory: &mut [u8],
     holding: &mut [u8],
     outgoing: &mut [u8],
@@ -72,8 +69,7 @@ pub extern "C" fn lq_arrival(
 }
 
 // A turn, with the line report that counts if it is the end turn of a Transmit: a run of one turn, which no answer of a turn counts.
-#[unsafe(no_mangle)]
-pub extern "C" fn lq_turn(
+pub fn lq_turn(
     memory: &mut [u8],
     holding: &mut [u8],
     outgoing: &mut [u8],
@@ -100,8 +96,7 @@ pub extern "C" fn lq_turn(
 
 // Turns in a row, until `budget` are taken or one has sent a frame of at least one byte, reported an edge or found no work. The record is read and
 // written once.
-#[unsafe(no_mangle)]
-pub extern "C" fn lq_run(
+pub fn lq_run(
     memory: &mut [u8],
     holding: &mut [u8],
     outgoing: &mut [u8],
