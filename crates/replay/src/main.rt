@@ -80,7 +80,7 @@ fn room() -> [u8; ROOM]
     [0; ROOM]
 }
 
-fn run_list<R: Read, O: Write, E: Write>(
+fn run_file<R: Read, O: Write, E: Write>(
     alloc: Global,
     list: &mut R,
     output: &mut O,
@@ -121,7 +121,7 @@ fn main(rt: HostRuntime) {
         }
     };
     let Some(name) = words.nth(1) else {
-        run_list(alloc, &mut rt.stdin(), &mut output, &mut errors);
+        run_file(alloc, &mut rt.stdin(), &mut output, &mut errors);
         return;
     };
     if name.len() > LONGEST_NAME {
@@ -130,7 +130,7 @@ fn main(rt: HostRuntime) {
         return;
     }
     match fs::open(&rt, name.as_str()) {
-        Ok(mut list) => run_list(alloc, &mut list, &mut output, &mut errors),
+        Ok(mut list) => run_file(alloc, &mut list, &mut output, &mut errors),
         Err(error) => stretches::fail(alloc, &mut errors, name.as_str(), error),
     }
 }
