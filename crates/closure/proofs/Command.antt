@@ -37,7 +37,8 @@ use Rattle.command.specs.End.{after_end, status_to, next_after, end}
 use Rattle.command.specs.Service.{service_by}
 use Rattle.phases.specs.Forms.{FormWide}
 use Rattle.phases.proofs.Units.{both}
-use Rattle.closure.proofs.Units.{CuGood, WalkGood, unbuffered_most, cu_idle, cu_suspended, cu_waiting, cu_acting, cu_failing, cu_ending, cu_sending, at_waiting, ending_size, at_sending, sending_walk}
+use Rattle.closure.proofs.Walks.{WalkGood}
+use Rattle.closure.proofs.Units.{CuGood, unbuffered_most, cu_idle, cu_suspended, cu_waiting, cu_acting, cu_failing, cu_ending, cu_sending, at_waiting, ending_size, at_sending, sending_walk}
 
 -- ---- runs of bytes
 

@@ -1,6 +1,6 @@
 -- A unit in range, phase by phase: what makes one, and what is known of one. Assumes nothing.
 use mathlib.Core.Path.{◌≡◌, refl}
-use mathlib.Core.Bool.{Bool, true, false, not, ◌&&◌, ◌||◌}
+use mathlib.Core.Bool.{Bool, true, not, ◌&&◌, ◌||◌}
 use Prim.Native.Nat.{ℕ, ◌≤◌, ◌<◌}
 use native.Mathlib.Omega.{arith}
 use borrow.Author.Tests.{leb-true, ltb-true, le-leb, lt-ltb, not-true}
@@ -25,6 +25,7 @@ use Rattle.device.proofs.Header.{at_most_the_header}
 use Rattle.phases.specs.Forms.{kind_of, FormWide}
 use Rattle.phases.specs.Phases.{cu_word, ru_word, WordWide}
 use Rattle.phases.proofs.Units.{both, kind_below}
+use Rattle.closure.proofs.Walks.{WalkGood}
 use Rattle.image.specs.Ranges.{form_fits, sized_from, has_next, has_data, cu_fits, frame_fits, ru_fits}
 
 -- each unit's range, the command unit's by the form in force, and the widths of its words
@@ -89,14 +90,7 @@ pub cu_ending : {f : Form} (b : Begun) (n : ℕ) → b.block.0 < 65536 → unbuf
 unfolding cu_fits cu_word
 cu_ending b n h p q = record { fits = sized_true _ n p q; wide = record { at = h; kind = omega arith; size = omega arith; next = omega arith } }
 
--- a walk that goes on, behind so many bytes at least
-pub record WalkGood (least : ℕ) (w : Walk) : Type 0 where
-  pub next : w.next.0 < 65536
-  pub used : w.used ≤ 63
-  pub some : is_none w.next ≡ false
-  pub enough : least ≤ w.filled
-  pub most : w.filled ≤ 2048
-
+-- a walk that goes on
 goes_true : (least : ℕ) (w : Walk) → WalkGood least w → has_next w ≡ true
 goes_true least w h = rw (le-leb w.used 63 h.used, h.some)
 

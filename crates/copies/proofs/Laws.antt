@@ -8,7 +8,7 @@ use Prim.Native.Nat.{ℕ, zero, suc, ◌+◌, ◌-◌, ◌%◌, ◌≤◌, ◌<�
 use native.Mathlib.Nat.{le_of_lt, mod-lt, mod-eq_of_lt, mod-mod, mod_self, zero-mod, add_assoc, sub-zero, zero-sub, suc-sub-suc}
 use native.Mathlib.Omega.{arith}
 use lib.ListN.{length, get_or, set, take, drop, replicate, length-set, length-drop, length-take, take-append-drop}
-use lib.Seq.{drop-cons, drop-drop, take-take, take_all, take-nil, take_at, length-take-le, sets, length-sets}
+use lib.Seq.{drop-cons, take_all, take-nil, take_at, length-take-le, sets}
 use Rattle.memory.specs.Memory.{byte_at, put_byte, bytes_at, put_bytes}
 use Rattle.memory.proofs.Laws.{length-bytes_at, length-put_bytes, below_or_not, none_get, none_set, put_append, bytes_append, sets-append, run_all}
 use Rattle.memory.proofs.Places.{bytes_place, put_place}
@@ -30,7 +30,7 @@ put_run m i (b ∷ bs) h =
     rw (mod-eq_of_lt l) (put_run (set m i b) (suc i) bs (rw length-set (omega arith)))
 
 -- the place behind the last byte is the first
-start_again : (j n : ℕ) → j ≡ n → j % n ≡ 0 % n
+pub start_again : (j n : ℕ) → j ≡ n → j % n ≡ 0 % n
 start_again j n e = rw e (mod_self n ∙ sym (zero-mod n))
 
 bytes_on : (m : List ℕ) (j n : ℕ) → (0 < n → j % length m ≡ 0 % length m) → bytes_at m j n ≡ bytes_at m 0 n
@@ -38,7 +38,7 @@ unfolding bytes_at
 bytes_on m j zero h = refl
 bytes_on m j (suc n) h = bytes_place m j 0 (suc n) (h (omega arith))
 
-put_on : (m : List ℕ) (j : ℕ) (bs : List ℕ) → (0 < length bs → j % length m ≡ 0 % length m) → put_bytes m j bs ≡ put_bytes m 0 bs
+pub put_on : (m : List ℕ) (j : ℕ) (bs : List ℕ) → (0 < length bs → j % length m ≡ 0 % length m) → put_bytes m j bs ≡ put_bytes m 0 bs
 unfolding put_bytes
 put_on m j [] h = refl
 put_on m j (b ∷ bs) h = put_place m j 0 (b ∷ bs) (h (omega arith))
@@ -112,10 +112,10 @@ fits len at k done run most h e = omega arith
 pub up_to_the_end : (i len left run : ℕ) → i < len → run ≡ min left (len - i) → i + run ≤ len
 up_to_the_end i len left run h e = omega arith
 
-reaches : (i len left run : ℕ) → i < len → run ≡ min left (len - i) → 0 < left - run → i + run ≡ len
+pub reaches : (i len left run : ℕ) → i < len → run ≡ min left (len - i) → 0 < left - run → i + run ≡ len
 reaches i len left run h e q = omega arith
 
-some_left : (l n k : ℕ) → l ≡ min n k → 0 < l → 0 < n
+pub some_left : (l n k : ℕ) → l ≡ min n k → 0 < l → 0 < n
 some_left l n k e h = omega arith
 
 pub within_left : (left most run : ℕ) → run ≡ min left most → run ≤ left
@@ -182,42 +182,11 @@ out_nowhere m d a at n k f z =
 
 -- ---- into memory: the same
 
-drop-take : (r n : ℕ) (l : List ℕ) → drop r (take n l) ≡ take (n - r) (drop r l)
+pub drop-take : (r n : ℕ) (l : List ℕ) → drop r (take n l) ≡ take (n - r) (drop r l)
 drop-take zero n l = rw sub-zero
 drop-take (suc r) zero l = rw zero-sub
 drop-take (suc r) (suc n) [] = sym (take-nil (suc n - suc r))
 drop-take (suc r) (suc n) (x ∷ l) = rw suc-sub-suc (drop-take r n l)
-
-pub in_turn : (m src : List ℕ) (at i k done run : ℕ) → i < length m → k ≤ length src - at → run ≡ min (k - done) (length m - i)
-    → put_bytes (sets m i (take run (drop (at + done) src))) ((i + run) % length m) (take (k - (done + run)) (drop (at + (done + run)) src))
-    ≡ put_bytes m i (take (k - done) (drop (at + done) src))
-in_turn m src at i k done run h q e =
-    let t : length (take (k - done) (drop (at + done) src)) ≡ k - done =
-    length-take-le (k - done) (drop (at + done) src) (rw length-drop (omega arith)) in
-    let r : k - (done + run) ≡ k - done - run = omega arith in
-    let w : length (take (k - done - run) (drop (at + done + run) src)) ≡ min (k - done - run) (length (drop (at + done + run) src)) =
-    length-take (k - done - run) (drop (at + done + run) src) in
-    let l : length (sets m i (take run (drop (at + done) src))) ≡ length m = length-sets m i (take run (drop (at + done) src)) in
-    let o : put_bytes (sets m i (take run (drop (at + done) src))) ((i + run) % length m) (take (k - done - run) (drop (at + done + run) src))
-    ≡ put_bytes (sets m i (take run (drop (at + done) src))) 0 (take (k - done - run) (drop (at + done + run) src)) =
-    put_on
-    (sets m i (take run (drop (at + done) src)))
-    ((i + run) % length m)
-    (take (k - done - run) (drop (at + done + run) src))
-    (λ (z : 0 < length (take (k - done - run) (drop (at + done + run) src))).
-    rw l (mod-mod (i + run) (length m) ∙ start_again (i + run) (length m) (reaches i (length m) (k - done) run h e (some_left _ _ _ w z)))) in
-    let x : i % length m ≡ i = mod-eq_of_lt h in
-    sym
-    (rw (
-      put_stretch m i (take (k - done) (drop (at + done) src)) run (rw (t, x) e),
-      x,
-      take-take run (k - done) (drop (at + done) src) (within_left (k - done) (length m - i) run e),
-      drop-take,
-      drop-drop,
-      r,
-      ← add_assoc,
-      o,
-    ))
 
 pub in_end : (m e src : List ℕ) (i k done : ℕ) → k ≤ done → put_bytes m i (take (k - done) src) ≡ e → m ≡ e
 unfolding put_bytes

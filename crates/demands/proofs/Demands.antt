@@ -131,7 +131,7 @@ use Rattle.worked.proofs.Grouped as grouped_run
 use Rattle.worked.proofs.Buffered as buffered_run
 use Rattle.held.specs.Held as held
 use Rattle.held.specs.OnRecords as on_records
-use Rattle.held.proofs.Held as held_frames
+use Rattle.held.proofs.Whole as held_frames
 use Rattle.held.proofs.Exact as held_exact
 use Rattle.held.proofs.Calls as held_calls
 use Rattle.held.proofs.Lending as lent_run

@@ -21,7 +21,7 @@ use Rattle.chip.proofs.Board.{board, descriptors, buffer_at, broadcast, good}
 use Rattle.progress.specs.Trace.{run, AllMay}
 use Rattle.traces.specs.Event.{Event, call, host, step, WhileHeld}
 use Rattle.held.specs.Held.{frames_in, is_settled, fates_at, Settled, Within}
-use Rattle.held.proofs.Held.{held_frame}
+use Rattle.held.proofs.Whole.{held_frame}
 
 -- ---- the run
 

@@ -4,7 +4,6 @@ use mathlib.Core.Bool.{Bool, true, false, true≢false, false≢true}
 use mathlib.Core.List.{List, [], ◌∷◌, ◌++◌, map, nil≢cons, cons≢nil, head-eq_of_cons-eq, tail-eq_of_cons-eq}
 use Prim.Native.Nat.{ℕ, ◌≤◌, ◌<◌}
 use native.Mathlib.Omega.{arith}
-use lib.Dec.{lit≤}
 use Rattle.device.specs.State.{is_holding, held_in}
 use Rattle.device.specs.declared.Fate.{Fate}
 use Rattle.device.specs.declared.Frame.{Frame}
@@ -180,7 +179,3 @@ within n m w f es e t c l =
     settled n f es w c t
     (rw e at (ends_within holder WhileHeld laws n es w c (holding w.device.units.ru f e)
     (omega (arith, m, left_most w.device.units.ru)) l))
-
--- demand 3: a held frame is stored or counted within 132 turns
-pub held_frame : Within 132
-held_frame = within _ (lit≤ tt)

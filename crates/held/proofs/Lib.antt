@@ -3,6 +3,7 @@ pub mod Service
 pub mod Turn
 pub mod Ending
 pub mod Held
+pub mod Whole
 pub mod Exact
 pub mod OnRecords
 pub mod Lending

@@ -17,7 +17,7 @@ use Rattle.traces.specs.Event.{Event, call, host, step, answers_of}
 use Rattle.closure.specs.Refusals.{FrameRight}
 use Rattle.lists.specs.Done.{enough, Done}
 use Rattle.lists.proofs.Whole.{attention_list_done, resumed_list_done}
-use Rattle.held.proofs.Held.{held_frame}
+use Rattle.held.proofs.Whole.{held_frame}
 use Rattle.held.proofs.OnRecords.{to_hold}
 use Rattle.kinds.specs.Chips.{Chip, ours, Given, Handed, Meets, Act, does, asks, events_in, chip_run, chip_answers}
 use Rattle.kinds.specs.Demands.{Acceptable, Demand2}

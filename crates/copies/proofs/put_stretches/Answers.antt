@@ -1,7 +1,8 @@
 -- `copies::put_stretches` meets its contract: what one turn of the loop adds, and what its end leaves. Assumes nothing.
 use Rattle.std.proofs.Common.{◌+◌, drop, rules}
 use Rattle.memory.proofs.Laws.{within}
-use Rattle.copies.proofs.Laws.{in_turn, in_end}
+use Rattle.copies.proofs.Laws.{in_end}
+use Rattle.copies.proofs.Turns.{in_turn}
 use Rattle.copies.proofs.put_stretches.Goals as goal
 
 pub loop-done-preserved : goal.loop-done-preserved
