@@ -8,11 +8,11 @@ tools=$home/toolchain
 [ -x "$tools/bin/clang" ] || cannot "the kit at $home has no compiler for this machine"
 root=$(cd "$(dirname "${BASH_SOURCE[0]}")/.." && pwd -P)
 
-# of what rt says: a line for each crate that was proved in this run, or was not
+# of what rt says: a line for each crate that it comes to, and none where nothing has changed
 heard() { # LOG
     tee "$1" | awk '
-        /^crate [a-z0-9_]+: / { name = $2; sub(":", "", name); fresh = $NF != "checked=0" }
-        /^logic=/ && name { if (fresh || $1 != "logic=proved") print "  " name (($1 == "logic=proved") ? "" : " is not proved"); name = ""; fflush() }
+        /^crate [a-z0-9_]+: / { name = $2; sub(":", "", name) }
+        /^logic=/ && name { print "  " name ($1 == "logic=proved" ? "" : " is not proved"); name = ""; fflush() }
         /^rt: .*NOT PROVED/ { print; fflush() }' >&2
 }
 
