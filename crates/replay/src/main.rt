@@ -9,8 +9,9 @@ ghost use Rattle.printing.specs.Line.{program_room};
 
 use session::Session;
 use std::alloc::Global;
+use std::env::{Env, FillError};
 use std::io::{Read, Write};
-use std::{env, fs, io};
+use std::{fs, io};
 
 // A piece of input, line by line.
 fn run_lines<O: Write, E: Write>(
@@ -104,33 +105,37 @@ fn run_file<R: Read, O: Write, E: Write>(
     );
 }
 
-// The longest name of a file, and the system's number for one that is longer.
+// The longest name of a file, and the system's numbers for one that is longer, and for one that is no text.
 const LONGEST_NAME: usize = 4096;
 
 const ENAMETOOLONG: i32 = 36;
+
+const EILSEQ: i32 = 84;
 
 fn main(rt: HostRuntime) {
     let alloc = rt.alloc();
     let mut output = rt.stdout();
     let mut errors = rt.stderr();
-    let mut words = match env::args(&rt) {
-        Ok(words) => words,
-        Err(error) => {
+    let mut name = [0u8; LONGEST_NAME];
+    let length = match rt.arg(1, &mut name) {
+        Ok(length) => length,
+        Err(FillError::NotPresent) => {
+            run_file(alloc, &mut rt.stdin(), &mut output, &mut errors);
+            return;
+        }
+        Err(_) => {
+            let error = io::Error::from_raw_os_error(ENAMETOOLONG);
             stretches::fail(alloc, &mut errors, "the file's name", error);
             return;
         }
     };
-    let Some(name) = words.nth(1) else {
-        run_file(alloc, &mut rt.stdin(), &mut output, &mut errors);
-        return;
-    };
-    if name.len() > LONGEST_NAME {
-        let error = io::Error::from_raw_os_error(ENAMETOOLONG);
+    let Ok(path) = str::from_utf8(&name[..length]) else {
+        let error = io::Error::from_raw_os_error(EILSEQ);
         stretches::fail(alloc, &mut errors, "the file's name", error);
         return;
-    }
-    match fs::open(&rt, name.as_str()) {
+    };
+    match fs::open(&rt, path) {
         Ok(mut list) => run_file(alloc, &mut list, &mut output, &mut errors),
-        Err(error) => stretches::fail(alloc, &mut errors, name.as_str(), error),
+        Err(error) => stretches::fail(alloc, &mut errors, path, error),
     }
 }
