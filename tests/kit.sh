@@ -1,6 +1,6 @@
 # Read by the scripts that need the Rattle kit beside `rt` itself: where it is (home, tools), and what is built with it, for x86-64.
 #   program NAME LOG   proves and builds the program of the crate NAME: target/bin/NAME
-#   archive NAME LOG   proves and builds the static library of the crate NAME_c, or NAME: target/staticlib/libNAME.a
+#   archive NAME LOG   proves and builds the static library of the crate NAME_c, or NAME, for every such processor: target/staticlib/libNAME.a
 # Both say on the error stream which crates are proved, keep all that rt says in LOG, and fail where rt does.
 rt=$(command -v rt) || cannot "rt, the Rattle kit's command, is not in PATH"
 home=${RATTLE_HOME:-$(cd "$(dirname "$(readlink -f "$rt")")/.." && pwd -P)}
@@ -28,6 +28,6 @@ archive() ( # NAME LOG
     crate=$1
     mkdir -p "$root/target/staticlib" || return 1
     [ ! -d "$root/crates/$1_c" ] || crate=$1_c
-    (cd "$root/crates/$crate" && rt lib </dev/null 2>&1) | heard "$2" || return 1
+    (cd "$root/crates/$crate" && rt lib --cpu=x86-64 </dev/null 2>&1) | heard "$2" || return 1
     cp -u "$root/crates/$crate/out/lib$crate.a" "$root/target/staticlib/lib$1.a"
 )
