@@ -4,7 +4,8 @@
 
 #![tactic(auto)]
 
-ghost use Rattle.std.specs.Prelude.{◌⊎◌, ◌≡◌, ◌-◌, ◌<◌, ◌≤◌, length, take, drop};
+ghost use Rattle.std.specs.Prelude.{◌⊎◌, ◌≡◌, ◌≢◌, ◌-◌, ◌<◌, ◌≤◌, min, true, false, length, take, drop, OnOk};
+ghost use Rattle.std.specs.Io.KnownBytes.{Appends};
 ghost use Rattle.session.specs.Run.{halted};
 ghost use Rattle.printing.specs.Run.{newlines};
 ghost use Rattle.printing.specs.Streams.{descriptor, stream_of};
@@ -21,7 +22,7 @@ const STDERR_FILENO: i32 = 2;
 
 // The smaller of two numbers.
 fn least(a: usize, b: usize) -> usize
-    ensures { (result ≤ a) × (result ≤ b) }
+    ensures { result ≡ min a b }
 {
     if a < b {
         return a;
@@ -73,14 +74,20 @@ fn write_to<O: Write, E: Write>(
     output: &mut O,
     errors: &mut E,
     text: &[u8],
-) -> io::Result<()> {
+) -> io::Result<()>
+    ensures on_errors { fd ≡ STDERR_FILENO → OnOk result (Appends (E.contents errors.old) (E.contents errors.new) text.now) }
+    ensures not_on_output { fd ≡ STDERR_FILENO → output.new ≡ output.old }
+    ensures on_output { fd ≢ STDERR_FILENO → OnOk result (Appends (O.contents output.old) (O.contents output.new) text.now) }
+    ensures not_on_errors { fd ≢ STDERR_FILENO → errors.new ≡ errors.old }
+{
     if fd == STDERR_FILENO {
         return errors.write_all(text);
     }
     output.write_all(text)
 }
 
-// What a session has put is written out. Where that fails the session stops, and is else as it was.
+// What a session has put is written out: while it goes on, to standard output alone; where it has stopped, nothing goes there. Where writing fails the
+// session stops, and is else as it was.
 pub fn write_out<O: Write, E: Write>(
     alloc: Global,
     output: &mut O,
@@ -88,7 +95,10 @@ pub fn write_out<O: Write, E: Write>(
     s: Session,
     out: &[u8],
 ) -> Session
-    ensures { (result ≡ s) ⊎ (result ≡ halted s) }
+    ensures session { (result ≡ s) ⊎ (result ≡ halted s) }
+    ensures answers { result.stopped ≡ false
+        → (errors.new ≡ errors.old) × Appends (O.contents output.old) (O.contents output.new) (take s.at out.now) }
+    ensures fault { s.stopped ≡ true → output.new ≡ output.old }
 {
     let n = least(s.at, out.len());
     match write_to(stream(s), output, errors, &out[..n]) {
