@@ -8,12 +8,12 @@ tools=$home/toolchain
 [ -x "$tools/bin/clang" ] || cannot "the kit at $home has no compiler for this machine"
 root=$(cd "$(dirname "${BASH_SOURCE[0]}")/.." && pwd -P)
 
-# of what rt says: a line for each crate that it comes to, and none where nothing has changed
+# of what rt says: a line for each crate that it comes to, none where nothing has changed, and the errors
 heard() { # LOG
     tee "$1" | awk '
         /^crate [a-z0-9_]+: / { name = $2; sub(":", "", name) }
         /^logic=/ && name { print "  " name ($1 == "logic=proved" ? "" : " is not proved"); name = ""; fflush() }
-        /^rt: .*NOT PROVED/ { print; fflush() }' >&2
+        /: error/ { print "  " substr($0, 1, 200); fflush() }' >&2
 }
 
 program() ( # NAME LOG
