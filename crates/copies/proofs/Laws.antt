@@ -173,13 +173,6 @@ pub out_none : (m d : List ℕ) (a at n k : ℕ) → length m ≡ 0 → k ≡ mi
     → sets d at (replicate k 0) ≡ sets d at (bytes_at m a n)
 out_none m d a at n k e f = rw (← none_bytes m a k e, f) (out_all m d a at n)
 
-pub out_nowhere : (m d : List ℕ) (a at n k : ℕ) → k ≡ min n (length d - at) → k ≡ 0 → d ≡ sets d at (bytes_at m a n)
-unfolding bytes_at
-out_nowhere m d a at n k f z =
-    let e : min n (length d - at) ≡ 0 = omega arith in
-    let w : sets d at (bytes_at m a (min n (length d - at))) ≡ d = rw e in
-    sym w ∙ out_all m d a at n
-
 -- ---- into memory: the same
 
 pub drop-take : (r n : ℕ) (l : List ℕ) → drop r (take n l) ≡ take (n - r) (drop r l)

@@ -1,4 +1,4 @@
 -- What the copies rest on.
 pub mod Laws
 pub mod Turns
-pub mod Few
+pub mod Overlaid

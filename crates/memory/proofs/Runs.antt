@@ -20,35 +20,33 @@ next_across a n i e p h =
 
 -- ---- words
 
-two_bytes : (m : List ℕ) (a : ℕ) → byte_at m a + 256 * byte_at m (a + 1) ≡ word_at m a
+two_bytes : (m : List ℕ) (a : ℕ) → byte_at m a + byte_at m (a + 1) * 256 ≡ word_at m a
 two_bytes m a = omega (arith, field_more m a 1, field_one m a)
 
 pub word_none : (m : List ℕ) (a : ℕ) → length m ≡ 0 → 0 ≡ word_at m a
 word_none m a e = rw (← two_bytes m a, none_get m a e, none_get m (a + 1) e)
 
-pub word_in : (m : List ℕ) (a i : ℕ) → i ≡ a % length m → i < length m - 1 → get_or m i 0 + 256 * get_or m (i + 1) 0 ≡ word_at m a
+pub word_in : (m : List ℕ) (a i : ℕ) → i ≡ a % length m → i < length m - 1 → get_or m i 0 + get_or m (i + 1) 0 * 256 ≡ word_at m a
 unfolding byte_at
 word_in m a i e h = rw (← two_bytes m a, next_in_lem a (length m) i e h, e)
 
-pub word_across : (m : List ℕ) (a i : ℕ) → i ≡ a % length m → (length m ≡ 0 → ⊥) → length m - 1 ≤ i → get_or m i 0 + 256 * get_or m 0 0 ≡ word_at m a
+pub word_across : (m : List ℕ) (a i : ℕ) → i ≡ a % length m → (length m ≡ 0 → ⊥) → length m - 1 ≤ i → get_or m i 0 + get_or m 0 0 * 256 ≡ word_at m a
 unfolding byte_at
 word_across m a i e p h = rw (← two_bytes m a, next_across a (length m) i e p h, e)
 
-two_puts : (m : List ℕ) (a w : ℕ) → w < 65536 → put_byte (put_byte m a (w % 256)) (a + 1) (w / 256) ≡ put_bytes m a (digits 2 w)
+two_puts : (m : List ℕ) (a w : ℕ) → put_byte (put_byte m a (w % 256)) (a + 1) (w / 256 % 256) ≡ put_bytes m a (digits 2 w)
 unfolding put_bytes digits
-two_puts m a w h =
-    let e : w / 256 % 256 ≡ w / 256 = omega arith in
-    rw (e, add-one)
+two_puts m a w = rw add-one
 
-pub put_none : (m : List ℕ) (a w : ℕ) → w < 65536 → length m ≡ 0 → m ≡ put_bytes m a (digits 2 w)
-put_none m a w h e = rw (← two_puts m a w h, none_set m a (w % 256) e) (sym (none_set m (a + 1) (w / 256) e))
+pub put_none : (m : List ℕ) (a w : ℕ) → length m ≡ 0 → m ≡ put_bytes m a (digits 2 w)
+put_none m a w e = rw (← two_puts m a w, none_set m a (w % 256) e) (sym (none_set m (a + 1) (w / 256 % 256) e))
 
-pub put_in : (m : List ℕ) (a i w : ℕ) → w < 65536 → i ≡ a % length m → i < length m - 1
-    → set (set m i (w % 256)) (i + 1) (w / 256) ≡ put_bytes m a (digits 2 w)
+pub put_in : (m : List ℕ) (a i w : ℕ) → i ≡ a % length m → i < length m - 1
+    → set (set m i (w % 256)) (i + 1) (w / 256 % 256) ≡ put_bytes m a (digits 2 w)
 unfolding put_byte
-put_in m a i w h e l = rw (← two_puts m a w h, length-set, next_in_lem a (length m) i e l, e)
+put_in m a i w e l = rw (← two_puts m a w, length-set, next_in_lem a (length m) i e l, e)
 
-pub put_across : (m : List ℕ) (a i w : ℕ) → w < 65536 → i ≡ a % length m → (length m ≡ 0 → ⊥) → length m - 1 ≤ i
-    → set (set m i (w % 256)) 0 (w / 256) ≡ put_bytes m a (digits 2 w)
+pub put_across : (m : List ℕ) (a i w : ℕ) → i ≡ a % length m → (length m ≡ 0 → ⊥) → length m - 1 ≤ i
+    → set (set m i (w % 256)) 0 (w / 256 % 256) ≡ put_bytes m a (digits 2 w)
 unfolding put_byte
-put_across m a i w h e p l = rw (← two_puts m a w h, length-set, next_across a (length m) i e p l, e)
+put_across m a i w e p l = rw (← two_puts m a w, length-set, next_across a (length m) i e p l, e)

@@ -1,17 +1,15 @@
 -- Bytes and numbers at a place: their lengths and bounds, what is read of lists that are put together, and the turns of the loops. Assumes nothing.
-use mathlib.Core.Path.{◌≡◌, refl, sym, ap, ◌∙◌}
-use mathlib.Core.List.{List, [], ◌∷◌, ◌++◌, append-nil}
-use mathlib.Core.Bool.{false, ◌&&◌}
-use Prim.Native.Nat.{ℕ, zero, suc, ◌+◌, ◌*◌, ◌/◌, ◌^◌, ◌<◌}
-use native.Mathlib.Nat.{add-zero, zero-add, add-suc, suc-add, pow-suc, pow-succ', div-div-eq-div-mul, mod-eq_of_lt, mul-suc}
-use native.Mathlib.Omega.{arith}
+use Rattle.std.proofs.Common.{◌≡◌, ℕ, zero, suc, ◌+◌, ◌-◌, ◌*◌, ◌/◌, ◌%◌, ◌^◌, ◌<◌, ◌≤◌, false, ◌&&◌, List, [], ◌∷◌, ◌++◌, length, get_or, take, drop, replicate, eqb, bit_or, w64, refl, sym, ap, ◌∙◌, add-zero, zero-add, add-suc, suc-add, pow-suc, mod-eq_of_lt, mul-suc, arith}
+use native.Mathlib.Nat.{pow-succ', div-div-eq-div-mul}
 use borrow.Author.Tests.{ne_eqb}
-use lib.Bits.{bit_or, or_add_and, and_le_l, and_le_r}
-use lib.Dec.{eqb}
-use lib.ListN.{length, get_or, set, replicate, length-replicate, replicate-append-replicate, drop_of_length-le}
-use lib.Seq.{sets, sets-eq}
+use borrow.Rule.Slice.PartMut.{put_mid}
+use lib.Bits.{or_add_and, and_le_l, and_le_r}
+use lib.ListN.{drop_of_length-le}
+use lib.Seq.{drop-cons, take_at, sets, sets-eq}
+use mathlib.Core.List.{append-nil}
+use Rattle.std.proofs.lemmas.List.{length-append, length-replicate, drop-replicate}
+use Rattle.std.specs.Int.{byte_at, bytes_low_first, from_le_bytes, to_le_bytes}
 use Rattle.memory.specs.Memory.{value, digits}
-use Rattle.memory.proofs.Laws.{sets-append}
 use Rattle.memory.proofs.Fields.{value_append, value_digits, length_digits}
 use Rattle.memory.proofs.Bytes.{Bytes, bytes_nil, bytes_cons, digits_value, value_lt}
 use Rattle.numerals.specs.Places.{bytes_from, field}
@@ -73,24 +71,18 @@ pub second_of : (xs ys : List ℕ) (at n : ℕ) → bytes_from (xs ++ ys) (lengt
 second_of [] ys at n = rw zero-add
 second_of (x ∷ xs) ys at n = rw suc-add (from_cons x (xs ++ ys) (length xs + at) n ∙ second_of xs ys at n)
 
+pub from_run : (s : List ℕ) (i n : ℕ) → i + n ≤ length s → bytes_from s i n ≡ take n (drop i s)
+unfolding bytes_from
+from_run s i zero h = refl
+from_run s i (suc n) h =
+    let l : i < length s = omega arith in
+    rw (drop-cons s i 0 l) (ap (λ (r : List ℕ). get_or s i 0 ∷ r) (from_run s (suc i) n (omega arith)))
+
 -- ---- numbers of a few bytes
 
 pub one : (r : List ℕ) (at : ℕ) → field r at 1 ≡ get_or r at 0
 unfolding field bytes_from value
 one r at = omega arith
-
-pub two : (r : List ℕ) (at : ℕ) → field r at 2 ≡ get_or r at 0 + 256 * get_or r (at + 1) 0
-unfolding field bytes_from value
-two r at =
-    let b : at + 1 ≡ suc at = omega arith in
-    rw b (omega arith)
-
-pub three : (r : List ℕ) (at : ℕ) → field r at 3 ≡ get_or r at 0 + 256 * get_or r (at + 1) 0 + 65536 * get_or r (at + 2) 0
-unfolding field bytes_from value
-three r at =
-    let b : at + 1 ≡ suc at = omega arith in
-    let c : at + 2 ≡ suc (suc at) = omega arith in
-    rw (b, c) (omega arith)
 
 pub four : (r : List ℕ) (at : ℕ)
     → field r at 4 ≡ get_or r at 0 + 256 * get_or r (at + 1) 0 + 65536 * get_or r (at + 2) 0 + 16777216 * get_or r (at + 3) 0
@@ -115,11 +107,6 @@ eight r at =
     let g : at + 6 ≡ suc (suc (suc (suc (suc (suc at))))) = omega arith in
     let h : at + 7 ≡ suc (suc (suc (suc (suc (suc (suc at)))))) = omega arith in
     rw (b, c, d, e, f, g, h) (omega arith)
-
--- a number of six bytes is two of three
-pub halves : (r : List ℕ) (at : ℕ) → field r at 6 ≡ field r at 3 + 16777216 * field r (at + 3) 3
-unfolding field
-halves r at = rw (from_append r at 3 3, value_append, length_from)
 
 pub six : (r : List ℕ) (at : ℕ)
     → bytes_from r at 6 ≡ get_or r at 0 ∷ get_or r (at + 1) 0 ∷ get_or r (at + 2) 0 ∷ get_or r (at + 3) 0 ∷ get_or r (at + 4) 0 ∷ get_or r (at + 5) 0 ∷ []
@@ -171,24 +158,50 @@ zero_more x r at i e =
     let m : (i + 1) * 8 ≡ i * 8 + 8 = omega arith in
     rw (m, zero_append, or_zero, e)
 
--- ---- runs of stores
+-- ---- the bytes of a word, as `from_le_bytes` and `to_le_bytes` have them
+
+word_is : (bs : List ℕ) → length bs ≡ 8 → from_le_bytes w64 bs ≡ value bs
+unfolding field
+word_is bs e =
+    let v : field bs 0 8 ≡ value bs = ap (λ (n : ℕ). value (bytes_from bs 0 n)) (sym e) ∙ ap value (whole bs) in
+    omega (arith, eight bs 0, v)
+
+-- bytes with zeros behind them
+value_zeros : (k : ℕ) → value (replicate k 0) ≡ 0
+value_zeros k = rw (← digits_zero k) (fit k 0 (some k))
+
+pub padded : (bs : List ℕ) (n : ℕ) → n ≤ 8 → length bs ≡ n → from_le_bytes w64 (put_mid 0 n (replicate 8 0) bs) ≡ value bs
+padded bs n h e =
+    let zeros : drop {A = ℕ} n (replicate 8 0) ≡ replicate (8 - n) 0 = drop-replicate {X = ℕ} n 8 0 in
+    let l : length (bs ++ replicate (8 - n) 0) ≡ 8 = rw (length-append, e, length-replicate {A = ℕ} (8 - n) 0) (omega arith) in
+    let v : value (bs ++ replicate (8 - n) 0) ≡ value bs = rw (value_append, value_zeros (8 - n)) (omega arith) in
+    rw zeros (word_is (bs ++ replicate (8 - n) 0) l ∙ v)
 
 pub digits_split : (j k w : ℕ) → digits (j + k) w ≡ digits j w ++ digits k (w / 256 ^ j)
 unfolding digits
 digits_split zero k w = let e : w / 1 ≡ w = omega arith in rw (e, zero-add)
 digits_split (suc j) k w = rw (suc-add, digits_split j k (w / 256), div-div-eq-div-mul, pow-succ')
 
--- the digits of a number, put in two parts
-pub put_parts : (r : List ℕ) (at j k w : ℕ) → sets (sets r at (digits j w)) (at + j) (digits k (w / 256 ^ j)) ≡ sets r at (digits (j + k) w)
-put_parts r at j k w =
-    let l : length (digits j w) ≡ j = length_digits j w in
-    sym (rw (digits_split, sets-append, l))
+byte_is : (i v : ℕ) → byte_at i v ≡ v / 256 ^ i % 256
+byte_is zero v = omega arith
+byte_is (suc i) v = refl
 
--- one turn of a loop of stores
-pub clear_more : (r : List ℕ) (at i : ℕ) → set (sets r at (replicate i 0)) (at + i) 0 ≡ sets r at (replicate (i + 1) 0)
-clear_more r at i =
-    let l : length {A = ℕ} (replicate i 0) ≡ i = length-replicate {A = ℕ} i 0 in
-    sym (rw (← replicate-append-replicate {A = ℕ} i 1 0, sets-append, l))
+low_first : (i k v : ℕ) → bytes_low_first i k v ≡ digits k (v / 256 ^ i)
+unfolding digits
+low_first i zero v = refl
+low_first i (suc k) v =
+    let e : v / 256 ^ i / 256 ≡ v / 256 ^ suc i = rw (pow-suc, div-div-eq-div-mul) in
+    rw (byte_is i v, low_first (suc i) k v, e)
+
+pub low_bytes : (n v : ℕ) → n ≤ 8 → take n (to_le_bytes w64 v) ≡ digits n v
+low_bytes n v h =
+    let e : v / 1 ≡ v = omega arith in
+    let parts : 8 ≡ n + (8 - n) = omega arith in
+    let all : to_le_bytes w64 v ≡ digits n v ++ digits (8 - n) (v / 256 ^ n) =
+    low_first 0 8 v ∙ rw e (ap (λ (k : ℕ). digits k v) parts) ∙ digits_split n (8 - n) v in
+    ap (take n) all ∙ take_at (digits n v) (digits (8 - n) (v / 256 ^ n)) n (length_digits n v)
+
+-- ---- runs of stores
 
 -- stores over a whole list
 pub sets_whole : (r bs : List ℕ) → length bs ≡ length r → sets r 0 bs ≡ bs

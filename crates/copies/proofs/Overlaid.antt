@@ -5,22 +5,15 @@ use mathlib.Core.List.{List, [], ◌∷◌, ◌++◌}
 use Prim.Native.Nat.{ℕ, zero, suc, ◌+◌, ◌-◌, ◌≤◌, ◌<◌}
 use native.Mathlib.Nat.{not-suc-le-zero, le_of_suc-le-suc}
 use native.Mathlib.Omega.{arith}
-use lib.ListN.{length, get_or, set, take, drop, length-drop}
-use lib.Seq.{drop-cons, drop-drop, take-add, length-take-le, set-set, set_comm, sets}
+use lib.ListN.{length, set, take, drop, length-drop}
+use lib.Seq.{drop-drop, take-add, length-take-le, set-set, set_comm, sets}
 use Rattle.memory.specs.Memory.{digits}
 use Rattle.memory.proofs.Bytes.{Bytes}
 use Rattle.memory.proofs.Laws.{sets-append}
-use Rattle.numerals.specs.Places.{bytes_from, field}
-use Rattle.numerals.proofs.Laws.{piece}
+use Rattle.numerals.specs.Places.{field}
+use Rattle.numerals.proofs.Laws.{piece, from_run}
 
 -- ---- as one number
-
-from_run : (s : List ℕ) (i n : ℕ) → i + n ≤ length s → bytes_from s i n ≡ take n (drop i s)
-unfolding bytes_from
-from_run s i zero h = refl
-from_run s i (suc n) h =
-    let l : i < length s = omega arith in
-    rw (drop-cons s i 0 l) (ap (λ (r : List ℕ). get_or s i 0 ∷ r) (from_run s (suc i) n (omega arith)))
 
 pub as_number : (s : List ℕ) (i n : ℕ) → Bytes s → i + n ≤ length s → digits n (field s i n) ≡ take n (drop i s)
 as_number s i n b h = sym (piece s b i n) ∙ from_run s i n h
@@ -52,19 +45,10 @@ overlaid d l to j w h g =
     let parts : take w l ≡ take j l ++ take (w - j) (drop j l) = ap (λ (n : ℕ). take n l) e ∙ take-add j (w - j) l in
     rw (parts, take-add j w l, sets-append d to (take j l) (take (w - j) (drop j l)), sets-append d to (take j l) (take w (drop j l)), front) (over (sets d to (take j l)) (to + j) (w - j) w (drop j l) (omega arith))
 
-pub two_runs : (d s : List ℕ) (to from k w : ℕ) → w ≤ k → k ≤ w + w → 0 < w → k ≤ length s - from
+pub two_runs : (d s : List ℕ) (to from k w : ℕ) → w ≤ k → k ≤ w + w → k ≤ length s - from
     → sets (sets d to (take w (drop from s))) (to + (k - w)) (take w (drop (from + (k - w)) s)) ≡ sets d to (take k (drop from s))
-two_runs d s to from k w h g p q =
+two_runs d s to from k w h g q =
     let l : length (drop from s) ≡ length s - from = length-drop from s in
     let e : k - w + w ≡ k = omega arith in
     rw (← drop-drop (k - w) from s)
     (overlaid d (drop from s) to (k - w) w (omega arith) (omega arith) ∙ ap (λ (n : ℕ). sets d to (take n (drop from s))) e)
-
--- ---- one byte
-
-pub one_byte : (d s : List ℕ) (to from k : ℕ) → k < 2 → (k ≡ 0 → ⊥) → k ≤ length s - from
-    → set d to (get_or s from 0) ≡ sets d to (take k (drop from s))
-one_byte d s to from k h g q =
-    let e : k ≡ 1 = omega (arith, g) in
-    let l : from < length s = omega arith in
-    rw (e, drop-cons s from 0 l)
