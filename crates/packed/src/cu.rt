@@ -8,6 +8,13 @@ ghost use Rattle.packed.specs.Packed.{WordIs, BegunIs, begun_pausing};
 
 use memory::Offset;
 
+// The unit as numbers. Its tag is no enum: the record keeps it as a number, tags are compared by their order, and CuIs speaks of it beside the word.
+#[derive(Clone, Copy)]
+pub struct Unit {
+    pub tag: u64,
+    pub word: u64,
+}
+
 // The tags. From Waiting on the unit is Active, from Acting on a command is begun.
 pub const IDLE: u64 = 0;
 
@@ -51,23 +58,26 @@ pub fn interrupt(n: u64) -> u64
 }
 
 // S.
+#[tactic(auto, using(crate::proofs::Words::second_in))]
 pub fn suspend(n: u64) -> bool
     ensures { result ≡ (begun_of (word_of n)).suspend }
 {
-    n / SUSPEND % 2 == 1
+    crate::has::<SUSPEND>(n)
 }
 
+#[tactic(auto, using(crate::proofs::Words::third_in))]
 pub fn el(n: u64) -> bool
     ensures { result ≡ (begun_of (word_of n)).el }
 {
-    n / EL % 2 == 1
+    crate::has::<EL>(n)
 }
 
 // Whether a SUSPEND waits for its end.
+#[tactic(auto, using(crate::proofs::Words::fourth_in))]
 pub fn pausing(n: u64) -> bool
     ensures { result ≡ (begun_of (word_of n)).pausing }
 {
-    n / PAUSING % 2 == 1
+    crate::has::<PAUSING>(n)
 }
 
 // The begun command alone.
