@@ -22,6 +22,7 @@ const LOCATION: u64 = 1 << 3;
 const FORMS: u64 = 1 << 4;
 
 // The address length.
+#[tactic(auto, unfolding(phases::specs::Forms::form_of))]
 pub fn length(form: u64) -> u64
     ensures { (result ≡ (form_of form).length) × (result ≤ 6) }
 {
@@ -33,6 +34,7 @@ pub fn length(form: u64) -> u64
 }
 
 // Whether the address location is 1.
+#[tactic(auto, unfolding(phases::specs::Forms::form_of))]
 pub fn location(form: u64) -> bool
     ensures { result ≡ (form_of form).location }
 {
@@ -57,6 +59,7 @@ pub fn unbuffered(form: u64) -> u64
 }
 
 // Whether so many bytes have the header. Most frames have the longest, and need not be asked for their form.
+#[tactic(auto, using(crate::proofs::Forms::header_had))]
 pub fn has_header(form: u64, size: u64) -> bool
     ensures { result ≡ leb (rule.header (form_of form).length) size }
 {
@@ -77,6 +80,7 @@ pub fn has_unbuffered(form: u64, size: u64) -> bool
 }
 
 // Whether they have more than that.
+#[tactic(auto, using(crate::proofs::Forms::data_had))]
 pub fn has_data(form: u64, size: u64) -> bool
     ensures { result ≡ ltb (rule.unbuffered (form_of form)) size }
 {
@@ -87,6 +91,7 @@ pub fn has_data(form: u64, size: u64) -> bool
 }
 
 // Whether a number is a form's: there is nothing above its four bits, and no length is seven short of six. One test asks both.
+#[tactic(auto, using(crate::proofs::Forms::shaped))]
 pub fn is_form(form: u64) -> bool
     ensures { result ≡ form_shaped form }
 {
@@ -94,6 +99,7 @@ pub fn is_form(form: u64) -> bool
 }
 
 // The form of an address length and a location, as Configure has them.
+#[tactic(auto, unfolding(phases::specs::Forms::form_number))]
 pub fn of(length: u64, location: u64) -> u64
     requires { (length ≤ 6) × (location < 2) }
     ensures { (result < 2 ^ 4) × ((f : Form) → length ≡ f.length → location ≡ one f.location → result ≡ form_number f) }

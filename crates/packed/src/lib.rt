@@ -224,6 +224,7 @@ pub fn next_of(n: u64) -> Offset
 }
 
 // The word of an offset alone.
+#[tactic(auto, using(crate::proofs::Words::plain_is))]
 pub fn plain(o: Offset) -> u64
     ensures { packed.WordIs (phases.plain o.0) result }
 {
@@ -233,6 +234,7 @@ pub fn plain(o: Offset) -> u64
 // ---- a state put together
 
 // The events that stand after others came up, as numbers below 16.
+#[tactic(auto, using(crate::proofs::Laws::or_below, crate::proofs::Laws::raise_or))]
 pub fn raise(events: u64, raised: u64) -> u64
     requires { (events < 16) × (raised < 16) }
     ensures { (result < 16) × ((e by : Events) → events ≡ words.event_bits e → raised ≡ words.event_bits by → result ≡ words.event_bits (words.raise e by)) }
@@ -318,6 +320,7 @@ pub fn after_codes(k: Packed, command: cu::Unit, receive: ru::Unit, raised: u64)
 }
 
 // Events are cleared: those of a number that stand.
+#[tactic(auto, using(crate::proofs::States::clears))]
 pub fn without_events(k: Packed, cleared: u64) -> Packed
     ensures { (u : Units) (e : Events) → packed.PackedIs u k → bit_and (words.event_bits u.events) cleared + words.event_bits e ≡ words.event_bits u.events
         → packed.PackedIs (change.with_events u e) result }

@@ -172,6 +172,7 @@ fn flagged(n: u64, flags: u64) -> u64
 }
 
 // A held frame is begun, with S and EL as they stand in bits 14 and 15 of the descriptor's word.
+#[tactic(auto, using(crate::proofs::Words::storing_with_lem))]
 pub fn begun(n: u64, flags: u16) -> u64
     requires { flags < 2 ^ 2 }
     ensures { (result < 2 ^ 48) × ((o : Offset) (f : Frame) (p : Bool) → WordIs (frame_word o f p) n → WordIs (storing_word (storing_with o f p flags) 0 false) result) }
@@ -180,6 +181,7 @@ pub fn begun(n: u64, flags: u16) -> u64
 }
 
 // A SUSPEND waits for the end of a held frame.
+#[tactic(auto, using(crate::proofs::Pausing::held_pausing_lem))]
 pub fn pause(n: u64) -> u64
     ensures { (w : Word) → WordIs w n → WordIs (held_pausing w) result }
 {
@@ -194,6 +196,7 @@ pub fn filled_up(n: u64, el: bool) -> u64
 }
 
 // A word with the next offset.
+#[tactic(auto, using(crate::proofs::Words::storing_next))]
 pub fn with_next(n: u64, next: Offset) -> u64
     requires { n < 2 ^ 48 }
     ensures { (s : Storing) (full : Bool) → WordIs (storing_word s 0 full) n → WordIs (storing_word s next.0 full) result }

@@ -51,6 +51,7 @@ pub fn no_broadcast(setup: &[u8; SIZE]) -> bool
 }
 
 // The form of the frames that go and come now.
+#[tactic(auto, using(crate::proofs::SetUps::form_is_lem))]
 pub fn form(setup: &[u8; SIZE]) -> u64
     ensures { (result < 2 ^ 5) × ((s : Setup) → SetIs s setup.now → result ≡ form_number s.settings.form) }
 {
@@ -66,6 +67,7 @@ pub fn minimum(setup: &[u8; SIZE]) -> u64
 }
 
 // The filter.
+#[tactic(auto, using(crate::proofs::SetUps::filter_is))]
 pub fn filter(setup: &[u8; SIZE]) -> u64
     ensures { (s : Setup) → SetIs s setup.now → result ≡ s.filter }
 {
