@@ -1,10 +1,9 @@
 // The 256 bytes of the device record: which bytes are the image of a state in range, the numbers of that state, and writing them back.
-// Where everything stands is `packed`'s to say. `is_image` asks for 256 bytes; the others take a slice of every length.
+// Where everything stands is `packed`'s to say. `is_image` takes 256 bytes, the others a slice of every length.
 
 #![tactic(auto)]
 
-ghost use Rattle.std.specs.Prelude.{cond, ◌≡◌, leb, length};
-ghost use Rattle.device.specs.Limits.{record_size};
+ghost use Rattle.std.specs.Prelude.{cond, ◌≡◌, leb};
 ghost use Rattle.device.specs.State as device;
 ghost use Rattle.numerals.specs.Places.{field};
 ghost use Rattle.phases.specs.Fields.{kind_in, size_in, offset_most};
@@ -14,13 +13,6 @@ ghost use Rattle.image.specs.Image as image;
 ghost use Rattle.image.specs.Numbers as numbers;
 
 use packed::{Packed, cu, form, record, ru, setup};
-
-// What a record is found to be.
-#[derive(Clone, Copy)]
-pub enum Decoded {
-    Units(Packed),
-    Foreign,
-}
 
 // The own address is written in two halves. After reset it is all FFh, and the minimum length is 64.
 const OWN_BACK: usize = record::OWN + 3;
@@ -229,43 +221,37 @@ fn ru_is(tag: u64, n: u64, rest: u64) -> bool
 
 // ---- reading a record: each word by a function of its own, so that it becomes one load
 
-fn front_at(r: &[u8]) -> u64
-    requires { length r.now ≡ record_size }
+fn front_at(r: &[u8; record::SIZE]) -> u64
     ensures { result ≡ field r.now letters_at 8 }
 {
     numerals::read64(r, record::LETTERS)
 }
 
-fn status_at(r: &[u8]) -> u64
-    requires { length r.now ≡ record_size }
+fn status_at(r: &[u8; record::SIZE]) -> u64
     ensures { result ≡ field r.now status_at 8 }
 {
     numerals::read64(r, record::STATUS)
 }
 
-fn cu_at(r: &[u8]) -> u64
-    requires { length r.now ≡ record_size }
+fn cu_at(r: &[u8; record::SIZE]) -> u64
     ensures { result ≡ field r.now cu_at 8 }
 {
     numerals::read64(r, record::CU)
 }
 
-fn ru_at(r: &[u8]) -> u64
-    requires { length r.now ≡ record_size }
+fn ru_at(r: &[u8; record::SIZE]) -> u64
     ensures { result ≡ field r.now ru_at 8 }
 {
     numerals::read64(r, record::RU)
 }
 
-fn rest_at(r: &[u8]) -> u64
-    requires { length r.now ≡ record_size }
+fn rest_at(r: &[u8; record::SIZE]) -> u64
     ensures { result ≡ field r.now rest_at 8 }
 {
     numerals::read64(r, record::REST)
 }
 
-fn packed_at(r: &[u8]) -> Packed
-    requires { length r.now ≡ record_size }
+fn packed_at(r: &[u8; record::SIZE]) -> Packed
     ensures { result ≡ image.packed_at r.now }
 {
     Packed {
@@ -277,8 +263,7 @@ fn packed_at(r: &[u8]) -> Packed
 }
 
 // The form in force.
-fn form_at(r: &[u8]) -> u64
-    requires { length r.now ≡ record_size }
+fn form_at(r: &[u8; record::SIZE]) -> u64
     ensures { result ≡ numbers.form_is r.now }
 {
     setup::form_of(numerals::read8(r, record::SETTINGS))
@@ -301,16 +286,14 @@ fn words_are(front: u64, f: u64, k: Packed) -> bool
     false
 }
 
-fn spare_zero(r: &[u8]) -> bool
-    requires { length r.now ≡ record_size }
+fn spare_zero(r: &[u8; record::SIZE]) -> bool
     ensures { result ≡ image.spare_zero r.now }
 {
     (numerals::read24(r, record::GAP) == 0)
         & numerals::is_zero(r, record::SPARE, record::SPARE_WORDS)
 }
 
-fn is_fresh(r: &[u8]) -> bool
-    requires { length r.now ≡ record_size }
+fn is_fresh(r: &[u8; record::SIZE]) -> bool
     ensures { result ≡ numbers.fresh_at r.now }
 {
     (status_at(r) == 0)
@@ -321,8 +304,7 @@ fn is_fresh(r: &[u8]) -> bool
 }
 
 // Whether a record of 256 bytes is the image of a state in range. Before the first attention there is one such state.
-pub fn is_image(r: &[u8]) -> bool
-    requires { length r.now ≡ record_size }
+pub fn is_image(r: &[u8; record::SIZE]) -> bool
     ensures { result ≡ image.imaged r.now }
 {
     let k = packed_at(r);
@@ -338,16 +320,17 @@ pub fn is_image(r: &[u8]) -> bool
     false
 }
 
-// The units' state of a record that is the image of a state in range; any other record, of whatever length, is foreign.
-pub fn decode(r: &[u8]) -> Decoded
+// The units' state of a record that is the image of a state in range; any other record, of whatever length, is foreign and has none.
+pub fn decode(r: &[u8]) -> Option<Packed>
     ensures { result ≡ image.decoded_by (image.decode_of r.now) }
 {
-    if r.len() == record::SIZE {
-        if is_image(r) {
-            return Decoded::Units(packed_at(r));
-        }
+    let Some(kept) = r.as_array::<{ record::SIZE }>() else {
+        return None;
+    };
+    if is_image(kept) {
+        return Some(packed_at(kept));
     }
-    Decoded::Foreign
+    None
 }
 
 // ---- writing a record
@@ -356,16 +339,16 @@ pub fn decode(r: &[u8]) -> Decoded
 pub fn store(r: &mut [u8], k: Packed)
     ensures { r.new ≡ image.stored_units r.old k }
 {
-    if r.len() == record::SIZE {
-        numerals::put64(r, record::STATUS, k.status);
-        numerals::put64(r, record::CU, k.cu);
-        numerals::put64(r, record::RU, k.ru);
-        numerals::put64(r, record::REST, k.rest);
-    }
+    let Some(kept) = r.as_mut_array::<{ record::SIZE }>() else {
+        return;
+    };
+    numerals::put64(kept, record::STATUS, k.status);
+    numerals::put64(kept, record::CU, k.cu);
+    numerals::put64(kept, record::RU, k.ru);
+    numerals::put64(kept, record::REST, k.rest);
 }
 
-fn renew_full(r: &mut [u8])
-    requires { length r.old ≡ record_size }
+fn renew_full(r: &mut [u8; record::SIZE])
     ensures { r.new ≡ image.image_of device.fresh }
 {
     numerals::clear(r, 0, record::SIZE);
@@ -380,7 +363,8 @@ fn renew_full(r: &mut [u8])
 pub fn renew(r: &mut [u8])
     ensures { r.new ≡ image.stored r.old device.fresh }
 {
-    if r.len() == record::SIZE {
-        renew_full(r);
-    }
+    let Some(kept) = r.as_mut_array::<{ record::SIZE }>() else {
+        return;
+    };
+    renew_full(kept);
 }

@@ -4,8 +4,8 @@ use Rattle.device.specs.State.{fresh}
 use Rattle.image.proofs.Steps.{stored_image, stored_other}
 use Rattle.image.proofs.renew.Goals as goal
 
-pub returns-then-r-eq-SIZE : goal.returns-then-r-eq-SIZE
-returns-then-r-eq-SIZE c = c.renew_full.ensures ∙ sym (stored_image c.args.r.now fresh c.if-r-eq-SIZE.true)
+pub returns-in_default : goal.returns-in_default
+returns-in_default c = sym (stored_other c.args.r.now fresh c.in_default.ensures.cases)
 
-pub returns-else-r-eq-SIZE : goal.returns-else-r-eq-SIZE
-returns-else-r-eq-SIZE c = sym (stored_other c.args.r.now fresh c.if-r-eq-SIZE.false)
+pub returns : goal.returns
+returns c = c.renew_full.ensures ∙ sym (stored_image c.args.r.now fresh c.in-Some.ensures.cases.long)
