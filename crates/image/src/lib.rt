@@ -60,6 +60,7 @@ fn offset_most(none: bool) -> u64
 
 // ---- the command unit
 
+#[tactic(auto, unfolding(crate::specs::Numbers::acting_is))]
 fn acting_is(n: u64) -> bool
     ensures { result ≡ numbers.acting_is n }
 {
@@ -69,6 +70,7 @@ fn acting_is(n: u64) -> bool
 }
 
 // A Transmit has in the outgoing area what the buffers do not bring, by the form in force.
+#[tactic(auto, unfolding(crate::specs::Numbers::sending_is))]
 fn sending_is(f: u64, n: u64) -> bool
     ensures { result ≡ numbers.sending_is f n }
 {
@@ -78,6 +80,7 @@ fn sending_is(f: u64, n: u64) -> bool
     false
 }
 
+#[tactic(auto, unfolding(crate::specs::Numbers::ending_is))]
 fn ending_is(f: u64, n: u64) -> bool
     ensures { result ≡ numbers.ending_is f n }
 {
@@ -92,6 +95,7 @@ fn ending_is(f: u64, n: u64) -> bool
 }
 
 // A command that is begun: what its phase does not use is zero.
+#[tactic(auto, unfolding(crate::specs::Numbers::begun_is))]
 fn begun_is(f: u64, tag: u64, n: u64) -> bool
     ensures { result ≡ numbers.begun_is f tag n }
 {
@@ -105,6 +109,7 @@ fn begun_is(f: u64, tag: u64, n: u64) -> bool
 }
 
 // Whether a tag and a word are those of a command unit in range: most records have an offset alone, or nothing.
+#[tactic(auto, using(crate::proofs::Units::cu_low, crate::proofs::Units::cu_begun))]
 fn cu_is(f: u64, tag: u64, n: u64) -> bool
     ensures { result ≡ numbers.cu_is f tag n }
 {
@@ -117,6 +122,7 @@ fn cu_is(f: u64, tag: u64, n: u64) -> bool
 // ---- the receive unit
 
 // The number of a verdict and a form. Of the form after reset it is the verdict alone.
+#[tactic(auto, using(crate::proofs::Order::verdict_alone), unfolding(phases::specs::Forms::kind_shaped))]
 fn kind_is(n: u64) -> bool
     ensures { result ≡ kind_shaped (kind_in n) }
 {
@@ -127,6 +133,7 @@ fn kind_is(n: u64) -> bool
 }
 
 // A frame's word: it has its header, by its own form; a bad frame is held only to be saved.
+#[tactic(auto, unfolding(crate::specs::Numbers::frame_is))]
 fn frame_is(n: u64, most: u64) -> bool
     ensures { result ≡ numbers.frame_is n most }
 {
@@ -148,6 +155,7 @@ fn has_data(n: u64) -> bool
     form::has_data(ru::form(n), packed::size_of(n))
 }
 
+#[tactic(auto, unfolding(crate::specs::Numbers::held_is))]
 fn held_is(n: u64, rest: u64) -> bool
     ensures { result ≡ numbers.held_is n rest }
 {
@@ -158,6 +166,7 @@ fn held_is(n: u64, rest: u64) -> bool
 }
 
 // What is being filled has data left.
+#[tactic(auto, unfolding(crate::specs::Numbers::filling_is))]
 fn filling_is(n: u64, rest: u64) -> bool
     ensures { result ≡ numbers.filling_is n rest }
 {
@@ -172,6 +181,7 @@ fn filling_is(n: u64, rest: u64) -> bool
     false
 }
 
+#[tactic(auto, unfolding(crate::specs::Numbers::closing_is))]
 fn closing_is(n: u64, rest: u64) -> bool
     ensures { result ≡ numbers.closing_is n rest }
 {
@@ -183,6 +193,7 @@ fn closing_is(n: u64, rest: u64) -> bool
     false
 }
 
+#[tactic(auto, unfolding(crate::specs::Numbers::lacking_is))]
 fn lacking_is(n: u64, rest: u64) -> bool
     ensures { result ≡ numbers.lacking_is n rest }
 {
@@ -194,6 +205,7 @@ fn lacking_is(n: u64, rest: u64) -> bool
     false
 }
 
+#[tactic(auto, unfolding(crate::specs::Numbers::holding_is))]
 fn holding_is(tag: u64, n: u64, rest: u64) -> bool
     ensures { result ≡ numbers.holding_is tag n rest }
 {
@@ -207,6 +219,7 @@ fn holding_is(tag: u64, n: u64, rest: u64) -> bool
 }
 
 // Whether a tag and two words are those of a receive unit in range: with no frame held, an offset alone, or nothing.
+#[tactic(auto, using(crate::proofs::Units::ru_offset, crate::proofs::Units::ru_none, crate::proofs::Units::ru_holding))]
 fn ru_is(tag: u64, n: u64, rest: u64) -> bool
     ensures { result ≡ numbers.ru_is tag n rest }
 {
@@ -251,6 +264,7 @@ fn rest_at(r: &[u8; record::SIZE]) -> u64
     numerals::read64(r, record::REST)
 }
 
+#[tactic(auto, unfolding(crate::specs::Image::packed_at))]
 fn packed_at(r: &[u8; record::SIZE]) -> Packed
     ensures { result ≡ image.packed_at r.now }
 {
@@ -275,6 +289,7 @@ fn front_is(n: u64) -> bool
     n % record::FRONT_END == record::FRONT
 }
 
+#[tactic(auto, unfolding(crate::specs::Numbers::words_are))]
 fn words_are(front: u64, f: u64, k: Packed) -> bool
     ensures { result ≡ numbers.words_are front f k }
 {
@@ -286,6 +301,7 @@ fn words_are(front: u64, f: u64, k: Packed) -> bool
     false
 }
 
+#[tactic(auto, unfolding(crate::specs::Image::spare_zero))]
 fn spare_zero(r: &[u8; record::SIZE]) -> bool
     ensures { result ≡ image.spare_zero r.now }
 {
@@ -293,6 +309,7 @@ fn spare_zero(r: &[u8; record::SIZE]) -> bool
         & numerals::is_zero(r, record::SPARE, record::SPARE_WORDS)
 }
 
+#[tactic(auto, unfolding(crate::specs::Numbers::fresh_at))]
 fn is_fresh(r: &[u8; record::SIZE]) -> bool
     ensures { result ≡ numbers.fresh_at r.now }
 {
@@ -321,6 +338,7 @@ pub fn is_image(r: &[u8; record::SIZE]) -> bool
 }
 
 // The units' state of a record that is the image of a state in range; any other record, of whatever length, is foreign and has none.
+#[tactic(auto, using(crate::proofs::Tests::decoded_units, crate::proofs::Tests::decoded_foreign, crate::proofs::Tests::decoded_other))]
 pub fn decode(r: &[u8]) -> Option<Packed>
     ensures { result ≡ image.decoded_by (image.decode_of r.now) }
 {
@@ -336,6 +354,7 @@ pub fn decode(r: &[u8]) -> Option<Packed>
 // ---- writing a record
 
 // The units' state goes to a record, and no other byte changes; a record of another length stays as it is.
+#[tactic(auto, using(crate::proofs::Steps::units_stored, crate::proofs::Steps::units_other))]
 pub fn store(r: &mut [u8], k: Packed)
     ensures { r.new ≡ image.stored_units r.old k }
 {
@@ -348,6 +367,7 @@ pub fn store(r: &mut [u8], k: Packed)
     numerals::put64(kept, record::REST, k.rest);
 }
 
+#[tactic(auto, using(crate::proofs::Steps::fresh_stores))]
 fn renew_full(r: &mut [u8; record::SIZE])
     ensures { r.new ≡ image.image_of device.fresh }
 {
@@ -360,6 +380,7 @@ fn renew_full(r: &mut [u8; record::SIZE])
 }
 
 // The image of the fresh state goes to a record, whatever stood there; one of another length stays as it is.
+#[tactic(auto, using(crate::proofs::Steps::stored_image, crate::proofs::Steps::stored_other))]
 pub fn renew(r: &mut [u8])
     ensures { r.new ≡ image.stored r.old device.fresh }
 {
