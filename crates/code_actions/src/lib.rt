@@ -3,14 +3,14 @@
 
 #![tactic(auto)]
 
-ghost use Rattle.std.specs.Prelude.{◌≡◌, ◌≤◌, ◌<◌, ◌^◌, length};
+ghost use Rattle.std.specs.Prelude.{◌≡◌, ◌≤◌, ◌<◌, ◌^◌};
 ghost use Rattle.device.specs.Limits.{longest_address};
 ghost use Rattle.device.specs.Numbers.{action_of};
 ghost use Rattle.device.specs.declared.Settings.{Settings};
 ghost use Rattle.actions.specs.Setup.{Setup};
 ghost use Rattle.actions.specs.Actions as actions;
 ghost use Rattle.phases.specs.Forms.{form_number};
-ghost use Rattle.packed.specs.SetUp.{setup_size, settings_byte, SetIs};
+ghost use Rattle.packed.specs.SetUp.{settings_byte, SetIs};
 ghost use Rattle.code_actions.specs.Acts as acts;
 
 use memory::{Offset, RealAddress};
@@ -74,7 +74,8 @@ const FAILED: u16 = 0x8000;
 // The word that a TDR leaves.
 const TDR_WORD: u16 = 0x8000;
 
-// The commands by their numbers. 4 is a Transmit, which has no action of its own; 7, Diagnose, is what is left.
+// The commands by their numbers, as a unit's word has them: an enum between would list them twice. 4 is a Transmit, which has no action of its own;
+// 7, Diagnose, is what is left.
 const NOP: u64 = 0;
 
 const IA_SETUP: u64 = 1;
@@ -96,14 +97,11 @@ const FROM_5: u16 = 1 << 5;
 pub fn plainly(status: u16, length: u16) -> Done
     ensures { result ≡ acts.plain status length }
 {
-    Done {
-        status: status,
-        length: length,
-    }
+    Done { status, length }
 }
 
 // IA-Setup: six bytes at +6 become the own address.
-fn ia_setup(memory: &[u8], base: RealAddress, setup: &mut [u8], block: Offset) -> Done
+fn ia_setup(memory: &[u8], base: RealAddress, setup: &mut [u8; setup::SIZE], block: Offset) -> Done
     ensures { (s : Setup) → SetIs s setup.old → acts.Sets (actions.ia_setup base s block memory.now) result setup.new }
 {
     copies::copy_out(
@@ -196,8 +194,7 @@ fn minimum_by(memory: &[u8], base: RealAddress, block: Offset, count: u16, kept:
 }
 
 // Configure: 8000h and nothing changed, if byte 3 is not acceptable.
-fn configure(memory: &[u8], base: RealAddress, setup: &mut [u8], block: Offset) -> Done
-    requires { length setup.old ≡ setup_size }
+fn configure(memory: &[u8], base: RealAddress, setup: &mut [u8; setup::SIZE], block: Offset) -> Done
     ensures { (s : Setup) → SetIs s setup.old → acts.Sets (actions.configure base s block memory.now) result setup.new }
 {
     let addressing = byte_of(memory, base, block, ADDRESSING);
@@ -256,8 +253,7 @@ fn filter_of(memory: &[u8], first: RealAddress, l: u64, count: u16) -> u64
 }
 
 // MC-Setup: the filter is that of its addresses, which have the length in force, and nothing of the old one stays.
-fn mc_setup(memory: &[u8], base: RealAddress, setup: &mut [u8], block: Offset) -> Done
-    requires { length setup.old ≡ setup_size }
+fn mc_setup(memory: &[u8], base: RealAddress, setup: &mut [u8; setup::SIZE], block: Offset) -> Done
     ensures { (s : Setup) → SetIs s setup.old → acts.Sets (actions.mc_setup base s block memory.now) result setup.new }
 {
     let first = memory::place(base, block, ADDRESSES);
@@ -276,8 +272,13 @@ fn tdr(memory: &mut [u8], base: RealAddress, block: Offset) -> Done
 }
 
 // The action of a begun command, by its number. No command before its end has 4, a Transmit's.
-pub fn act(memory: &mut [u8], base: RealAddress, setup: &mut [u8], kind: u64, block: Offset) -> Done
-    requires { length setup.old ≡ setup_size }
+pub fn act(
+    memory: &mut [u8],
+    base: RealAddress,
+    setup: &mut [u8; setup::SIZE],
+    kind: u64,
+    block: Offset,
+) -> Done
     ensures { acts.ActsOn (action_of kind) base block memory.old setup.old result memory.new setup.new }
 {
     match kind {
