@@ -146,6 +146,7 @@ fn is_acceptable(byte: u8) -> bool
 }
 
 // The form that it says.
+#[tactic(auto, using(crate::proofs::Laws::bit_below, crate::proofs::Laws::bit_number))]
 fn form_in(byte: u8) -> u8
     requires { actions.length_in byte ≤ longest_address }
     ensures { (result < 2 ^ 4) × (result ≡ form_number (actions.form_in byte)) }
@@ -164,6 +165,7 @@ fn byte_of(memory: &[u8], base: RealAddress, block: Offset, k: u16) -> u8
 
 // The settings byte after a Configure: save bad is bit 7 of byte 2; the modes are bits 0 and 1 of byte 8 if that is taken, else what was kept; the
 // form is byte 3's.
+#[tactic(auto, using(crate::proofs::Laws::settings_taken))]
 fn settings_by(
     memory: &[u8],
     base: RealAddress,
@@ -184,6 +186,7 @@ fn settings_by(
 }
 
 // The minimum length after a Configure: byte 10 if that is taken, else what was kept.
+#[tactic(auto, unfolding(actions::specs::Actions::settings_by))]
 fn minimum_by(memory: &[u8], base: RealAddress, block: Offset, count: u16, kept: u8) -> u8
     ensures { (s : Settings) → kept ≡ s.minimum → result ≡ (actions.settings_by count (actions.byte_of base block memory.now) s).minimum }
 {
@@ -272,6 +275,7 @@ fn tdr(memory: &mut [u8], base: RealAddress, block: Offset) -> Done
 }
 
 // The action of a begun command, by its number. No command before its end has 4, a Transmit's.
+#[tactic(auto, unfolding(actions::specs::Actions::act, device::specs::Numbers::action_of))]
 pub fn act(
     memory: &mut [u8],
     base: RealAddress,
@@ -293,6 +297,7 @@ pub fn act(
 }
 
 // The bits of the line report that are set in the status: 10, 9, 7, 6, 5, 3-0.
+#[tactic(auto, using(scb::proofs::Fields::bits_below), unfolding(actions::specs::Actions::reported))]
 fn reported(report: u16) -> u16
     ensures { (result ≡ actions.reported report) × (result < 2048) }
 {
@@ -302,6 +307,7 @@ fn reported(report: u16) -> u16
 }
 
 // Whether the line sent the frame: bits 10, 9 and 5 are clear.
+#[tactic(auto, unfolding(actions::specs::Actions::is_sent))]
 fn is_sent(report: u16) -> bool
     ensures { result ≡ actions.is_sent report }
 {
@@ -309,6 +315,7 @@ fn is_sent(report: u16) -> bool
 }
 
 // A whole Transmit, by the line report: C with the report's bits; OK and the length exactly if it was sent.
+#[tactic(auto, unfolding(actions::specs::Actions::sent))]
 pub fn send(filled: u16, report: u16) -> Done
     ensures { (s : Setup) → acts.Tells (actions.sent s filled report) result }
 {
