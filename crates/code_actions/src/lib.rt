@@ -118,14 +118,7 @@ fn ia_setup(memory: &[u8], base: RealAddress, setup: &mut [u8; setup::SIZE], blo
 fn clamp(byte: u8) -> u16
     ensures { result ≡ actions.clamped byte }
 {
-    let count = scb::bits_at(byte as u16, 0, LOW_BITS);
-    if count < LEAST {
-        return LEAST;
-    }
-    if MOST < count {
-        return MOST;
-    }
-    count
+    scb::bits_at(byte as u16, 0, LOW_BITS).clamp(LEAST, MOST)
 }
 
 // Byte 3: the address length.

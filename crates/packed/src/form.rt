@@ -26,11 +26,7 @@ const FORMS: u64 = 1 << 4;
 pub fn length(form: u64) -> u64
     ensures { (result ≡ (form_of form).length) × (result ≤ 6) }
 {
-    let lacks = form % LACKS;
-    if lacks < LONGEST_ADDRESS {
-        return LONGEST_ADDRESS - lacks;
-    }
-    0
+    LONGEST_ADDRESS.saturating_sub(form % LACKS)
 }
 
 // Whether the address location is 1.
