@@ -91,6 +91,7 @@ fn quiet(tag: u64, word: u64) -> Commanded
 // ---- begin
 
 // What the command word holds to the end: bits 13 to 15 are I, S, EL. No SUSPEND waits yet.
+#[tactic(auto, using(crate::proofs::Laws::begun_by_is))]
 fn begun_by(block: Offset, word: u16) -> u64
     ensures { (result < 2 ^ 20) × BegunIs (begins.begun_by block word) result }
 {
@@ -138,6 +139,7 @@ fn put_header(
 }
 
 // With location 1 the buffers have the header, and the outgoing area stays.
+#[tactic(auto, unfolding(command::specs::Begin::header_of))]
 fn place_header(
     memory: &[u8],
     outgoing: &mut [u8],
@@ -198,6 +200,7 @@ fn to_begun(
 }
 
 // Begin: the command word is read, and the status 4000h written.
+#[tactic(auto, using(crate::proofs::Laws::begin_setup), unfolding(command::specs::Begin::begin, scb::specs::Words::joined, scb::specs::Words::event_bits))]
 fn begin(
     memory: &mut [u8],
     outgoing: &mut [u8],
@@ -289,6 +292,7 @@ fn after_end(b: u64, link: Offset, length: u16) -> Commanded
 }
 
 // The end of a command after its action: the status is written, then the link read.
+#[tactic(auto, unfolding(command::specs::End::next_after, phases::specs::Phases::word_of))]
 fn end(memory: &mut [u8], base: RealAddress, a: Done, b: u64) -> Commanded
     ensures { inner.Ends base a (begun_of (word_of b)) memory.old result memory.new }
 {
