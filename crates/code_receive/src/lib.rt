@@ -111,6 +111,7 @@ const MOST_BUFFERS: u64 = 64;
 // ---- begin
 
 // How many of the frame's first bytes do not go through buffers, by the form that it arrived under.
+#[tactic(auto, unfolding(phases::specs::Phases::word_of))]
 fn unbuffered(n: u64) -> u64
     ensures { (result ≡ rule.unbuffered (frame_in n).form) × (result ≤ 14) }
 {
@@ -210,6 +211,7 @@ fn buffer(memory: &mut [u8], holding: &[u8], base: RealAddress, n: u64, rest: u6
 // ---- end
 
 // The status bit for a verdict: 10 alignment excludes 11 CRC.
+#[tactic(auto, unfolding(device::specs::Numbers::verdict_of))]
 fn verdict_bit(kind: u64) -> u16
     ensures { (result ≡ ends.verdict_bit (verdict_of kind)) × (result ≤ 0x0800) }
 {
@@ -230,6 +232,7 @@ fn error_bits(lacking: bool, n: u64) -> u16
 }
 
 // The descriptor's status: C, with all error bits that apply, and OK only with no error bit.
+#[tactic(auto, using(crate::proofs::Laws::status_good, crate::proofs::Laws::status_bad))]
 fn frame_status(lacking: bool, n: u64) -> u16
     ensures { result ≡ ends.frame_status lacking (frame_in n) }
 {
