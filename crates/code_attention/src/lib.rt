@@ -3,7 +3,7 @@
 
 #![tactic(auto)]
 
-ghost use Rattle.std.specs.Prelude.{◌≡◌, false, [], ◌∷◌, ◌*◌, ◌<◌, length};
+ghost use Rattle.std.specs.Prelude.{◌≡◌, false, [], ◌∷◌, ◌*◌, ◌<◌};
 ghost use Rattle.memory.specs.Address as addresses;
 ghost use Rattle.memory.specs.Memory as bytes;
 ghost use Rattle.scb.specs.Words as words;
@@ -185,13 +185,12 @@ fn obey_codes(memory: &mut [u8], k: Packed, command: u16) -> Packed
 {
     let base = packed::base(k);
     let scb = packed::scb(k);
-    let cu = packed::cu_tag(k);
-    let ru = packed::ru_tag(k);
-    let c = code_control::obey_cuc(memory, base, scb, cu, k.cu, command);
-    let r = code_control::obey_ruc(memory, base, scb, ru, k.ru, k.rest, command);
-    let raised = left_active(cu, c.tag) + left_ready(ru, r.tag);
-    let acknowledged = acknowledge(k, command);
-    packed::after_codes(acknowledged, c.tag, c.word, r.tag, r.word, r.rest, raised)
+    let cu = packed::cu_unit(k);
+    let ru = packed::ru_unit(k);
+    let c = code_control::obey_cuc(memory, base, scb, cu, command);
+    let r = code_control::obey_ruc(memory, base, scb, ru, command);
+    let raised = left_active(cu.tag, c.tag) + left_ready(ru.tag, r.tag);
+    packed::after_codes(acknowledge(k, command), c, r, raised)
 }
 
 // The units after a command. Where both codes are 0, as in most commands, a unit stays as it is.
@@ -251,18 +250,12 @@ fn fresh() -> Packed
 }
 
 // The setup after reset: minimum length 64, six FFh for the address, all else zero.
-fn renew(setup: &mut [u8])
-    ensures { length setup.old ≡ setups.setup_size → setup.new ≡ setups.setup_bytes (setup_of states.fresh) }
+fn renew(setup: &mut [u8; setup::SIZE])
+    ensures { setup.new ≡ setups.setup_bytes (setup_of states.fresh) }
 {
-    let mut fresh: [u8; setup::SIZE] = [0; setup::SIZE];
-    fresh[setup::MINIMUM] = MINIMUM;
-    fresh[setup::OWN] = OWN;
-    fresh[setup::OWN + 1] = OWN;
-    fresh[setup::OWN + 2] = OWN;
-    fresh[setup::OWN + 3] = OWN;
-    fresh[setup::OWN + 4] = OWN;
-    fresh[setup::OWN + 5] = OWN;
-    memory::put_run(setup, 0, &fresh);
+    *setup = [0; setup::SIZE];
+    setup[setup::MINIMUM] = MINIMUM;
+    setup[setup::OWN..setup::FILTER].fill(OWN);
 }
 
 // Whether the first attention was.
@@ -282,7 +275,7 @@ pub struct Attended {
 }
 
 // An attention to an initialised chip: the command word is read once.
-fn attend_initialised(memory: &mut [u8], setup: &mut [u8], k: Packed) -> Attended
+fn attend_initialised(memory: &mut [u8], setup: &mut [u8; setup::SIZE], k: Packed) -> Attended
     ensures { (d : Device) → packs.PackedIs d.units k → setups.SetIs (setup_of d) setup.old
         → attends.Attends (attentions.attend d memory.old) memory.old result memory.new setup.new }
 {
@@ -303,7 +296,7 @@ fn attend_initialised(memory: &mut [u8], setup: &mut [u8], k: Packed) -> Attende
 }
 
 // A channel attention: the first after reset initialises; every other is attended to.
-pub fn attend(memory: &mut [u8], setup: &mut [u8], k: Packed) -> Attended
+pub fn attend(memory: &mut [u8], setup: &mut [u8; setup::SIZE], k: Packed) -> Attended
     ensures { (d : Device) → packs.PackedIs d.units k → setups.SetIs (setup_of d) setup.old
         → attends.Attends (attentions.attention d memory.old) memory.old result memory.new setup.new }
 {
