@@ -14,7 +14,6 @@ ghost use Rattle.device.specs.declared.Device.{Device};
 ghost use Rattle.device.specs.declared.Ru.{Ru};
 ghost use Rattle.device.specs.declared.Units.{Units};
 ghost use Rattle.actions.specs.Setup.{setup_of};
-ghost use Rattle.phases.specs.Fields.{odd};
 ghost use Rattle.phases.specs.Phases.{cu_tag, ru_tag};
 ghost use Rattle.packed.specs.Packed as packs;
 ghost use Rattle.packed.specs.SetUp as setups;
@@ -86,6 +85,7 @@ fn ru_number(tag: u64) -> u16
 }
 
 // The status word of its fields. The bits that are no field's are zero.
+#[tactic(auto, using(crate::proofs::States::status_joined))]
 fn status_word(events: u16, cus: u16, rus: u16) -> u16
     requires { (events < 16) × (cus < 8) × (rus < 8) }
     ensures { result ≡ words.joined (words.joined (words.joined 0 4 rus) 8 cus) 12 events }
@@ -119,6 +119,7 @@ fn initial_writes(memory: &mut [u8], iscp: RealAddress, base: RealAddress, scb: 
 }
 
 // The ISCP: the real address at FFFFFCh, which is the SCP's pointer.
+#[tactic(auto, unfolding(attention::specs::Attention::iscp_of))]
 fn iscp_of(memory: &[u8]) -> RealAddress
     ensures { result ≡ attentions.iscp_of memory.now }
 {
@@ -194,6 +195,7 @@ fn obey_codes(memory: &mut [u8], k: Packed, command: u16) -> Packed
 }
 
 // The units after a command. Where both codes are 0, as in most commands, a unit stays as it is.
+#[tactic(auto, using(crate::proofs::Codes::codes_none))]
 fn obeyed(memory: &mut [u8], k: Packed, command: u16) -> Packed
     ensures { (u : Units) → packs.PackedIs u k → attends.Obeys (attends.codes u command memory.old) memory.old result memory.new }
 {
@@ -206,6 +208,7 @@ fn obeyed(memory: &mut [u8], k: Packed, command: u16) -> Packed
 // ---- every other attention
 
 // Command 0 is written.
+#[tactic(auto, using(packed::proofs::Laws::base_is, packed::proofs::Laws::scb_is), unfolding(memory::specs::Address::place))]
 fn clear_command(memory: &mut [u8], k: Packed)
     ensures { (u : Units) → packs.PackedIs u k → memory.new ≡ bytes.apply (attends.command_to u ∷ []) memory.old }
 {
@@ -228,6 +231,7 @@ fn obey(memory: &mut [u8], k: Packed, command: u16) -> Packed
 }
 
 // The command word of the SCB.
+#[tactic(auto, using(packed::proofs::Laws::base_is, packed::proofs::Laws::scb_is), unfolding(memory::specs::Address::place))]
 fn command_of(memory: &[u8], k: Packed) -> u16
     ensures { (u : Units) → packs.PackedIs u k → result ≡ bytes.word_at memory.now (obeys.of_scb u 2) }
 {
@@ -238,6 +242,7 @@ fn command_of(memory: &[u8], k: Packed) -> u16
 }
 
 // The units after reset.
+#[tactic(auto, using(crate::proofs::States::fresh_is))]
 fn fresh() -> Packed
     ensures { packs.PackedIs states.fresh_units result }
 {
@@ -256,13 +261,6 @@ fn renew(setup: &mut [u8; setup::SIZE])
     *setup = [0; setup::SIZE];
     setup[setup::MINIMUM] = MINIMUM;
     setup[setup::OWN..setup::FILTER].fill(OWN);
-}
-
-// Whether the first attention was.
-fn initialised(k: Packed) -> bool
-    ensures { result ≡ odd (packs.marks_in k) }
-{
-    packed::initialised(k)
 }
 
 // ---- an attention
@@ -300,7 +298,7 @@ pub fn attend(memory: &mut [u8], setup: &mut [u8; setup::SIZE], k: Packed) -> At
     ensures { (d : Device) → packs.PackedIs d.units k → setups.SetIs (setup_of d) setup.old
         → attends.Attends (attentions.attention d memory.old) memory.old result memory.new setup.new }
 {
-    if initialised(k) {
+    if packed::initialised(k) {
         return attend_initialised(memory, setup, k);
     }
     Attended {
