@@ -1,11 +1,9 @@
 -- What is asked, as the call that C makes: each is one of `asked_call`. Assumes nothing.
 use mathlib.Core.Path.{◌≡◌, refl, ap, ◌∙◌}
-use mathlib.Core.Bool.{cond}
 use mathlib.Core.List.{List, []}
 use Prim.Native.Nat.{ℕ, ◌+◌, ◌*◌, ◌^◌, ◌<◌}
-use lib.Dec.{eqb}
 use native.Mathlib.Omega.{arith}
-use Rattle.device.specs.Numbers.{refusal_number}
+use Rattle.std.specs.Prelude.{Option, Some, None}
 use Rattle.device.specs.declared.Refusal.{Refusal}
 use Rattle.image.specs.Image.{decode_of, device_at}
 use Rattle.image.specs.Found.{Found}
@@ -14,7 +12,7 @@ use Rattle.chip.specs.World.{World, world_of}
 use Rattle.chip.specs.Turn.{turn_of}
 use Rattle.chip.specs.Run.{run_of}
 use Rattle.chip.proofs.Run.{run_one}
-use Rattle.calls.specs.Calls.{Areas, Called, Calls, refusal_of, refused, on_bytes, decoded_on, unless_refused, run_on_bytes, attention_call, arrival_call, turn_call, run_call, answer_number}
+use Rattle.calls.specs.Calls.{Areas, Called, Calls, refusal_of, on_bytes, decoded_on, unless_refused, run_on_bytes, attention_call, arrival_call, turn_call, run_call, answer_number}
 use Rattle.code_calls.specs.declared.Asked.TheVariants as asked
 use Rattle.code_calls.specs.Inner.{kept_turns, asked_call}
 
@@ -43,8 +41,10 @@ one_on : (d : Found) (a : Areas) (report : ℕ) → decoded_on (λ w. kept_turns
 one_on (is.Units u) a report = one_kept (world_of (device_at a.kept u) a.memory a.holding a.outgoing) report
 one_on is.Foreign a report = refl
 
-one_by : (r : Refusal) (a : Areas) (report : ℕ) → unless_refused r (λ w. kept_turns 0 (run_of 1 w report)) a ≡ unless_refused r (λ w. on_bytes (turn_of w report)) a
-one_by r a report = ap (λ (x : Called). cond (eqb (refusal_number r) 0) x (refused r a)) (one_on (decode_of a.kept) a report)
+one_by : (r : Option Refusal) (a : Areas) (report : ℕ)
+    → unless_refused r (λ w. kept_turns 0 (run_of 1 w report)) a ≡ unless_refused r (λ w. on_bytes (turn_of w report)) a
+one_by None a report = one_on (decode_of a.kept) a report
+one_by (Some r) a report = refl
 
 -- a run of one turn, uncounted, is a turn
 pub asks_turn : (a : Areas) (report : ℕ) → report < 65536 → asked_call asked.Turns a [] report 1 0 ≡ turn_call a report

@@ -5,8 +5,10 @@ use mathlib.Core.List.{List, ◌++◌}
 use Prim.Native.Nat.{ℕ, zero, suc, ◌+◌, ◌*◌}
 use native.Mathlib.Omega.{arith}
 use lib.ListN.{length, take, drop, replicate, take-append-drop}
+use Rattle.std.specs.Prelude.{Option, Some, None}
+use Rattle.std.proofs.lemmas.Option.{none-some}
 use Rattle.memory.proofs.Bytes.{Bytes}
-use Rattle.device.specs.Numbers.{refusal_number, reason_number}
+use Rattle.device.specs.Numbers.{refusal_or_0, reason_or_0}
 use Rattle.device.specs.declared.Answer.{Answer}
 use Rattle.device.specs.declared.Device.{Device}
 use Rattle.device.specs.declared.Refusal.{Refusal}
@@ -30,25 +32,26 @@ use Rattle.code_chip.proofs.Loop.{holding_kept}
 use Rattle.chip.proofs.Answers.{Plain, run_plain}
 use Rattle.calls.specs.Calls.{Areas, is_image, lengths_of, refusal_of, refused, unless_refused, answer_number}
 use Rattle.calls.proofs.Rows.{LengthsRight, rows_right, by_length_lem}
-use Rattle.calls.proofs.Laws.{refuses, no_image, accepted}
+use Rattle.calls.proofs.Laws.{no_image, accepted}
 use Rattle.code_calls.specs.declared.Asked.{Asked}
 use Rattle.code_calls.specs.Inner.{by_lengths, Finds, kept_turns, asked_on, asked_call}
 
 -- ---- a call, whatever is asked
 
--- r: what the lengths give
-module _ (x : Asked) (a : Areas) (f : List ℕ) (line budget unit : ℕ) (r : Refusal)
-    (e : r ≡ by_lengths (length a.memory) (length a.holding) (length a.outgoing) (length a.kept) (length f)) where
-  -- refused for a length: the record was not looked at
-  pub asked_early : (refusal_number r ≡ 0 → ⊥) → asked_call x a f line budget unit ≡ refused r a
-  unfolding asked_call refusal_of
-  asked_early n =
-      let d : refusal_of a f ≡ r = by_length_lem (lengths_of a f) (is_image (decode_of a.kept)) (λ z. n (ap refusal_number e ∙ z)) ∙ sym e in
-      ap (λ (y : Refusal). unless_refused y (asked_on x f line budget unit) a) d ∙ refuses r (asked_on x f line budget unit) a n
+abbrev by_lengths_of : Areas → List ℕ → Option Refusal
+by_lengths_of a f = by_lengths (length a.memory) (length a.holding) (length a.outgoing) (length a.kept) (length f)
 
-  module _ (n : refusal_number r ≡ 0) where
+module _ (x : Asked) (a : Areas) (f : List ℕ) (line budget unit : ℕ) where
+  -- refused for a length: the record was not looked at
+  pub asked_early : (r : Refusal) → by_lengths_of a f ≡ Some r → asked_call x a f line budget unit ≡ refused r a
+  unfolding asked_call refusal_of
+  asked_early r e =
+      let d : refusal_of a f ≡ Some r = by_length_lem (lengths_of a f) (is_image (decode_of a.kept)) (λ z. none-some r (sym z ∙ e)) ∙ e in
+      ap (λ (y : Option Refusal). unless_refused y (asked_on x f line budget unit) a) d
+
+  module _ (n : by_lengths_of a f ≡ None) where
     pub asked_right : LengthsRight (lengths_of a f)
-    asked_right = (rows_right (lengths_of a f) true (sym (ap refusal_number e) ∙ n)).0
+    asked_right = (rows_right (lengths_of a f) true n).0
 
     pub asked_foreign : decode_of a.kept ≡ is.Foreign → asked_call x a f line budget unit ≡ refused refusal.Foreign a
     unfolding asked_call
@@ -113,8 +116,8 @@ arrival_outgoing w f v = refl
 told_packed : (a : Answer) → Plain a → told_of a * 65536 ≡ answer_number a
 unfolding answer_number
 told_packed a p =
-    let q = ap (λ (x : Answer). refusal_number x.number) p in
-    let y = ap (λ (x : Answer). reason_number x.reason) p in
+    let q = ap (λ (x : Answer). refusal_or_0 x.refusal) p in
+    let y = ap (λ (x : Answer). reason_or_0 x.reason) p in
     omega (arith, q, y)
 
 pub run_answer : (n : ℕ) (w : World) (report unit : ℕ) (told taken : ℕ) → told ≡ told_of (run_of n w report).answer → taken ≡ (run_of n w report).taken

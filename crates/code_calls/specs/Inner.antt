@@ -1,5 +1,5 @@
 -- The shapes of the contracts of the code's inner functions: a call on a record that is an image. Assumes nothing.
-use Rattle.std.specs.Prelude.{◌≡◌, true, List, ℕ, ◌+◌, ◌*◌, ◌%◌, ◌^◌}
+use Rattle.std.specs.Prelude.{◌≡◌, true, List, Option, ℕ, ◌+◌, ◌*◌, ◌%◌, ◌^◌}
 use Rattle.device.specs.declared.Refusal.{Refusal}
 use Rattle.device.specs.declared.Units.{Units}
 use Rattle.packed.specs.Packed.{packed_of}
@@ -15,8 +15,8 @@ use Rattle.calls.specs.Calls.{Areas, Called, areas_of, answer_number, refusal_of
 use Rattle.code_calls.specs.declared.Asked.{Asked}
 use Rattle.code_calls.specs.declared.Asked.TheVariants as asked
 
--- why a call is refused by the lengths alone: the record is not looked at
-abbrev pub by_lengths : (memory holding outgoing kept frame : ℕ) → Refusal
+-- why a call is refused by the lengths alone, if it is: the record is not looked at
+abbrev pub by_lengths : (memory holding outgoing kept frame : ℕ) → Option Refusal
 by_lengths memory holding outgoing kept frame =
     first_wrong (is_right (record { memory = memory; holding = holding; outgoing = outgoing; kept = kept; frame = frame }) true) rows
 

@@ -4,4 +4,4 @@ use Rattle.code_calls.proofs.answer_number.Goals as goal
 
 pub returns : goal.returns
 unfolding answer_number
-returns c = rw (c.refusal_number.ensures, c.one.ensures.0, c.reason_number.ensures)
+returns c = rw (c.refusal_or_0.ensures, c.one.ensures.0, c.reason_or_0.ensures)
