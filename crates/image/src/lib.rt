@@ -22,12 +22,8 @@ pub enum Decoded {
     Foreign,
 }
 
-// The own address is written in two halves. After reset it is all FFh, and the minimum length is 64.
-const OWN_BACK: usize = record::OWN + 3;
-
+// After reset the own address is all FFh, and the minimum length is 64.
 const ONES: u64 = 0xFFFFFFFFFFFF;
-
-const HALF_ONES: u64 = 0xFFFFFF;
 
 const MINIMUM: u8 = 64;
 
@@ -233,35 +229,35 @@ fn front_at(r: &[u8]) -> u64
     requires { length r.now ≡ record_size }
     ensures { result ≡ field r.now letters_at 8 }
 {
-    numerals::read64(r, record::LETTERS)
+    numerals::read::<8>(r, record::LETTERS)
 }
 
 fn status_at(r: &[u8]) -> u64
     requires { length r.now ≡ record_size }
     ensures { result ≡ field r.now status_at 8 }
 {
-    numerals::read64(r, record::STATUS)
+    numerals::read::<8>(r, record::STATUS)
 }
 
 fn cu_at(r: &[u8]) -> u64
     requires { length r.now ≡ record_size }
     ensures { result ≡ field r.now cu_at 8 }
 {
-    numerals::read64(r, record::CU)
+    numerals::read::<8>(r, record::CU)
 }
 
 fn ru_at(r: &[u8]) -> u64
     requires { length r.now ≡ record_size }
     ensures { result ≡ field r.now ru_at 8 }
 {
-    numerals::read64(r, record::RU)
+    numerals::read::<8>(r, record::RU)
 }
 
 fn rest_at(r: &[u8]) -> u64
     requires { length r.now ≡ record_size }
     ensures { result ≡ field r.now rest_at 8 }
 {
-    numerals::read64(r, record::REST)
+    numerals::read::<8>(r, record::REST)
 }
 
 fn packed_at(r: &[u8]) -> Packed
@@ -277,11 +273,12 @@ fn packed_at(r: &[u8]) -> Packed
 }
 
 // The form in force.
+#[tactic(auto, using(numerals::proofs::Laws::one))]
 fn form_at(r: &[u8]) -> u64
     requires { length r.now ≡ record_size }
     ensures { result ≡ numbers.form_is r.now }
 {
-    setup::form_of(numerals::read8(r, record::SETTINGS))
+    setup::form_of(r[record::SETTINGS])
 }
 
 fn front_is(n: u64) -> bool
@@ -301,11 +298,12 @@ fn words_are(front: u64, f: u64, k: Packed) -> bool
     false
 }
 
+#[tactic(auto, unfolding(crate::specs::Image::spare_zero))]
 fn spare_zero(r: &[u8]) -> bool
     requires { length r.now ≡ record_size }
     ensures { result ≡ image.spare_zero r.now }
 {
-    (numerals::read24(r, record::GAP) == 0)
+    (numerals::read::<3>(r, record::GAP) == 0)
         & numerals::is_zero(r, record::SPARE, record::SPARE_WORDS)
 }
 
@@ -314,10 +312,10 @@ fn is_fresh(r: &[u8]) -> bool
     ensures { result ≡ numbers.fresh_at r.now }
 {
     (status_at(r) == 0)
-        & (numerals::read8(r, record::SETTINGS) == 0)
-        & (numerals::read8(r, record::MINIMUM) == MINIMUM)
-        & (numerals::read48(r, record::OWN) == ONES)
-        & (numerals::read64(r, record::FILTER) == 0)
+        & (r[record::SETTINGS] == 0)
+        & (r[record::MINIMUM] == MINIMUM)
+        & (numerals::read::<6>(r, record::OWN) == ONES)
+        & (numerals::read::<8>(r, record::FILTER) == 0)
 }
 
 // Whether a record of 256 bytes is the image of a state in range. Before the first attention there is one such state.
@@ -357,10 +355,10 @@ pub fn store(r: &mut [u8], k: Packed)
     ensures { r.new ≡ image.stored_units r.old k }
 {
     if r.len() == record::SIZE {
-        numerals::put64(r, record::STATUS, k.status);
-        numerals::put64(r, record::CU, k.cu);
-        numerals::put64(r, record::RU, k.ru);
-        numerals::put64(r, record::REST, k.rest);
+        numerals::put::<8>(r, record::STATUS, k.status);
+        numerals::put::<8>(r, record::CU, k.cu);
+        numerals::put::<8>(r, record::RU, k.ru);
+        numerals::put::<8>(r, record::REST, k.rest);
     }
 }
 
@@ -369,11 +367,10 @@ fn renew_full(r: &mut [u8])
     ensures { r.new ≡ image.image_of device.fresh }
 {
     numerals::clear(r, 0, record::SIZE);
-    numerals::put24(r, record::LETTERS, record::BGT);
-    numerals::put16(r, record::VERSION, record::VERSION_1);
-    numerals::put8(r, record::MINIMUM, MINIMUM);
-    numerals::put24(r, record::OWN, HALF_ONES);
-    numerals::put24(r, OWN_BACK, HALF_ONES);
+    numerals::put::<3>(r, record::LETTERS, record::BGT);
+    numerals::put::<2>(r, record::VERSION, record::VERSION_1);
+    r[record::MINIMUM] = MINIMUM;
+    numerals::put::<6>(r, record::OWN, ONES);
 }
 
 // The image of the fresh state goes to a record, whatever stood there; one of another length stays as it is.

@@ -71,7 +71,7 @@ pub fn filter(setup: &[u8]) -> u64
     requires { length setup.now ≡ setup_size }
     ensures { (s : Setup) → SetIs s setup.now → result ≡ s.filter }
 {
-    numerals::read64(setup, FILTER)
+    numerals::read::<8>(setup, FILTER)
 }
 
 // The byte of settings: save bad, the modes, the form.

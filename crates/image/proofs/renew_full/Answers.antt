@@ -5,6 +5,5 @@ use Rattle.image.proofs.renew_full.Goals as goal
 
 pub returns : goal.returns
 returns c =
-    c.put24-3.ensures
-    ∙ rw (c.put24-2.ensures, c.put8.ensures, c.put16.ensures, c.put24.ensures, c.clear.ensures)
-    (fresh_stores c.args.r.now c.requires)
+    c.put-3.ensures
+    ∙ rw (c.put-2.ensures, c.put.ensures, c.clear.ensures) (fresh_stores c.args.r.now c.requires)

@@ -5,8 +5,8 @@ use Rattle.image.proofs.store.Goals as goal
 
 pub returns-then-r-eq-SIZE : goal.returns-then-r-eq-SIZE
 returns-then-r-eq-SIZE c =
-    c.put64-then-r-eq-SIZE-3.ensures
-    ∙ rw (c.put64-then-r-eq-SIZE-2.ensures, c.put64-then-r-eq-SIZE.ensures, c.put64.ensures)
+    c.put-then-r-eq-SIZE-3.ensures
+    ∙ rw (c.put-then-r-eq-SIZE-2.ensures, c.put-then-r-eq-SIZE.ensures, c.put.ensures)
     (sym (units_stored c.args.r.now c.args.k c.if-r-eq-SIZE.true))
 
 pub returns-else-r-eq-SIZE : goal.returns-else-r-eq-SIZE
