@@ -13,6 +13,7 @@ ghost use Rattle.phases.specs.Forms.{form_number};
 ghost use Rattle.packed.specs.SetUp.{settings_byte, SetIs};
 ghost use Rattle.code_actions.specs.Acts as acts;
 
+use copies::Any;
 use memory::{Offset, RealAddress};
 use packed::{form, setup};
 
@@ -104,7 +105,7 @@ pub fn plainly(status: u16, length: u16) -> Done
 fn ia_setup(memory: &[u8], base: RealAddress, setup: &mut [u8; setup::SIZE], block: Offset) -> Done
     ensures { (s : Setup) → SetIs s setup.old → acts.Sets (actions.ia_setup base s block memory.now) result setup.new }
 {
-    copies::copy_out(
+    copies::copy_out::<Any>(
         memory,
         memory::place(base, block, ARGUMENT),
         OWN_SIZE,
@@ -231,19 +232,18 @@ fn filter_of(memory: &[u8], first: RealAddress, l: u64, count: u16) -> u64
         return 0;
     }
     let mut filter: u64 = 0;
+    // i goes through the bytes of all addresses, so no range is its own.
     let mut i: u16 = 0;
     'addresses: while i < count {
         let mut register = hash::ONES;
-        let mut j: u64 = 0;
-        while j < l {
+        for _ in 0..l {
             if i == count {
                 break 'addresses;
             }
             register = hash::take(register, memory::byte_behind(memory, first, i));
             i += 1;
-            j += 1;
         }
-        filter = filter | 1 << hash::select(register);
+        filter |= 1 << hash::select(register);
     }
     filter
 }
@@ -255,7 +255,7 @@ fn mc_setup(memory: &[u8], base: RealAddress, setup: &mut [u8; setup::SIZE], blo
     let first = memory::place(base, block, ADDRESSES);
     let l = form::length(setup::form(setup));
     let filter = filter_of(memory, first, l, count_of(memory, base, block));
-    numerals::put64(setup, setup::FILTER, filter);
+    numerals::put::<8>(setup, setup::FILTER, filter);
     plainly(DONE, 0)
 }
 

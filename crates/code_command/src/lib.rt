@@ -19,6 +19,7 @@ ghost use Rattle.code_command.specs.Serves as serves;
 ghost use Rattle.code_command.specs.Inner as inner;
 
 use code_actions::Done;
+use copies::{Any, Few};
 use memory::{Offset, RealAddress};
 use packed::{cu, form, setup};
 
@@ -121,7 +122,7 @@ fn put_header(
     requires { l ≤ longest_address }
     ensures { (s : Setup) → SetIs s setup.now → outgoing.new ≡ sets outgoing.old 0 (begins.header_by false l base s.own block memory.now) }
 {
-    copies::few_out(
+    copies::copy_out::<Few>(
         memory,
         memory::place(base, block, DESTINATION),
         l,
@@ -129,7 +130,7 @@ fn put_header(
         0,
     );
     copies::put_few(outgoing, l, &setup[setup::OWN..setup::OWN + l]);
-    copies::copy_out(
+    copies::copy_out::<Any>(
         memory,
         memory::place(base, block, DESTINATION + l as u16),
         TYPE_SIZE,
@@ -250,7 +251,7 @@ fn buffer(memory: &[u8], outgoing: &mut [u8], base: RealAddress, n: u64) -> Comm
     }
     let next = memory::offset_at(memory, memory::place(base, o, NEXT));
     let buffer = memory::real_at(memory, memory::place(base, o, BUFFER));
-    copies::copy_out(memory, buffer, count as usize, outgoing, filled as usize);
+    copies::copy_out::<Any>(memory, buffer, count as usize, outgoing, filled as usize);
     after_buffer(EOF <= word, next, b, packed::kind_of(n), filled + count)
 }
 

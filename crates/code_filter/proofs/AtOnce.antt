@@ -9,11 +9,16 @@ use native.Mathlib.Omega.{arith}
 use borrow.Author.Tests.{eq-eqb, ne_eqb, eqb-true, eqb-false}
 use lib.Dec.{eqb}
 use lib.ListN.{get_or, replicate}
+use lib.ListN.{length, take, drop}
+use lib.Seq.{length-take-le}
+use Rattle.std.proofs.lemmas.List.{get_or-take}
+use Rattle.std.specs.Bool.{Decides, MatchBool}
+use Rattle.std.specs.List.{AllWithin, HoldsAt}
 use Rattle.memory.specs.Memory.{value, digits}
 use Rattle.memory.proofs.Laws.{below_or_not}
 use Rattle.memory.proofs.Bytes.{Bytes, bytes_nil, bytes_cons}
 use Rattle.numerals.specs.Places.{bytes_from, field}
-use Rattle.numerals.proofs.Laws.{piece, four}
+use Rattle.numerals.proofs.Laws.{piece, four, from_run}
 use Rattle.filter.specs.Match.{agree}
 use Rattle.code_filter.proofs.Laws.{each_of}
 
@@ -68,6 +73,39 @@ module _ (a : List ℕ) (i : ℕ) (f : List ℕ) where
       let s : k ≡ l = omega arith in
       rw s (sym (eqb-true _ _ b.1)))
       (below_or_not k l)
+
+-- ---- all bytes of a short address
+
+-- two slices that are equal
+pub agree_decides : (a : List ℕ) (i : ℕ) (f : List ℕ) (l : ℕ) → i + l ≤ length a → l ≤ length f
+    → Decides (agree a i f l) (take l f ≡ take l (drop i a))
+agree_decides a i f l h g =
+    let front : bytes_from f 0 l ≡ take l f = from_run f 0 l (rw zero-add g) in
+    let back : bytes_from a i l ≡ take l (drop i a) = from_run a i l h in (
+      λ e.
+          let same : bytes_from a i l ≡ bytes_from f 0 l =
+          from_same a f i 0 l (λ j p. rw zero-add (agree_each a i f l j e p)) in
+          sym front ∙ sym same ∙ back,
+      λ e. agree_all a i f l
+          (λ k p.
+          let same : bytes_from f 0 l ≡ bytes_from a i l = front ∙ e ∙ sym back in
+          rw zero-add at (sym (from_get f 0 l k p) ∙ ap (λ (r : List ℕ). get_or r k 0) same ∙ from_get a i l k p)),
+    )
+
+-- bytes that are each FFh
+pub ones_told : (f : List ℕ) (l : ℕ) (r : Bool) → l ≤ length f
+    → MatchBool r (AllWithin (λ x. x ≡ 255) (take l f) 0 (length (take l f)))
+    ((k : ℕ) × (k < length (take l f)) × HoldsAt (λ x. x ≡ 255 → ⊥) (take l f) k)
+    → r ≡ agree (replicate l 255) 0 f l
+ones_told f l true g h =
+    let e : length (take l f) ≡ l = length-take-le l f g in
+    sym (agree_all (replicate l 255) 0 f l
+    (λ k p. sym (get_or-take l f k 0 p) ∙ h k 0 (omega arith) (omega arith) ∙ sym (rw (zero-add, each_of l 255 k p))))
+ones_told f l false g (k, p, other) =
+    let e : length (take l f) ≡ l = length-take-le l f g in
+    let b : k < l = omega arith in
+    sym (refuted (agree (replicate l 255) 0 f l)
+    (λ t. other 0 (get_or-take l f k 0 b ∙ agree_each (replicate l 255) 0 f l k t b ∙ rw (zero-add, each_of l 255 k b))))
 
 -- ---- four bytes at once
 

@@ -16,7 +16,7 @@ use packed::setup;
 const ONES: u8 = 0xFF;
 
 // So many bytes of an address are compared at once: its first and its last, which lie over each other where it has fewer than both. A shorter
-// address goes byte by byte.
+// address goes byte by byte: six bytes would take 4 instructions more that way, and 14 where each is FFh.
 const AT_ONCE: usize = 4;
 
 const ONES_AT_ONCE: u64 = 0xFFFFFFFF;
@@ -27,19 +27,12 @@ fn is_broadcast(l: usize, frame: &[u8]) -> bool
     ensures { result ≡ match.all_ones l frame.now }
 {
     if AT_ONCE <= l {
-        if numerals::read32(frame, 0) == ONES_AT_ONCE {
-            return numerals::read32(frame, l - AT_ONCE) == ONES_AT_ONCE;
+        if numerals::read::<AT_ONCE>(frame, 0) == ONES_AT_ONCE {
+            return numerals::read::<AT_ONCE>(frame, l - AT_ONCE) == ONES_AT_ONCE;
         }
         return false;
     }
-    let mut i: usize = 0;
-    while i < l {
-        if frame[i] != ONES {
-            return false;
-        }
-        i += 1;
-    }
-    true
+    frame[..l].iter().all(|byte| *byte == ONES)
 }
 
 // Whether it is the own address, of which the first l bytes count.
@@ -48,32 +41,25 @@ fn is_own(setup: &[u8; setup::SIZE], l: usize, frame: &[u8]) -> bool
     ensures { result ≡ match.agree setup.now own_at frame.now l }
 {
     if AT_ONCE <= l {
-        if numerals::read32(setup, setup::OWN) == numerals::read32(frame, 0) {
+        if numerals::read::<AT_ONCE>(setup, setup::OWN) == numerals::read::<AT_ONCE>(frame, 0) {
             let rest = l - AT_ONCE;
-            return numerals::read32(setup, setup::OWN + rest) == numerals::read32(frame, rest);
+            return numerals::read::<AT_ONCE>(setup, setup::OWN + rest)
+                == numerals::read::<AT_ONCE>(frame, rest);
         }
         return false;
     }
-    let mut i: usize = 0;
-    while i < l {
-        if frame[i] != setup[setup::OWN + i] {
-            return false;
-        }
-        i += 1;
-    }
-    true
+    frame[..l] == setup[setup::OWN..setup::OWN + l]
 }
 
 // The hash of the destination.
+#[tactic(auto, using(hash::proofs::Faster::before))]
 fn hash_of(l: usize, frame: &[u8]) -> u64
     requires { l ≤ length frame.now }
     ensures { (result < filter_bits) × (result ≡ hash (take l frame.now)) }
 {
     let mut register = hash::ONES;
-    let mut i: usize = 0;
-    while i < l {
-        register = hash::take(register, frame[i]);
-        i += 1;
+    for byte in &frame[..l] {
+        register = hash::take(register, *byte);
     }
     hash::select(register)
 }
@@ -87,6 +73,7 @@ fn is_filtered(setup: &[u8; setup::SIZE], l: usize, frame: &[u8]) -> bool
 }
 
 // Whether the low bit of the first byte is set.
+#[tactic(auto, using(crate::proofs::Laws::low_bit))]
 fn is_group(frame: &[u8]) -> bool
     requires { 0 < length frame.now }
     ensures { result ≡ match.is_group frame.now }

@@ -21,6 +21,7 @@ ghost use Rattle.code_arrival.specs.Arrives.{frame_in};
 ghost use Rattle.code_receive.specs.Receives as receives;
 ghost use Rattle.code_receive.specs.Receives.{part_by, Quietly, Serves};
 
+use copies::{Any, Few};
 use device::Counter;
 use memory::{Offset, RealAddress};
 use packed::{form, ru};
@@ -192,7 +193,7 @@ fn buffer(memory: &mut [u8], holding: &[u8], base: RealAddress, n: u64, rest: u6
     let next = memory::offset_at(memory, memory::place(base, o, NEXT));
     let to = memory::real_at(memory, memory::place(base, o, BUFFER));
     let count = count_into(packed::size_of(n), filled, (word % SIZES) as u64);
-    copies::copy_in(
+    copies::copy_in::<Any>(
         memory,
         to,
         holding,
@@ -260,7 +261,7 @@ fn describe(
 {
     let fd = packed::at_of(n);
     if stored {
-        copies::few_in(
+        copies::copy_in::<Few>(
             memory,
             memory::place(base, fd, HEADER_AT),
             holding,

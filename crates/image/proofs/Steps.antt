@@ -5,7 +5,7 @@ use mathlib.Core.List.{List, ◌++◌}
 use Prim.Native.Nat.{ℕ}
 use native.Mathlib.Omega.{arith}
 use borrow.Author.Tests.{eq-eqb, ne_eqb}
-use lib.ListN.{length, replicate, length-append}
+use lib.ListN.{length, replicate, length-append, set}
 use lib.Seq.{sets}
 use Rattle.memory.specs.Memory.{value, digits}
 use Rattle.scb.specs.Words.{joined, event_bits}
@@ -42,14 +42,12 @@ length_image d p = simp length-append (omega (arith, length_units (packed_of d.u
 -- ---- the stores of a record
 
 -- the fresh image, over zeros
-fresh_over : sets (sets (sets (sets (sets (replicate 256 0) 0 (digits 3 0x544742)) 3 (digits 2 1)) 241 (digits 1 64)) 242 (digits 3 0xFFFFFF)) 245 (digits 3 0xFFFFFF)
-    ≡ image_of fresh
+fresh_over : sets (set (sets (sets (replicate 256 0) 0 (digits 3 0x544742)) 3 (digits 2 1)) 241 64) 242 (digits 6 0xFFFFFFFFFFFF) ≡ image_of fresh
 unfolding image_of unit_bytes front setup_bytes packed_of event_bits joined form_number number_of cu_word ru_word ru_rest digits
 fresh_over = refl
 
 pub fresh_stores : (r : List ℕ) → length r ≡ 256
-    → sets (sets (sets (sets (sets (sets r 0 (replicate 256 0)) 0 (digits 3 0x544742)) 3 (digits 2 1)) 241 (digits 1 64)) 242 (digits 3 0xFFFFFF)) 245 (digits 3 0xFFFFFF)
-    ≡ image_of fresh
+    → sets (set (sets (sets (sets r 0 (replicate 256 0)) 0 (digits 3 0x544742)) 3 (digits 2 1)) 241 64) 242 (digits 6 0xFFFFFFFFFFFF) ≡ image_of fresh
 fresh_stores r h = rw (sets_whole r (replicate 256 0) (sym h)) fresh_over
 
 -- writing back leaves exactly the image, whatever stood there; a record of another length stays

@@ -14,12 +14,8 @@ ghost use Rattle.image.specs.Numbers as numbers;
 
 use packed::{Packed, cu, form, record, ru, setup};
 
-// The own address is written in two halves. After reset it is all FFh, and the minimum length is 64.
-const OWN_BACK: usize = record::OWN + 3;
-
+// After reset the own address is all FFh, and the minimum length is 64.
 const ONES: u64 = 0xFFFFFFFFFFFF;
-
-const HALF_ONES: u64 = 0xFFFFFF;
 
 const MINIMUM: u8 = 64;
 
@@ -237,31 +233,31 @@ fn ru_is(tag: u64, n: u64, rest: u64) -> bool
 fn front_at(r: &[u8; record::SIZE]) -> u64
     ensures { result ≡ field r.now letters_at 8 }
 {
-    numerals::read64(r, record::LETTERS)
+    numerals::read::<8>(r, record::LETTERS)
 }
 
 fn status_at(r: &[u8; record::SIZE]) -> u64
     ensures { result ≡ field r.now status_at 8 }
 {
-    numerals::read64(r, record::STATUS)
+    numerals::read::<8>(r, record::STATUS)
 }
 
 fn cu_at(r: &[u8; record::SIZE]) -> u64
     ensures { result ≡ field r.now cu_at 8 }
 {
-    numerals::read64(r, record::CU)
+    numerals::read::<8>(r, record::CU)
 }
 
 fn ru_at(r: &[u8; record::SIZE]) -> u64
     ensures { result ≡ field r.now ru_at 8 }
 {
-    numerals::read64(r, record::RU)
+    numerals::read::<8>(r, record::RU)
 }
 
 fn rest_at(r: &[u8; record::SIZE]) -> u64
     ensures { result ≡ field r.now rest_at 8 }
 {
-    numerals::read64(r, record::REST)
+    numerals::read::<8>(r, record::REST)
 }
 
 #[tactic(auto, unfolding(crate::specs::Image::packed_at))]
@@ -277,10 +273,11 @@ fn packed_at(r: &[u8; record::SIZE]) -> Packed
 }
 
 // The form in force.
+#[tactic(auto, using(numerals::proofs::Laws::one))]
 fn form_at(r: &[u8; record::SIZE]) -> u64
     ensures { result ≡ numbers.form_is r.now }
 {
-    setup::form_of(numerals::read8(r, record::SETTINGS))
+    setup::form_of(r[record::SETTINGS])
 }
 
 fn front_is(n: u64) -> bool
@@ -305,19 +302,19 @@ fn words_are(front: u64, f: u64, k: Packed) -> bool
 fn spare_zero(r: &[u8; record::SIZE]) -> bool
     ensures { result ≡ image.spare_zero r.now }
 {
-    (numerals::read24(r, record::GAP) == 0)
+    (numerals::read::<3>(r, record::GAP) == 0)
         & numerals::is_zero(r, record::SPARE, record::SPARE_WORDS)
 }
 
-#[tactic(auto, unfolding(crate::specs::Numbers::fresh_at))]
+#[tactic(auto, using(numerals::proofs::Laws::one), unfolding(crate::specs::Numbers::fresh_at))]
 fn is_fresh(r: &[u8; record::SIZE]) -> bool
     ensures { result ≡ numbers.fresh_at r.now }
 {
     (status_at(r) == 0)
-        & (numerals::read8(r, record::SETTINGS) == 0)
-        & (numerals::read8(r, record::MINIMUM) == MINIMUM)
-        & (numerals::read48(r, record::OWN) == ONES)
-        & (numerals::read64(r, record::FILTER) == 0)
+        & (r[record::SETTINGS] == 0)
+        & (r[record::MINIMUM] == MINIMUM)
+        & (numerals::read::<6>(r, record::OWN) == ONES)
+        & (numerals::read::<8>(r, record::FILTER) == 0)
 }
 
 // Whether a record of 256 bytes is the image of a state in range. Before the first attention there is one such state.
@@ -361,10 +358,10 @@ pub fn store(r: &mut [u8], k: Packed)
     let Some(kept) = r.as_mut_array::<{ record::SIZE }>() else {
         return;
     };
-    numerals::put64(kept, record::STATUS, k.status);
-    numerals::put64(kept, record::CU, k.cu);
-    numerals::put64(kept, record::RU, k.ru);
-    numerals::put64(kept, record::REST, k.rest);
+    numerals::put::<8>(kept, record::STATUS, k.status);
+    numerals::put::<8>(kept, record::CU, k.cu);
+    numerals::put::<8>(kept, record::RU, k.ru);
+    numerals::put::<8>(kept, record::REST, k.rest);
 }
 
 #[tactic(auto, using(crate::proofs::Steps::fresh_stores))]
@@ -372,11 +369,10 @@ fn renew_full(r: &mut [u8; record::SIZE])
     ensures { r.new ≡ image.image_of device.fresh }
 {
     numerals::clear(r, 0, record::SIZE);
-    numerals::put24(r, record::LETTERS, record::BGT);
-    numerals::put16(r, record::VERSION, record::VERSION_1);
-    numerals::put8(r, record::MINIMUM, MINIMUM);
-    numerals::put24(r, record::OWN, HALF_ONES);
-    numerals::put24(r, OWN_BACK, HALF_ONES);
+    numerals::put::<3>(r, record::LETTERS, record::BGT);
+    numerals::put::<2>(r, record::VERSION, record::VERSION_1);
+    r[record::MINIMUM] = MINIMUM;
+    numerals::put::<6>(r, record::OWN, ONES);
 }
 
 // The image of the fresh state goes to a record, whatever stood there; one of another length stays as it is.

@@ -71,7 +71,7 @@ pub fn minimum(setup: &[u8; SIZE]) -> u64
 pub fn filter(setup: &[u8; SIZE]) -> u64
     ensures { (s : Setup) → SetIs s setup.now → result ≡ s.filter }
 {
-    numerals::read64(setup, FILTER)
+    numerals::read::<8>(setup, FILTER)
 }
 
 // The byte of settings: save bad, the modes, the form.

@@ -13,22 +13,22 @@ returns-then-l-eq0 c = rw c.if-l-eq0.true
 pub addresses-init : goal.addresses-init
 addresses-init c = (omega arith, none_yet _ _ _)
 
-pub loop-j-init : goal.loop-j-init
+pub loop-init : goal.loop-init
 unfolding bytes_at
-loop-j-init c = (omega arith, omega arith, omega arith, c.addresses.invariant.1, sym before)
+loop-init c = (omega arith, omega arith, omega arith, c.addresses.invariant.1, sym before)
 
-pub loop-j-preserved : goal.loop-j-preserved
-loop-j-preserved c =
+pub loop-preserved : goal.loop-preserved
+loop-preserved c =
     let m = c.args.memory.now in
-    let j = c.loop-j.j in
+    let j = c.loop.counter in
     let p = c.args.first.0 + c.addresses.i in
-    let e : c.args.first.0 + c.loop-j.i ≡ p + j = omega (arith, c.loop-j.invariant.0) in
+    let e : c.args.first.0 + c.loop.i ≡ p + j = omega (arith, c.loop.invariant.0) in
     let b : c.byte_behind.result ≡ byte_at m (p + j) = rw e at c.byte_behind.ensures in (
       omega arith,
       omega arith,
       omega arith,
-      c.loop-j.invariant.3,
-      rw (one_more_lem m p j, ← b) (c.take-register.ensures.1 (bytes_at m p j) c.loop-j.invariant.4),
+      c.loop.invariant.3,
+      rw (one_more_lem m p j, ← b) (c.take-register.ensures.1 (bytes_at m p j) c.loop.invariant.4),
     )
 
 pub addresses-preserved : goal.addresses-preserved
@@ -37,10 +37,10 @@ addresses-preserved c =
     let a = c.args.first.0 in
     let l = c.args.l in
     let i = c.addresses.i in
-    let all : c.loop-j.j ≡ l = omega (arith, c.loop-j.invariant.2) in
-    let e : c.loop-j.i ≡ i + l = omega (arith, c.loop-j.invariant.0) in
-    let h = c.select.ensures.2 (bytes_at m (a + i) l) (rw all at c.loop-j.invariant.4) in
-    (c.loop-j.invariant.1, rw e (filter_more l m a i c.select.result c.addresses.filter c.loop-j.invariant.3 c.select.ensures.1 h))
+    let all : c.loop.counter ≡ l = omega (arith, c.loop.invariant.2) in
+    let e : c.loop.i ≡ i + l = omega (arith, c.loop.invariant.0) in
+    let h = c.select.ensures.2 (bytes_at m (a + i) l) (rw all at c.loop.invariant.4) in
+    (c.loop.invariant.1, rw e (filter_more l m a i c.select.result c.addresses.filter c.loop.invariant.3 c.select.ensures.1 h))
 
 pub returns-after-addresses : goal.returns-after-addresses
 returns-after-addresses c =
@@ -50,6 +50,6 @@ returns-after-addresses c =
 
 pub returns-then-i-count : goal.returns-then-i-count
 returns-then-i-count c =
-    let j = c.loop-j.j in
-    let e : c.addresses.i + j ≡ c.args.count = omega (arith, c.loop-j.invariant.0) in
-    rw e at (remainder_ignored c.args.l c.args.memory.now c.args.first.0 c.addresses.i j c.addresses.filter c.loop-j.invariant.3 c.loop-j-test.true)
+    let j = c.loop.counter in
+    let e : c.addresses.i + j ≡ c.args.count = omega (arith, c.loop.invariant.0) in
+    rw e at (remainder_ignored c.args.l c.args.memory.now c.args.first.0 c.addresses.i j c.addresses.filter c.loop.invariant.3 c.loop-test.true)

@@ -15,7 +15,7 @@ returns c s h =
     let l = s.settings.form.length in
     let n = groups l c.args.base c.args.block m in
     let e : c.length-l.result ≡ l = c.length-l.ensures.0 ∙ rw (c.form.ensures.1 s h, form_back s.settings.form h.form_wide) in
-    rw (c.plainly.ensures, c.put64.ensures, c.filter_of-filter.ensures, c.count_of.ensures, c.place-first.ensures, e)
+    rw (c.plainly.ensures, c.put.ensures, c.filter_of-filter.ensures, c.count_of.ensures, c.place-first.ensures, e)
     (record {
       told = record { status = refl; length = refl };
       setup = filter-set s c.args.setup.now h (filtering l m a n) (filtering_wide l m a n);

@@ -23,6 +23,6 @@ returns c s h =
       ← own_first s c.args.setup.now h l c.requires,
       ← c.place.ensures,
       ← c.place-2.ensures,
-      ← c.few_out.ensures,
+      ← c.copy_out.ensures,
       ← rw part at c.put_few.ensures,
-    ) c.copy_out.ensures
+    ) c.copy_out-2.ensures

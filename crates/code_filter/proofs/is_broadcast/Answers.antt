@@ -1,34 +1,27 @@
--- `code_filter::is_broadcast` meets its contract: four bytes at once, or one by one, where the first i are FFh. Assumes nothing.
-use Rattle.std.proofs.Common.{sym, ◌∙◌, replicate, arith}
+-- `code_filter::is_broadcast` meets its contract: four bytes at once, or each byte. Assumes nothing.
+use Rattle.std.proofs.Common.{◌≡◌, take, sym, ◌∙◌, rules, tests, arith}
+use Rattle.std.proofs.lemmas.Iterator.{cases_from_all, YieldsList-from_slice}
 use Rattle.memory.proofs.Bytes.{Bytes}
-use Rattle.code_filter.proofs.Laws.{agree_none, agree_more, differs, same_byte}
-use Rattle.code_filter.proofs.AtOnce.{first_other, last_ones}
+use Rattle.code_filter.proofs.AtOnce.{first_other, last_ones, ones_told}
 use Rattle.code_filter.proofs.is_broadcast.Goals as goal
 
-pub returns-then-read32-eq-ONES_AT_ONCE : goal.returns-then-read32-eq-ONES_AT_ONCE
-returns-then-read32-eq-ONES_AT_ONCE c =
+pub returns-then-read-eq-ONES_AT_ONCE : goal.returns-then-read-eq-ONES_AT_ONCE
+returns-then-read-eq-ONES_AT_ONCE c =
     let f = c.args.frame.now in
     let y : Bytes f = record { each = λ i. omega (arith, c.type_inv.frame i) } in
-    rw c.read32-then-read32-eq-ONES_AT_ONCE.ensures
-    (last_ones f y c.args.l c.if-l-ge-AT_ONCE.true (omega arith) (sym c.read32.ensures ∙ c.if-read32-eq-ONES_AT_ONCE.true))
+    rw c.read-then-read-eq-ONES_AT_ONCE.ensures
+    (last_ones f y c.args.l c.if-l-ge-AT_ONCE.true (omega arith) (sym c.read.ensures ∙ c.if-read-eq-ONES_AT_ONCE.true))
 
 pub returns-then-l-ge-AT_ONCE : goal.returns-then-l-ge-AT_ONCE
 returns-then-l-ge-AT_ONCE c =
     let f = c.args.frame.now in
     let y : Bytes f = record { each = λ i. omega (arith, c.type_inv.frame i) } in
-    first_other f y c.args.l c.if-l-ge-AT_ONCE.true (omega arith) (λ e. c.if-read32-eq-ONES_AT_ONCE.false (c.read32.ensures ∙ e))
+    first_other f y c.args.l c.if-l-ge-AT_ONCE.true (omega arith) (λ e. c.if-read-eq-ONES_AT_ONCE.false (c.read.ensures ∙ e))
 
-pub loop-i-init : goal.loop-i-init
-loop-i-init c = (omega arith, agree_none _ _ _)
-
-pub returns-then-frame-i : goal.returns-then-frame-i
-returns-then-frame-i c =
+pub returns : goal.returns
+returns c =
+    let f = c.args.frame.now in
     let l = c.args.l in
-    let b = same_byte l 255 c.loop-i.i c.loop-i-test.true in
-    sym (differs (replicate l 255) 0 c.args.frame.now c.loop-i.i l c.loop-i-test.true (λ q. c.if-frame-i.true (q ∙ b)))
-
-pub loop-i-preserved : goal.loop-i-preserved
-loop-i-preserved c =
-    let l = c.args.l in
-    let b = same_byte l 255 c.loop-i.i c.loop-i-test.true in
-    (omega arith, agree_more (replicate l 255) 0 c.args.frame.now c.loop-i.i c.loop-i.invariant.1 (c.if-frame-i.false ∙ sym b))
+    ones_told f l c.all.result c.requires.1
+    (cases_from_all _ _ _ (λ x. x ≡ 255) (λ x. x ≡ 255 → ⊥) c.all.ensures.ran (YieldsList-from_slice (take l f) cc)
+    (λ x q k. search (rules, tests)) (λ x q k. search (rules, tests)))
