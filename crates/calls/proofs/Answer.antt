@@ -3,8 +3,9 @@ use mathlib.Core.Path.{◌≡◌, sym, ap, ◌∙◌, subst}
 use mathlib.Core.Bool.{Bool, true, false}
 use Prim.Native.Nat.{ℕ, ◌+◌, ◌*◌, ◌/◌, ◌^◌, ◌<◌}
 use native.Mathlib.Omega.{arith}
+use Rattle.std.specs.Prelude.{Option, Some, None}
 use Rattle.scb.specs.Words.{bits_at, one}
-use Rattle.device.specs.Numbers.{refusal_number, reason_number}
+use Rattle.device.specs.Numbers.{refusal_number, refusal_or_0, reason_number, reason_or_0}
 use Rattle.device.specs.declared.Answer.{Answer}
 use Rattle.device.specs.declared.Reason.{Reason}
 use Rattle.device.specs.declared.Reason.TheVariants as reasons
@@ -54,22 +55,28 @@ module _ (n l e y k : ℕ) (n-below : n < 2 ^ 16) where
 
 -- ---- of an answer
 
-pub refusal_below : (r : Refusal) → refusal_number r < 2 ^ 16
-refusal_below refusal.Accepted = omega arith
-refusal_below refusal.Memory = omega arith
-refusal_below refusal.Record = omega arith
-refusal_below refusal.Holding = omega arith
-refusal_below refusal.Outgoing = omega arith
-refusal_below refusal.Overlong = omega arith
-refusal_below refusal.Foreign = omega arith
+refusal_below_lem : (r : Refusal) → refusal_number r < 2 ^ 16
+refusal_below_lem refusal.Memory = omega arith
+refusal_below_lem refusal.Record = omega arith
+refusal_below_lem refusal.Holding = omega arith
+refusal_below_lem refusal.Outgoing = omega arith
+refusal_below_lem refusal.Overlong = omega arith
+refusal_below_lem refusal.Foreign = omega arith
 
-reason_below : (r : Reason) → reason_number r < 2 ^ 8
-reason_below reasons.NotDropped = omega arith
-reason_below reasons.TooFew = omega arith
-reason_below reasons.NoMatch = omega arith
-reason_below reasons.UnitIdle = omega arith
-reason_below reasons.UnitSuspended = omega arith
-reason_below reasons.Bad = omega arith
+pub refusal_below : (r : Option Refusal) → refusal_or_0 r < 2 ^ 16
+refusal_below None = omega arith
+refusal_below (Some r) = refusal_below_lem r
+
+reason_below_lem : (r : Reason) → reason_number r < 2 ^ 8
+reason_below_lem reasons.TooFew = omega arith
+reason_below_lem reasons.NoMatch = omega arith
+reason_below_lem reasons.UnitIdle = omega arith
+reason_below_lem reasons.UnitSuspended = omega arith
+reason_below_lem reasons.Bad = omega arith
+
+reason_below : (r : Option Reason) → reason_or_0 r < 2 ^ 8
+reason_below None = omega arith
+reason_below (Some r) = reason_below_lem r
 
 one_below : (b : Bool) → one b < 2
 one_below true = omega arith
@@ -79,14 +86,14 @@ one_below false = omega arith
 pub record Told (a : Answer) (turns n : ℕ) : Type 0 where
   pub sent : sent_length n ≡ a.length
   pub edged : edge n ≡ one a.edge
-  pub explained : reason n ≡ reason_number a.reason
+  pub explained : reason n ≡ reason_or_0 a.reason
   pub taken : turns_taken n ≡ turns
   pub last : without_turns n ≡ answer_number a
 
 pub told : (a : Answer) (turns : ℕ) → a.length < 2 ^ 16 → Told a turns (with_turns (answer_number a) turns)
 unfolding answer_number
 told a turns l =
-    let n = refusal_below a.number in
+    let n = refusal_below a.refusal in
     let e = one_below a.edge in
     let y = reason_below a.reason in
     record {
@@ -98,24 +105,24 @@ told a turns l =
     }
 
 -- the number, however long the frame sent
-pub told_number_of_run : (a : Answer) (turns : ℕ) → number (with_turns (answer_number a) turns) ≡ refusal_number a.number
+pub told_number_of_run : (a : Answer) (turns : ℕ) → number (with_turns (answer_number a) turns) ≡ refusal_or_0 a.refusal
 unfolding answer_number
-told_number_of_run a turns = number_of (refusal_number a.number) a.length (one a.edge) (reason_number a.reason) turns (refusal_below a.number)
+told_number_of_run a turns = number_of (refusal_or_0 a.refusal) a.length (one a.edge) (reason_or_0 a.reason) turns (refusal_below a.refusal)
 
 -- an answer with no turns
 turnless : (n : ℕ) → with_turns n 0 ≡ n
 turnless n = omega arith
 
-pub told_number : (a : Answer) → number (answer_number a) ≡ refusal_number a.number
+pub told_number : (a : Answer) → number (answer_number a) ≡ refusal_or_0 a.refusal
 told_number a = ap number (sym (turnless (answer_number a))) ∙ told_number_of_run a 0
 
 pub told_alone : (a : Answer) → a.length < 2 ^ 16 → Told a 0 (answer_number a)
 told_alone a l = subst (Told a 0) (turnless (answer_number a)) (told a 0 l)
 
 -- a refused call's is its number alone
-pub told_whole : (a : Answer) → a.length ≡ 0 → a.edge ≡ false → a.reason ≡ reasons.NotDropped → answer_number a ≡ refusal_number a.number
+pub told_whole : (a : Answer) → a.length ≡ 0 → a.edge ≡ false → a.reason ≡ None → answer_number a ≡ refusal_or_0 a.refusal
 unfolding answer_number
 told_whole a l e y =
     let z : one a.edge ≡ 0 = ap one e in
-    let x : reason_number a.reason ≡ 0 = ap reason_number y in
+    let x : reason_or_0 a.reason ≡ 0 = ap reason_or_0 y in
     omega (arith, l, z, x)

@@ -6,10 +6,11 @@ use Prim.Native.Nat.{ℕ}
 use lib.Dec.{T, eqb}
 use lib.ListN.{length, get_or, replicate}
 use lib.Count.{ones}
+use Rattle.std.specs.Prelude.{Some}
 use Rattle.memory.specs.Size.{size_allowed}
 use Rattle.scb.specs.Words.{bits_at}
 use Rattle.device.specs.Answers.{answered, arrived}
-use Rattle.device.specs.Numbers.{refusal_number}
+use Rattle.device.specs.Numbers.{refusal_number, refusal_or_0}
 use Rattle.device.specs.declared.Reason.TheVariants as reasons
 use Rattle.device.specs.declared.Refusal.TheVariants as refusal
 use Rattle.chip.specs.World.{reset_of}
@@ -19,7 +20,7 @@ use Rattle.calls.specs.Calls.{refused_answer, reset_call}
 
 -- the number, the length sent from bit 16 on, the edge in bit 32, the reason from bit 40 on
 pub answers_packed : T (eqb (answer_number (answered 60 true)) 0x1003C0000
-    && eqb (answer_number (arrived reasons.Bad)) 0x50000000000 && eqb (answer_number (refused_answer refusal.Foreign)) 4 && eqb (answer_number (refused_answer refusal.Memory)) 1
+    && eqb (answer_number (arrived (Some reasons.Bad))) 0x50000000000 && eqb (answer_number (refused_answer refusal.Foreign)) 4 && eqb (answer_number (refused_answer refusal.Memory)) 1
     && eqb (with_turns 0x1003C0000 3) 0x30001003C0000)
 unfolding answer_number
 answers_packed = tt
@@ -35,7 +36,7 @@ taken_apart = tt
 -- the number for these lengths: memory, holding area, outgoing area, record, frame; and for the record being an image
 abbrev given : (memory holding outgoing kept frame : ℕ) → (image : Bool) → ℕ
 given m h o k f image =
-    refusal_number (first_wrong (is_right (record { memory = m; holding = h; outgoing = o; kept = k; frame = f }) image) rows)
+    refusal_or_0 (first_wrong (is_right (record { memory = m; holding = h; outgoing = o; kept = k; frame = f }) image) rows)
 
 -- holding area, 2,048 bytes; outgoing area, 2,048 bytes; device record, 256 bytes: neither less nor more; a frame up to 2,048
 pub lengths_exact : T (eqb (given 8192 2048 2048 256 2048 true) 0

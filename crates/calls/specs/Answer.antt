@@ -2,14 +2,14 @@
 -- edge"; 02, Wish 3, "An arrival that is dropped also says why". Assumes nothing.
 use Rattle.std.specs.Prelude.{ℕ, ◌+◌, ◌*◌, ◌/◌, ◌^◌}
 use Rattle.scb.specs.Words.{bits_at, one}
-use Rattle.device.specs.Numbers.{refusal_number, reason_number}
+use Rattle.device.specs.Numbers.{refusal_or_0, reason_or_0}
 use Rattle.device.specs.declared.Answer.{Answer}
 
 -- ---- made
 
 -- number in bits 0 to 15, length in bits 16 to 31, edge in bit 32, reason in bits 40 to 47
 unfoldable pub answer_number : Answer → ℕ
-answer_number a = refusal_number a.number + a.length * 2 ^ 16 + one a.edge * 2 ^ 32 + reason_number a.reason * 2 ^ 40
+answer_number a = refusal_or_0 a.refusal + a.length * 2 ^ 16 + one a.edge * 2 ^ 32 + reason_or_0 a.reason * 2 ^ 40
 
 -- of a run, with the number of turns taken in bits 48 to 63
 abbrev pub with_turns : (answer turns : ℕ) → ℕ

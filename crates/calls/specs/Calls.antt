@@ -1,8 +1,6 @@
 -- The calls on numbers and byte areas: 01, "Calls, lent areas, refusals". Each exported call's promise cites one of these. Assumes nothing.
-use Rattle.std.specs.Prelude.{◌≡◌, Bool, true, false, not, cond, List, [], ℕ, eqb, length}
-use Rattle.device.specs.Numbers.{refusal_number}
+use Rattle.std.specs.Prelude.{◌≡◌, Bool, true, false, not, List, [], ℕ, eqb, length, Option, Some, None}
 use Rattle.device.specs.declared.Answer.{Answer}
-use Rattle.device.specs.declared.Reason.TheVariants as reason
 use Rattle.device.specs.declared.Refusal.{Refusal}
 use Rattle.device.specs.declared.Refusal.TheVariants as refusal
 use Rattle.image.specs.Image.{image_of, decode_of, device_at}
@@ -62,12 +60,12 @@ lengths_of a f =
     }
 
 -- of a call that takes all four
-unfoldable pub refusal_of : Areas → List ℕ → Refusal
+unfoldable pub refusal_of : Areas → List ℕ → Option Refusal
 refusal_of a f = first_wrong (is_right (lengths_of a f) (is_image (decode_of a.kept))) rows
 
 -- length 0, no interrupt edge, no reason; a refusal changes nothing lent
 abbrev pub refused_answer : Refusal → Answer
-refused_answer r = record { number = r; length = 0; edge = false; reason = reason.NotDropped }
+refused_answer r = record { refusal = Some r; length = 0; edge = false; reason = None }
 
 abbrev pub refused : Refusal → Areas → Called
 refused r a = record { answer = answer_number (refused_answer r); areas = a }
@@ -86,14 +84,14 @@ abbrev pub decoded_on : (World → Called) → Areas → Found → Called
 decoded_on does a (is.Units u) = does (world_of (device_at a.kept u) a.memory a.holding a.outgoing)
 decoded_on does a is.Foreign = refused refusal.Foreign a
 
--- number 0: not refused
-abbrev pub unless_refused : Refusal → (World → Called) → Areas → Called
-unless_refused r does a = cond (eqb (refusal_number r) 0) (decoded_on does a (decode_of a.kept)) (refused r a)
+abbrev pub unless_refused : Option Refusal → (World → Called) → Areas → Called
+unless_refused None does a = decoded_on does a (decode_of a.kept)
+unless_refused (Some r) does a = refused r a
 
 abbrev pub called_on : (World → Ran) → Areas → Found → Called
 called_on run a decoded = decoded_on (λ w. on_bytes (run w)) a decoded
 
-abbrev pub called_by : Refusal → (World → Ran) → Areas → Called
+abbrev pub called_by : Option Refusal → (World → Ran) → Areas → Called
 called_by r run a = unless_refused r (λ w. on_bytes (run w)) a
 
 -- ---- attention, arrival, turn
@@ -133,10 +131,9 @@ pub record Renews (said : Renewed) (a : ℕ) (r : List ℕ) : Type 0 where
   pub kept : r ≡ said.kept
 
 -- it ignores the record's content and writes a fresh one
-abbrev pub renewed : Refusal → List ℕ → Renewed
-renewed x r =
-    cond (eqb (refusal_number x) 0) (record { answer = answer_number reset_of.answer; kept = image_of reset_of.device })
-    (record { answer = answer_number (refused_answer x); kept = r })
+abbrev pub renewed : Option Refusal → List ℕ → Renewed
+renewed None r = record { answer = answer_number reset_of.answer; kept = image_of reset_of.device }
+renewed (Some x) r = record { answer = answer_number (refused_answer x); kept = r }
 
 -- no other area is lent, and nothing is asked of the content
 unfoldable pub reset_call : List ℕ → Renewed

@@ -1,6 +1,6 @@
 -- The table of refusals as rows: 01, "Calls, lent areas, refusals", as 02, Wish 3, mends it. A row is a case of `Refusal`, which has its number.
 -- Assumes nothing.
-use Rattle.std.specs.Prelude.{Bool, true, cond, List, [], ◌∷◌, ℕ, eqb, leb}
+use Rattle.std.specs.Prelude.{Bool, cond, List, [], ◌∷◌, ℕ, eqb, leb, Option, Some, None}
 use Rattle.memory.specs.Size.{size_allowed}
 use Rattle.device.specs.Limits.{holding_size, outgoing_size, record_size, longest}
 use Rattle.device.specs.declared.Refusal.{Refusal}
@@ -16,7 +16,6 @@ pub record Lengths : Type 0 where
 
 -- what each row asks, of the lengths and of whether the record is the image of a state within docs/' ranges
 abbrev pub is_right : Lengths → (image : Bool) → Refusal → Bool
-is_right l image refusal.Accepted = true
 is_right l image refusal.Memory = size_allowed l.memory
 is_right l image refusal.Record = eqb l.kept record_size
 is_right l image refusal.Holding = eqb l.holding holding_size
@@ -35,6 +34,6 @@ abbrev pub reset_rows : List Refusal
 reset_rows = refusal.Record ∷ []
 
 -- "The lowest number that applies is given", as mended: that of the first row, in this order, that is not right
-abbrev pub first_wrong : (right : Refusal → Bool) → List Refusal → Refusal
-first_wrong right [] = refusal.Accepted
-first_wrong right (r ∷ rs) = cond (right r) (first_wrong right rs) r
+abbrev pub first_wrong : (right : Refusal → Bool) → List Refusal → Option Refusal
+first_wrong right [] = None
+first_wrong right (r ∷ rs) = cond (right r) (first_wrong right rs) (Some r)

@@ -7,6 +7,7 @@ use Prim.Native.Nat.{ℕ, zero, suc, ◌+◌, ◌-◌, ◌≤◌, ◌<◌}
 use native.Mathlib.Omega.{arith}
 use borrow.Author.Tests.{eqb-true, eqb-false, not-false}
 use lib.Dec.{eqb}
+use Rattle.std.specs.Prelude.{Option, Some, None}
 use Rattle.memory.specs.Memory.{Write}
 use Rattle.memory.specs.declared.Offset.{Offset}
 use Rattle.scb.specs.Words.{any_of}
@@ -23,8 +24,8 @@ use Rattle.receive.specs.Buffer as receive_buffer
 use Rattle.receive.specs.End as endings
 use Rattle.receive.specs.Service as receive_service
 use Rattle.chip.specs.World.{World, Ran, afterwards}
-use Rattle.chip.specs.declared.Served.{Served}
-use Rattle.chip.specs.declared.Served.TheVariants as served
+use Rattle.chip.specs.declared.Unit.{Unit}
+use Rattle.chip.specs.declared.Unit.TheVariants as unit
 use Rattle.chip.specs.Turn.{served_by, served_of, concluded, command_turn, receive_turn, turn_by, turn_of}
 use Rattle.chip.specs.Run.{tells, stops, stops_at, Run, no_turn, last_turn, one_more, continued, run_of, run_from}
 
@@ -40,12 +41,12 @@ quiet n e h =
     let z : n ≡ 0 = eqb-true n 0 (not-false (eqb n 0) b.0) in
     rw (z, b.1)
 
-going_by : (s : Served) (w : World) (report : ℕ) → stops s (turn_by s w report).outcome.answer ≡ false
+going_by : (s : Option Unit) (w : World) (report : ℕ) → stops s (turn_by s w report).outcome.answer ≡ false
     → (turn_by s w report).outcome.answer ≡ answered 0 false
 unfolding stops command_turn receive_turn concluded
-going_by served.Neither w report h = refl
-going_by served.CommandUnit w report h = quiet _ _ h
-going_by served.ReceiveUnit w report h = quiet _ _ h
+going_by None w report h = refl
+going_by (Some unit.Command) w report h = quiet _ _ h
+going_by (Some unit.Receive) w report h = quiet _ _ h
 
 -- a turn that does not end a run has nothing to tell: number 0, length 0, no edge
 pub going_quiet : (w : World) (report : ℕ) → stops_at w report ≡ false → (turn_of w report).outcome.answer ≡ answered 0 false
@@ -123,11 +124,11 @@ told_cause true false w r a b h = absurd (false≢true h)
 tells_cause : (w : World) (r : Ran) → tells r.outcome.answer ≡ true → Cause w r
 tells_cause w r h = told_cause (eqb r.outcome.answer.length 0) r.outcome.answer.edge w r refl refl h
 
-cause_by : (s : Served) (w : World) (report : ℕ) → stops s (turn_by s w report).outcome.answer ≡ true → Cause w (turn_by s w report)
+cause_by : (s : Option Unit) (w : World) (report : ℕ) → stops s (turn_by s w report).outcome.answer ≡ true → Cause w (turn_by s w report)
 unfolding stops
-cause_by served.Neither w report h = workless refl
-cause_by served.CommandUnit w report h = tells_cause w (command_turn w report) h
-cause_by served.ReceiveUnit w report h = tells_cause w (receive_turn w) h
+cause_by None w report h = workless refl
+cause_by (Some unit.Command) w report h = tells_cause w (command_turn w report) h
+cause_by (Some unit.Receive) w report h = tells_cause w (receive_turn w) h
 
 pub stops_cause : (w : World) (report : ℕ) → stops_at w report ≡ true → Cause w (turn_of w report)
 unfolding turn_of

@@ -4,6 +4,7 @@ use mathlib.Core.Path.{◌≡◌, refl, ap}
 use mathlib.Core.Bool.{Bool, true, false, not, ◌||◌, true≢false, false≢true}
 use mathlib.Core.List.{List, [], ◌∷◌, ◌++◌}
 use Prim.Native.Nat.{ℕ}
+use Rattle.std.specs.Prelude.{Option, Some, None}
 use Rattle.memory.specs.Address.{place, offset_at}
 use Rattle.memory.specs.Memory.{Write, word_to, apply}
 use Rattle.memory.specs.declared.Offset.{Offset}
@@ -37,8 +38,8 @@ use Rattle.receive.specs.Begin as receive_begin
 use Rattle.receive.specs.Buffer as receive_buffer
 use Rattle.receive.specs.End.{fate_of, settles, end_at, before, proceeds, close, lack}
 use Rattle.receive.specs.Service as receive_service
-use Rattle.chip.specs.declared.Served.{Served}
-use Rattle.chip.specs.declared.Served.TheVariants as served
+use Rattle.chip.specs.declared.Unit.{Unit}
+use Rattle.chip.specs.declared.Unit.TheVariants as unit
 use Rattle.chip.specs.Turn.{served_of, raised_in, changes, status_by, concluded, command_units, command_turn, receive_units, receive_turn, turn_by, turn_of}
 use Rattle.chip.specs.World.{World, Ran}
 
@@ -163,10 +164,10 @@ unfolding receive_turn concluded receive_service.service
 receive_keeps w h =
     record { cu = refl; ru = ru_stays w.device.units.ru (receive.part_of w.device.units w.holding) w.memory refl h }
 
-kept_by : (s : Served) (w : World) (report : ℕ) → (turn_by s w report).outcome.answer.edge ≡ false → StatesKept w (turn_by s w report)
-kept_by served.Neither w report h = record { cu = refl; ru = refl }
-kept_by served.CommandUnit w report h = command_keeps w report h
-kept_by served.ReceiveUnit w report h = receive_keeps w h
+kept_by : (s : Option Unit) (w : World) (report : ℕ) → (turn_by s w report).outcome.answer.edge ≡ false → StatesKept w (turn_by s w report)
+kept_by None w report h = record { cu = refl; ru = refl }
+kept_by (Some unit.Command) w report h = command_keeps w report h
+kept_by (Some unit.Receive) w report h = receive_keeps w h
 
 -- a turn that reports no edge, and so raises no event, changes no unit's state
 pub quiet_turn : (w : World) (report : ℕ) → (turn_of w report).outcome.answer.edge ≡ false → StatesKept w (turn_of w report)

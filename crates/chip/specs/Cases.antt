@@ -8,7 +8,7 @@ use Rattle.scb.specs.Words.{bits_at, joined, acknowledged, any_of, event_bits, s
 use Rattle.hash.specs.Hash.{ones, shifted, step, bits_in, register, selected, hash}
 use Rattle.device.specs.Answers.{counts}
 use Rattle.device.specs.Limits.{holding_size, outgoing_size}
-use Rattle.device.specs.Numbers.{action_of, verdict_of, refusal_number, reason_number}
+use Rattle.device.specs.Numbers.{action_of, verdict_of, refusal_or_0, reason_or_0}
 use Rattle.device.specs.State.{fresh}
 use Rattle.device.specs.declared.Answer.{Answer}
 use Rattle.filter.specs.Match.{agree, matches}
@@ -103,10 +103,10 @@ same false b = not b
 
 abbrev pub answers : Answer → Said → Bool
 answers a s =
-    eqb (refusal_number a.number) s.number
+    eqb (refusal_or_0 a.refusal) s.number
     && eqb a.length s.length
     && same a.edge s.edge
-    && eqb (reason_number a.reason) s.reason
+    && eqb (reason_or_0 a.reason) s.reason
 
 abbrev pub holds : List Word → List ℕ → Bool
 holds [] m = true

@@ -1,10 +1,9 @@
 -- A run: turns in a row under one call, each as in 01, "Turns". It ends when as many are taken as the caller allows, or at the first turn that a
 -- host has to know of. Assumes nothing.
-use Rattle.std.specs.Prelude.{Bool, true, false, not, ◌||◌, ℕ, zero, suc, ◌+◌, eqb}
+use Rattle.std.specs.Prelude.{Bool, true, false, not, ◌||◌, ℕ, zero, suc, ◌+◌, eqb, Option, Some, None}
 use Rattle.device.specs.Answers.{answered}
 use Rattle.device.specs.declared.Answer.{Answer}
-use Rattle.chip.specs.declared.Served.{Served}
-use Rattle.chip.specs.declared.Served.TheVariants as served
+use Rattle.chip.specs.declared.Unit.{Unit}
 use Rattle.chip.specs.World.{World, Ran, afterwards}
 use Rattle.chip.specs.Turn.{served_of, turn_of}
 
@@ -15,10 +14,9 @@ abbrev pub tells : Answer → Bool
 tells a = not (eqb a.length 0) || a.edge
 
 -- or it had no work
-unfoldable pub stops : Served → Answer → Bool
-stops served.Neither a = true
-stops served.CommandUnit a = tells a
-stops served.ReceiveUnit a = tells a
+unfoldable pub stops : Option Unit → Answer → Bool
+stops None a = true
+stops (Some u) a = tells a
 
 abbrev pub stops_at : World → ℕ → Bool
 stops_at w report = stops (served_of w.device.units) (turn_of w report).outcome.answer

@@ -1,5 +1,5 @@
 -- A turn: 01, "Turns". Assumes nothing.
-use Rattle.std.specs.Prelude.{Bool, true, false, not, ◌&&◌, ◌||◌, List, [], ◌∷◌, ◌++◌, ℕ, eqb}
+use Rattle.std.specs.Prelude.{Bool, true, false, not, ◌&&◌, ◌||◌, List, [], ◌∷◌, ◌++◌, ℕ, eqb, Option, Some, None}
 use Rattle.memory.specs.Memory.{Write, apply}
 use Rattle.scb.specs.Words.{raise, any_of, cu_number, ru_number}
 use Rattle.scb.specs.declared.Events.{Events}
@@ -13,35 +13,35 @@ use Rattle.command.specs.Part as command
 use Rattle.command.specs.Service as command_service
 use Rattle.receive.specs.Part as receive
 use Rattle.receive.specs.Service as receive_service
-use Rattle.chip.specs.declared.Served.{Served}
-use Rattle.chip.specs.declared.Served.TheVariants as served
+use Rattle.chip.specs.declared.Unit.{Unit}
+use Rattle.chip.specs.declared.Unit.TheVariants as unit
 use Rattle.attention.specs.Status.{status_to}
 use Rattle.chip.specs.World.{World, Ran, writing}
 
 -- ---- which unit is served
 
 -- if both have work, the unit not served at the last working turn is served
-abbrev pub served_by : (cu_works ru_works rulast : Bool) → Served
-served_by false false rulast = served.Neither
-served_by true false rulast = served.CommandUnit
-served_by false true rulast = served.ReceiveUnit
-served_by true true true = served.CommandUnit
-served_by true true false = served.ReceiveUnit
+abbrev pub served_by : (cu_works ru_works rulast : Bool) → Option Unit
+served_by false false rulast = None
+served_by true false rulast = Some unit.Command
+served_by false true rulast = Some unit.Receive
+served_by true true true = Some unit.Command
+served_by true true false = Some unit.Receive
 
 -- RU has work while a frame is held, CU while Active
-abbrev pub served_of : Units → Served
+abbrev pub served_of : Units → Option Unit
 served_of u = served_by (cu_works u.cu) (ru_works u.ru) u.rulast
 
 -- the command unit is the one served; the receive unit is
-abbrev pub is_command : Served → Bool
-is_command served.Neither = false
-is_command served.CommandUnit = true
-is_command served.ReceiveUnit = false
+abbrev pub is_command : Option Unit → Bool
+is_command None = false
+is_command (Some unit.Command) = true
+is_command (Some unit.Receive) = false
 
-abbrev pub is_receive : Served → Bool
-is_receive served.Neither = false
-is_receive served.CommandUnit = false
-is_receive served.ReceiveUnit = true
+abbrev pub is_receive : Option Unit → Bool
+is_receive None = false
+is_receive (Some unit.Command) = false
+is_receive (Some unit.Receive) = true
 
 -- ---- what every working turn does with a service
 
@@ -95,10 +95,10 @@ receive_turn w =
 -- ---- a turn
 
 -- with no work a turn changes nothing
-abbrev pub turn_by : Served → World → ℕ → Ran
-turn_by served.Neither w report = writing w [] (outcome_of w.device (answered 0 false) [])
-turn_by served.CommandUnit w report = command_turn w report
-turn_by served.ReceiveUnit w report = receive_turn w
+abbrev pub turn_by : Option Unit → World → ℕ → Ran
+turn_by None w report = writing w [] (outcome_of w.device (answered 0 false) [])
+turn_by (Some unit.Command) w report = command_turn w report
+turn_by (Some unit.Receive) w report = receive_turn w
 
 unfoldable pub turn_of : World → ℕ → Ran
 turn_of w report = turn_by (served_of w.device.units) w report

@@ -3,10 +3,9 @@
 
 #![tactic(auto)]
 
-// The unit that a turn serves.
+// A unit that a turn may serve. With no work it serves neither.
 #[derive(Clone, Copy)]
-pub enum Served {
-    Neither,
-    CommandUnit,
-    ReceiveUnit,
+pub enum Unit {
+    Command,
+    Receive,
 }

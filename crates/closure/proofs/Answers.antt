@@ -3,9 +3,9 @@ use mathlib.Core.Path.{◌≡◌, refl, ap}
 use mathlib.Core.Bool.{Bool, true, false}
 use Prim.Native.Nat.{ℕ, ◌≤◌}
 use native.Mathlib.Omega.{arith}
+use Rattle.std.specs.Prelude.{None}
 use Rattle.device.specs.State.{cu_works, ru_works}
 use Rattle.device.specs.declared.Answer.{Answer}
-use Rattle.device.specs.declared.Refusal.TheVariants as refusal
 use Rattle.chip.specs.World.{World, reset_of}
 use Rattle.chip.specs.Attention.{attention_of}
 use Rattle.chip.specs.Arrival.{arrival_of}
@@ -31,12 +31,12 @@ turn_most true true true w report s = command_most w report s
 turn_most true true false w report s = omega arith
 
 -- number 0: refusals are not the chip's to give
-pub number_accepted : (c : Call) (w : World) → (ran c w).outcome.answer.number ≡ refusal.Accepted
+pub number_accepted : (c : Call) (w : World) → (ran c w).outcome.answer.refusal ≡ None
 unfolding reset_of attention_of arrival_of
 number_accepted reset w = refl
-number_accepted attention w = ap (λ (a : Answer). a.number) (attention_plain w.device w.memory)
+number_accepted attention w = ap (λ (a : Answer). a.refusal) (attention_plain w.device w.memory)
 number_accepted (arrive f v) w = refl
-number_accepted (turn report) w = ap (λ (a : Answer). a.number) (turn_plain w report)
+number_accepted (turn report) w = ap (λ (a : Answer). a.refusal) (turn_plain w report)
 
 -- no frame sent exceeds 2,048 bytes
 pub sent_most : (c : Call) (w : World) → Sound w → (ran c w).outcome.answer.length ≤ 2048

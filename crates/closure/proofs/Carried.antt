@@ -12,7 +12,7 @@ use Rattle.memory.proofs.Bytes.{Bytes}
 use Rattle.memory.proofs.Power.{size_allowed_lem}
 use Rattle.scb.specs.declared.RuState.TheVariants as rus
 use Rattle.device.specs.Limits.{record_size}
-use Rattle.device.specs.Numbers.{refusal_number}
+use Rattle.device.specs.Numbers.{refusal_number, refusal_or_0}
 use Rattle.device.specs.State.{ru_state, held_in, fresh}
 use Rattle.device.specs.declared.Device.{Device}
 use Rattle.device.specs.declared.Frame.{Frame}
@@ -151,7 +151,6 @@ accepted_again (turn report) a f l e =
 
 -- so the next call with that record is not refused with 4, whichever it is and whatever else is lent
 foreign_alone : (c : Call) (a : Areas) (d : Device) → Holds a.kept d → (r : Refusal) → 4 ≡ refusal_number r → Right c a r
-foreign_alone c a d h refusal.Accepted e = absurd (omega (arith, e))
 foreign_alone c a d h refusal.Memory e = absurd (omega (arith, e))
 foreign_alone c a d h refusal.Record e = absurd (omega (arith, e))
 foreign_alone c a d h refusal.Holding e = absurd (omega (arith, e))
@@ -223,7 +222,7 @@ answer_parts c a d l h e =
     let t = told_alone x (omega arith) in
     rw s
     (record {
-      number = told_number x ∙ ap refusal_number (number_accepted c (world_in d a));
+      number = told_number x ∙ ap refusal_or_0 (number_accepted c (world_in d a));
       length = t.sent;
       most = omega (arith, t.sent, m);
       edge = t.edged;

@@ -7,12 +7,13 @@ use native.Mathlib.Omega.{arith}
 use borrow.Author.Tests.{leb-false, ltb-false, lt-ltb}
 use lib.Dec.{leb, ltb}
 use lib.ListN.{length, drop}
+use Rattle.std.specs.Prelude.{Option, Some, None}
 use Rattle.memory.specs.Address.{place, offset_at, is_none, none}
 use Rattle.memory.specs.Memory.{Write, word_at, word_to, apply}
 use Rattle.memory.specs.declared.Offset.{Offset}
 use Rattle.memory.specs.declared.RealAddress.{RealAddress}
 use Rattle.memory.proofs.Bytes.{Bytes, AllBytes, all_append, apply_bytes, take_bytes_lem, drop_bytes, field_bound, digits_bytes}
-use Rattle.device.specs.Answers.{is_counter, counter_of, counts, is_stored, is_held}
+use Rattle.device.specs.Answers.{counter_of, counts, is_stored, is_held}
 use Rattle.device.specs.Header.{header, unbuffered}
 use Rattle.device.specs.Limits.{held_from}
 use Rattle.device.specs.State.{is_good}
@@ -44,13 +45,10 @@ or_right true b e = refl
 or_right false b e = e
 
 -- a counter's write is of bytes
-counts_bytes_by : (t : Bool) (w : Write) → Bytes w.bytes → AllBytes (cond t (w ∷ []) [])
-counts_bytes_by true w h = (h, tt)
-counts_bytes_by false w h = tt
-
-pub counts_bytes : (c : Counter) (base : RealAddress) (scb : Offset) (m : List ℕ) → AllBytes (counts c base scb m)
+pub counts_bytes : (c : Option Counter) (base : RealAddress) (scb : Offset) (m : List ℕ) → AllBytes (counts c base scb m)
 unfolding counts
-counts_bytes c base scb m = counts_bytes_by (is_counter c) _ (digits_bytes 2 _)
+counts_bytes None base scb m = tt
+counts_bytes (Some c) base scb m = (digits_bytes 2 _, tt)
 
 -- ---- an arrival
 
@@ -67,7 +65,7 @@ unfolding judged
 judged_form s f v = refl
 
 -- in Ready a frame is held if it is good, or bad and to be saved
-ready_good : (good saved : Bool) (c : Counter) (fd : Offset) (f : Frame) → is_good f ≡ good → f.savebad ≡ saved → FormWide f.form
+ready_good : (good saved : Bool) (c : Option Counter) (fd : Offset) (f : Frame) → is_good f ≡ good → f.savebad ≡ saved → FormWide f.form
     → header f.form.length ≤ f.length → f.length ≤ 2048
     → RuGood (ru.Ready fd) → RuGood (unit_by (is_held (in_ready good saved c)) (ru.Ready fd) f)
 ready_good true saved c fd f g s w p q h = ru_held fd f false (fd_ready fd h) (frame_true f w p q (or_left (is_good f) f.savebad g))

@@ -9,11 +9,12 @@ use native.Mathlib.Omega.{arith}
 use borrow.Author.Tests.{leb-true, le-leb, eqb-true, eqb-false, eq-eqb}
 use lib.Dec.{eqb}
 use lib.ListN.{length}
+use Rattle.std.specs.Prelude.{Option, Some, None}
 use Rattle.memory.specs.Size.{Allowed}
 use Rattle.memory.proofs.Bytes.{Bytes}
 use Rattle.memory.proofs.Power.{allowed, size_allowed_lem}
 use Rattle.device.specs.Limits.{holding_size, outgoing_size, record_size, longest}
-use Rattle.device.specs.Numbers.{refusal_number}
+use Rattle.device.specs.Numbers.{refusal_number, refusal_or_0}
 use Rattle.device.proofs.Laws.{one_refusal}
 use Rattle.device.specs.declared.Device.{Device}
 use Rattle.device.specs.declared.Refusal.{Refusal}
@@ -45,25 +46,25 @@ record Decides (right : Bool) (Right : Type 0) : Type 0 where
   whole : Right → right ≡ true
 
 module _ (right : Refusal → Bool) (Right : Refusal → Type 0) (decides : (r : Refusal) → Decides (right r) (Right r)) where
-  first_wrong_by : (x : Bool) (r : Refusal) (rs : List Refusal) → right r ≡ x → FirstWrong Right rs (refusal_number (first_wrong right rs))
-      → FirstWrong Right (r ∷ rs) (refusal_number (cond x (first_wrong right rs) r))
+  first_wrong_by : (x : Bool) (r : Refusal) (rs : List Refusal) → right r ≡ x → FirstWrong Right rs (refusal_or_0 (first_wrong right rs))
+      → FirstWrong Right (r ∷ rs) (refusal_or_0 (cond x (first_wrong right rs) (Some r)))
   first_wrong_by true r rs e more = inr ((decides r).sound e, more)
   first_wrong_by false r rs e more = inl ((λ h. true≢false (sym ((decides r).whole h) ∙ e)), refl)
 
   -- the test of the first that is wrong is the condition
-  first_wrong_lem : (rs : List Refusal) → FirstWrong Right rs (refusal_number (first_wrong right rs))
+  first_wrong_lem : (rs : List Refusal) → FirstWrong Right rs (refusal_or_0 (first_wrong right rs))
   first_wrong_lem [] = refl
   first_wrong_lem (r ∷ rs) = first_wrong_by (right r) r rs refl (first_wrong_lem rs)
 
-  only_by : (x : Bool) (r : Refusal) (rs : List Refusal) (n : ℕ) → right r ≡ x → (FirstWrong Right rs n → refusal_number (first_wrong right rs) ≡ n)
-      → FirstWrong Right (r ∷ rs) n → refusal_number (cond x (first_wrong right rs) r) ≡ n
+  only_by : (x : Bool) (r : Refusal) (rs : List Refusal) (n : ℕ) → right r ≡ x → (FirstWrong Right rs n → refusal_or_0 (first_wrong right rs) ≡ n)
+      → FirstWrong Right (r ∷ rs) n → refusal_or_0 (cond x (first_wrong right rs) (Some r)) ≡ n
   only_by true r rs n e more (inl (wrong, q)) = absurd (wrong ((decides r).sound e))
   only_by true r rs n e more (inr (h, l)) = more l
   only_by false r rs n e more (inl (wrong, q)) = sym q
   only_by false r rs n e more (inr (h, l)) = absurd (true≢false (sym ((decides r).whole h) ∙ e))
 
   -- and no other number has that
-  first_wrong_only : (rs : List Refusal) (n : ℕ) → FirstWrong Right rs n → refusal_number (first_wrong right rs) ≡ n
+  first_wrong_only : (rs : List Refusal) (n : ℕ) → FirstWrong Right rs n → refusal_or_0 (first_wrong right rs) ≡ n
   first_wrong_only [] n l = sym l
   first_wrong_only (r ∷ rs) n l = only_by (right r) r rs n refl (first_wrong_only rs n) l
 
@@ -97,7 +98,6 @@ decides_image r b is.Foreign e = record { sound = λ y. absurd (false≢true y);
 
 decides : (c : Call) (a : Areas) → Bytes a.kept → (r : Refusal)
     → Decides (is_right (lengths_of a (arriving c)) (is_image (decode_of a.kept)) r) (Right c a r)
-decides c a b refusal.Accepted = record { sound = λ e. tt; whole = λ h. refl }
 decides c a b refusal.Memory = record { sound = λ e. allowed (length a.memory) e; whole = λ h. size_allowed_lem (length a.memory) h }
 decides c a b refusal.Record = record { sound = λ e. eqb-true _ _ e; whole = λ h. eq-eqb (length a.kept) record_size h }
 decides c a b refusal.Holding = record { sound = λ e. eqb-true _ _ e; whole = λ h. eq-eqb (length a.holding) holding_size h }
@@ -107,12 +107,12 @@ decides c a b refusal.Foreign = decides_image a.kept b (decode_of a.kept) refl
 
 -- ---- the number that a call gives is that of the first row that is wrong
 
-kept_number : (x : Ran) → x.outcome.answer.number ≡ refusal.Accepted → number (on_bytes x).answer ≡ 0
-kept_number x e = told_number x.outcome.answer ∙ ap refusal_number e
+kept_number : (x : Ran) → x.outcome.answer.refusal ≡ None → number (on_bytes x).answer ≡ 0
+kept_number x e = told_number x.outcome.answer ∙ ap refusal_or_0 e
 
 -- every run of the chip gives number 0
 abbrev Accepts : (World → Ran) → Type 0
-Accepts run = (w : World) → (run w).outcome.answer.number ≡ refusal.Accepted
+Accepts run = (w : World) → (run w).outcome.answer.refusal ≡ None
 
 module _ (a : Areas) (f : List ℕ) (run : World → Ran) (n : Accepts run) where
   number_on : (x : Found) → is_image x ≡ true → number (called_on run a x).answer ≡ 0
@@ -120,24 +120,22 @@ module _ (a : Areas) (f : List ℕ) (run : World → Ran) (n : Accepts run) wher
       let w = world_of (device_at a.kept u) a.memory a.holding a.outgoing in kept_number (run w) (n w)
   number_on is.Foreign e = absurd (false≢true e)
 
-  number_by : (x : Bool) → eqb (refusal_number (refusal_of a f)) 0 ≡ x
-      → number (cond x (called_on run a (decode_of a.kept)) (refused (refusal_of a f) a)).answer ≡ refusal_number (refusal_of a f)
-  number_by true e =
-      let z = eqb-true (refusal_number (refusal_of a f)) 0 e in number_on (decode_of a.kept) (unrefused a f z).1 ∙ sym z
-  number_by false e = told_number (refused_answer (refusal_of a f))
+  number_by : (r : Option Refusal) → refusal_of a f ≡ r → number (called_by r run a).answer ≡ refusal_or_0 r
+  number_by None e = number_on (decode_of a.kept) (unrefused a f e).1
+  number_by (Some r) e = told_number (refused_answer r)
 
-  number_of : number (called_by (refusal_of a f) run a).answer ≡ refusal_number (refusal_of a f)
-  number_of = number_by (eqb (refusal_number (refusal_of a f)) 0) refl
+  number_of : number (called_by (refusal_of a f) run a).answer ≡ refusal_or_0 (refusal_of a f)
+  number_of = number_by (refusal_of a f) refl
 
-number_renewed : (a : Areas) (x : Bool) → number (renewed (cond x refusal.Accepted refusal.Record) a.kept).answer ≡ refusal_number (cond x refusal.Accepted refusal.Record)
+number_renewed : (a : Areas) (x : Bool) → number (renewed (cond x None (Some refusal.Record)) a.kept).answer ≡ refusal_or_0 (cond x None (Some refusal.Record))
 unfolding reset_of
 number_renewed a true = told_number reset_of.answer
 number_renewed a false = told_number (refused_answer refusal.Record)
 
-abbrev first_of : Call → Areas → Refusal
+abbrev first_of : Call → Areas → Option Refusal
 first_of c a = first_wrong (is_right (lengths_of a (arriving c)) (is_image (decode_of a.kept))) (rows_of c)
 
-given : (c : Call) (a : Areas) → number (called c a).answer ≡ refusal_number (first_of c a)
+given : (c : Call) (a : Areas) → number (called c a).answer ≡ refusal_or_0 (first_of c a)
 unfolding attention_call arrival_call turn_call reset_call refusal_of
 given reset a = number_renewed a (eqb (length a.kept) record_size)
 given attention a = number_of a [] attention_of (number_accepted attention)
@@ -173,9 +171,9 @@ module _ (c : Call) (a : Areas) (k : Bytes a.kept) where
       → Means
       (cond m
       (cond r
-      (cond h (cond o (cond l (cond i refusal.Accepted refusal.Foreign) refusal.Overlong) refusal.Outgoing) refusal.Holding)
-      refusal.Record)
-      refusal.Memory)
+      (cond h (cond o (cond l (cond i None (Some refusal.Foreign)) (Some refusal.Overlong)) (Some refusal.Outgoing)) (Some refusal.Holding))
+      (Some refusal.Record))
+      (Some refusal.Memory))
       c a
   means_by false r h o l i e1 e2 e3 e4 e5 e6 = no refusal.Memory e1
   means_by true false h o l i e1 e2 e3 e4 e5 e6 = (yes refusal.Memory e1, no refusal.Record e2)
@@ -205,15 +203,15 @@ module _ (c : Call) (a : Areas) (k : Bytes a.kept) where
   wrong_is : (r : Refusal) → (Right c a r → ⊥) → tested r ≡ false
   wrong_is r n = wrong_by (tested r) r refl n
 
-  one_row : (r : Refusal) → Means r c a → first_wrong tested rows ≡ r
-  one_row refusal.Memory n = rw (wrong_is refusal.Memory n)
-  one_row refusal.Record (m, n) = rw (right_is refusal.Memory m, wrong_is refusal.Record n)
-  one_row refusal.Holding (m, (r, n)) = rw (right_is refusal.Memory m, right_is refusal.Record r, wrong_is refusal.Holding n)
-  one_row refusal.Outgoing (m, (r, (h, n))) =
+  one_row : (r : Option Refusal) → Means r c a → first_wrong tested rows ≡ r
+  one_row (Some refusal.Memory) n = rw (wrong_is refusal.Memory n)
+  one_row (Some refusal.Record) (m, n) = rw (right_is refusal.Memory m, wrong_is refusal.Record n)
+  one_row (Some refusal.Holding) (m, (r, n)) = rw (right_is refusal.Memory m, right_is refusal.Record r, wrong_is refusal.Holding n)
+  one_row (Some refusal.Outgoing) (m, (r, (h, n))) =
       rw (right_is refusal.Memory m, right_is refusal.Record r, right_is refusal.Holding h, wrong_is refusal.Outgoing n)
-  one_row refusal.Overlong (m, (r, (h, (o, n)))) =
+  one_row (Some refusal.Overlong) (m, (r, (h, (o, n)))) =
       rw (right_is refusal.Memory m, right_is refusal.Record r, right_is refusal.Holding h, right_is refusal.Outgoing o, wrong_is refusal.Overlong n)
-  one_row refusal.Foreign (m, (r, (h, (o, (l, n))))) =
+  one_row (Some refusal.Foreign) (m, (r, (h, (o, (l, n))))) =
       rw (
         right_is refusal.Memory m,
         right_is refusal.Record r,
@@ -222,7 +220,7 @@ module _ (c : Call) (a : Areas) (k : Bytes a.kept) where
         right_is refusal.Overlong l,
         wrong_is refusal.Foreign n,
       )
-  one_row refusal.Accepted (m, (r, (h, (o, (l, i))))) =
+  one_row None (m, (r, (h, (o, (l, i))))) =
       rw (
         right_is refusal.Memory m,
         right_is refusal.Record r,
@@ -233,18 +231,18 @@ module _ (c : Call) (a : Areas) (k : Bytes a.kept) where
       )
 
   -- so a number is given exactly when its row's line says so
-  named : rows_of c ≡ rows → (r : Refusal)
-      → (number (called c a).answer ≡ refusal_number r → Means r c a) × (Means r c a → number (called c a).answer ≡ refusal_number r)
+  named : rows_of c ≡ rows → (r : Option Refusal)
+      → (number (called c a).answer ≡ refusal_or_0 r → Means r c a) × (Means r c a → number (called c a).answer ≡ refusal_or_0 r)
   named all r =
-      let g : number (called c a).answer ≡ refusal_number (first_wrong tested rows) = given c a ∙ ap (λ (rs : List Refusal). refusal_number (first_wrong tested rs)) all in (
-        (λ e. subst (λ (x : Refusal). Means x c a) (one_refusal (first_wrong tested rows) r (sym g ∙ e)) means),
-        (λ s. g ∙ ap refusal_number (one_row r s)),
+      let g : number (called c a).answer ≡ refusal_or_0 (first_wrong tested rows) = given c a ∙ ap (λ (rs : List Refusal). refusal_or_0 (first_wrong tested rs)) all in (
+        (λ e. subst (λ (x : Option Refusal). Means x c a) (one_refusal (first_wrong tested rows) r (sym g ∙ e)) means),
+        (λ s. g ∙ ap refusal_or_0 (one_row r s)),
       )
 
 pub written_out : (c : Call) (a : Areas) → Bytes a.kept
     → TakesAll c
-    ((r : Refusal)
-    → (number (called c a).answer ≡ refusal_number r → Means r c a) × (Means r c a → number (called c a).answer ≡ refusal_number r))
+    ((r : Option Refusal)
+    → (number (called c a).answer ≡ refusal_or_0 r → Means r c a) × (Means r c a → number (called c a).answer ≡ refusal_or_0 r))
 written_out reset a k = tt
 written_out attention a k = named attention a k refl
 written_out (arrive f v) a k = named (arrive f v) a k refl
@@ -252,8 +250,8 @@ written_out (turn report) a k = named (turn report) a k refl
 
 -- of reset
 reset_by : (a : Areas) (x : Bool) → eqb (length a.kept) record_size ≡ x
-    → ((length a.kept ≡ record_size) × (refusal_number (cond x refusal.Accepted refusal.Record) ≡ 0))
-    ⊎ ((length a.kept ≡ record_size → ⊥) × (refusal_number (cond x refusal.Accepted refusal.Record) ≡ 21))
+    → ((length a.kept ≡ record_size) × (refusal_or_0 (cond x None (Some refusal.Record)) ≡ 0))
+    ⊎ ((length a.kept ≡ record_size → ⊥) × (refusal_or_0 (cond x None (Some refusal.Record)) ≡ 21))
 reset_by a true e = inl (eqb-true _ _ e, refl)
 reset_by a false e = inr (eqb-false _ _ e, refl)
 
@@ -332,15 +330,11 @@ module _ (a : Areas) (run : World → Ran) (n : Accepts run) where
       absurd (not_zero (number (on_bytes (run w)).answer) (kept_number (run w) (n w)) h)
   on_untouched is.Foreign h = refused_untouched refusal.Foreign a
 
-  by_untouched : (x : Bool) (r : Refusal) → is_refused (cond x (called_on run a (decode_of a.kept)) (refused r a)) ≡ true
-      → Untouched a (cond x (called_on run a (decode_of a.kept)) (refused r a))
-  by_untouched true r h = on_untouched (decode_of a.kept) h
-  by_untouched false r h = refused_untouched r a
+  run_untouched : (r : Option Refusal) → is_refused (called_by r run a) ≡ true → Untouched a (called_by r run a)
+  run_untouched None h = on_untouched (decode_of a.kept) h
+  run_untouched (Some r) h = refused_untouched r a
 
-  run_untouched : (r : Refusal) → is_refused (called_by r run a) ≡ true → Untouched a (called_by r run a)
-  run_untouched r h = by_untouched (eqb (refusal_number r) 0) r h
-
-reset_untouched : (a : Areas) (x : Bool) → let r = cond x refusal.Accepted refusal.Record in
+reset_untouched : (a : Areas) (x : Bool) → let r = cond x None (Some refusal.Record) in
     is_refused (renewed_in a (renewed r a.kept)) ≡ true → Untouched a (renewed_in a (renewed r a.kept))
 unfolding reset_of
 reset_untouched a true h = absurd (not_zero (number (answer_number reset_of.answer)) (told_number reset_of.answer) h)

@@ -6,9 +6,9 @@ use mathlib.Core.List.{List, [], ◌∷◌, ◌++◌, append-nil, append_assoc}
 use Prim.Native.Nat.{ℕ, zero, suc, ◌+◌, ◌<◌}
 use native.Mathlib.Omega.{arith}
 use lib.Dec.{eqb}
+use Rattle.std.specs.Prelude.{Option, Some, None}
 use Rattle.scb.specs.Words.{bits_at, one}
 use Rattle.device.specs.Answers.{answered}
-use Rattle.device.specs.Numbers.{refusal_number}
 use Rattle.device.specs.declared.Refusal.{Refusal}
 use Rattle.image.specs.Image.{decode_of, device_at}
 use Rattle.image.specs.Found.{Found}
@@ -18,7 +18,7 @@ use Rattle.chip.specs.Turn.{turn_of}
 use Rattle.chip.specs.Run.{stops_at, Run, continued, run_of}
 use Rattle.chip.specs.Call.{ran}
 use Rattle.calls.specs.Answer.{turns_taken, with_turns, without_turns}
-use Rattle.calls.specs.Calls.{Areas, Called, refusal_of, refused_answer, refused, on_bytes, decoded_on, run_on_bytes, turn_call, run_call}
+use Rattle.calls.specs.Calls.{Areas, Called, refusal_of, refused_answer, refused, on_bytes, decoded_on, unless_refused, run_on_bytes, turn_call, run_call}
 use Rattle.calls.proofs.Answer.{told, told_alone}
 use Rattle.progress.specs.Trace.{run}
 use Rattle.traces.specs.Bytes.{called, sent_length, edge}
@@ -152,15 +152,14 @@ module _ (a : Areas) (report budget : ℕ) where
   idle_on (is.Units u) e = idle_run budget (world_of (device_at a.kept u) a.memory a.holding a.outgoing) report e
   idle_on is.Foreign e = refused_silent _ a
 
-  idle_by : (x : Bool) (r : Refusal)
-      → turns_taken (cond x (decoded_on (λ w. run_on_bytes (run_of budget w report)) a (decode_of a.kept)) (refused r a)).answer ≡ 0
-      → Silent (cond x (decoded_on (λ w. run_on_bytes (run_of budget w report)) a (decode_of a.kept)) (refused r a)).answer
-  idle_by true r e = idle_on (decode_of a.kept) e
-  idle_by false r e = refused_silent r a
+  idle_by : (r : Option Refusal) → turns_taken (unless_refused r (λ w. run_on_bytes (run_of budget w report)) a).answer ≡ 0
+      → Silent (unless_refused r (λ w. run_on_bytes (run_of budget w report)) a).answer
+  idle_by None e = idle_on (decode_of a.kept) e
+  idle_by (Some r) e = refused_silent r a
 
   idle_silent : taken_in a report budget ≡ 0 → Silent (run_call a report budget).answer
   unfolding run_call
-  idle_silent e = idle_by (eqb (refusal_number (refusal_of a [])) 0) (refusal_of a []) e
+  idle_silent e = idle_by (refusal_of a []) e
 
 -- turns in a row of which none but the last sends
 quiet_turn : (n : ℕ) (out : List ℕ) → ((n ≡ 0 → ⊥) → ⊥) → frame_of n out ≡ []

@@ -8,14 +8,14 @@ use Prim.Native.Nat.{ℕ, zero, suc, ◌≤◌, ◌<◌}
 use native.Mathlib.Omega.{arith}
 use borrow.Author.Tests.{eq-eqb}
 use lib.Dec.{eqb}
+use Rattle.std.specs.Prelude.{Option, Some, None}
 use Rattle.memory.specs.Size.{Allowed}
 use Rattle.memory.proofs.Bytes.{Bytes, bytes_nil}
 use Rattle.scb.specs.Words.{bits_at, one}
 use Rattle.device.specs.Answers.{answered}
-use Rattle.device.specs.Numbers.{refusal_number}
+use Rattle.device.specs.Numbers.{refusal_or_0}
 use Rattle.device.specs.declared.Device.{Device}
 use Rattle.device.specs.declared.Refusal.{Refusal}
-use Rattle.device.specs.declared.Refusal.TheVariants as refusal
 use Rattle.image.specs.Image.{image_of, decode_of, device_at}
 use Rattle.image.specs.Found.{Found}
 use Rattle.image.specs.Found as is
@@ -28,7 +28,7 @@ use Rattle.chip.proofs.Moves.{unchanged_stops}
 use Rattle.chip.proofs.Run.{Cause, going_quiet, sent_stops, edge_stops, stops_cause}
 use Rattle.chip.proofs.Run as cause
 use Rattle.calls.specs.Answer.{turns_taken, without_turns}
-use Rattle.calls.specs.Calls.{Areas, areas_of, Called, answer_number, refusal_of, refused, on_bytes, decoded_on, called_on, run_on_bytes, turn_call, run_call}
+use Rattle.calls.specs.Calls.{Areas, areas_of, Called, answer_number, refusal_of, on_bytes, decoded_on, unless_refused, called_on, called_by, run_on_bytes, turn_call, run_call}
 use Rattle.calls.proofs.Answer.{told, told_number, told_number_of_run}
 use Rattle.traces.specs.Bytes.{number, is_refused}
 use Rattle.traces.specs.Areas.{AreBytes, Holds, world_in, Shows}
@@ -43,13 +43,13 @@ use Rattle.closure.proofs.Carried.{not_refused, same_by, lent_kept, areas_as_lon
 
 -- ---- what a run answers on states
 
-number_by : (s : Bool) (r : Ran) (rest : Run) → r.outcome.answer.number ≡ refusal.Accepted → rest.answer.number ≡ refusal.Accepted
-    → (continued s r rest).answer.number ≡ refusal.Accepted
+number_by : (s : Bool) (r : Ran) (rest : Run) → r.outcome.answer.refusal ≡ None → rest.answer.refusal ≡ None
+    → (continued s r rest).answer.refusal ≡ None
 number_by true r rest a b = a
 number_by false r rest a b = b
 
 -- number 0
-run_number : (n : ℕ) (w : World) (report : ℕ) → (run_of n w report).answer.number ≡ refusal.Accepted
+run_number : (n : ℕ) (w : World) (report : ℕ) → (run_of n w report).answer.refusal ≡ None
 unfolding run_of
 run_number zero w report = refl
 run_number (suc n) w report =
@@ -71,11 +71,11 @@ run_length (suc n) w report s =
 
 -- ---- refusals: those of a turn
 
-kept_number : (r : Run) → r.answer.number ≡ refusal.Accepted → number (run_on_bytes r).answer ≡ 0
-kept_number r e = told_number_of_run r.answer r.taken ∙ ap refusal_number e
+kept_number : (r : Run) → r.answer.refusal ≡ None → number (run_on_bytes r).answer ≡ 0
+kept_number r e = told_number_of_run r.answer r.taken ∙ ap refusal_or_0 e
 
-turned_number : (r : Ran) → r.outcome.answer.number ≡ refusal.Accepted → number (on_bytes r).answer ≡ 0
-turned_number r e = told_number r.outcome.answer ∙ ap refusal_number e
+turned_number : (r : Ran) → r.outcome.answer.refusal ≡ None → number (on_bytes r).answer ≡ 0
+turned_number r e = told_number r.outcome.answer ∙ ap refusal_or_0 e
 
 -- a run and a turn, by what is refused and what is decoded
 data Like (x y : Called) : Type 0 where
@@ -89,15 +89,13 @@ module _ (a : Areas) (report budget : ℕ) where
       both_taken (kept_number (run_of budget w report) (run_number budget w report)) (turned_number (turn_of w report) (number_accepted (turn report) w))
   like_on is.Foreign = both_refused refl
 
-  like_by : (x : Bool) (r : Refusal)
-      → Like (cond x (decoded_on (λ w. run_on_bytes (run_of budget w report)) a (decode_of a.kept)) (refused r a))
-      (cond x (called_on (λ w. turn_of w report) a (decode_of a.kept)) (refused r a))
-  like_by true r = like_on (decode_of a.kept)
-  like_by false r = both_refused refl
+  like_by : (r : Option Refusal) → Like (unless_refused r (λ w. run_on_bytes (run_of budget w report)) a) (called_by r (λ w. turn_of w report) a)
+  like_by None = like_on (decode_of a.kept)
+  like_by (Some r) = both_refused refl
 
   like : Like (run_call a report budget) (turn_call a report)
   unfolding run_call turn_call
-  like = like_by (eqb (refusal_number (refusal_of a [])) 0) (refusal_of a [])
+  like = like_by (refusal_of a [])
 
 same_number : (x y : Called) → Like x y → number x.answer ≡ number y.answer
 same_number x y (both_refused e) = ap (λ (c : Called). number c.answer) e

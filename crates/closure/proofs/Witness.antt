@@ -2,14 +2,15 @@
 use mathlib.Core.Path.{◌≡◌, refl, sym, ◌∙◌}
 use mathlib.Core.Bool.{false}
 use mathlib.Core.List.{List}
-use mathlib.Core.Logic.{◌⊎◌, inl, inr}
+use mathlib.Core.Logic.{inl, inr}
 use Prim.Native.Nat.{ℕ}
 use native.Mathlib.Omega.{arith}
 use lib.ListN.{length, replicate, length-replicate}
+use Rattle.std.specs.Prelude.{Option, Some, None}
 use Rattle.memory.specs.Memory.{value}
 use Rattle.memory.specs.Size.{Allowed}
 use Rattle.memory.proofs.Bytes.{Bytes}
-use Rattle.device.specs.Numbers.{refusal_number}
+use Rattle.device.specs.Numbers.{refusal_or_0}
 use Rattle.device.specs.State.{fresh}
 use Rattle.device.specs.declared.Refusal.{Refusal}
 use Rattle.device.specs.declared.Refusal.TheVariants as refusal
@@ -21,12 +22,12 @@ use Rattle.image.proofs.Steps.{length_image, decode_full_lem, full_other}
 use Rattle.chip.specs.Call.{Call, attention, arrive}
 use Rattle.calls.specs.Calls.{Areas, areas_of}
 use Rattle.traces.specs.Areas.{AreBytes, Holds}
-use Rattle.closure.specs.Refusals.{Right, When, Seen}
+use Rattle.closure.specs.Refusals.{Right, Wrong, When, Seen}
 use Rattle.closure.proofs.Command.{replicate_bytes}
 use Rattle.closure.proofs.Refusals.{foreign_holds, table}
 
-seen : (r : Refusal) (c : Call) (a : Areas) → AreBytes a → (refusal_number r ≡ 0) ⊎ (Right c a r → ⊥) → When (refusal_number r) c a → Seen r
-seen r c a l x w = record { call = c; areas = a; lent = l; wrong = x; given = (table c a l.kept (refusal_number r)).1 w }
+seen : (r : Option Refusal) (c : Call) (a : Areas) → AreBytes a → Wrong r c a → When (refusal_or_0 r) c a → Seen r
+seen r c a l x w = record { call = c; areas = a; lent = l; wrong = x; given = (table c a l.kept (refusal_or_0 r)).1 w }
 
 zeros : ℕ → List ℕ
 zeros n = replicate n 0
@@ -75,32 +76,32 @@ unfolding fine
 fine_lent m h o = lent m h o (image_of fresh) (image_bytes fresh fresh_wide)
 
 -- a row that is the first to be wrong; memory, record, holding and outgoing area are right before it
-pub each_row : (r : Refusal) → Seen r
+pub each_row : (r : Option Refusal) → Seen r
 unfolding fine
-each_row refusal.Accepted =
-    seen refusal.Accepted attention (fine 8192 2048 2048) (fine_lent 8192 2048 2048) (inl refl)
+each_row None =
+    seen None attention (fine 8192 2048 2048) (fine_lent 8192 2048 2048) tt
     (inr (memory_right, inr (fresh_length, inr (area_right, inr (area_right, inr (omega arith, inr ((fresh, fresh_holds), refl)))))))
-each_row refusal.Memory =
+each_row (Some refusal.Memory) =
     let w : Right attention (fine 0 2048 2048) refusal.Memory → ⊥ = λ h. omega (arith, h.least, zeros_length 0) in
-    seen refusal.Memory attention (fine 0 2048 2048) (fine_lent 0 2048 2048) (inr w) (inl (w, refl))
-each_row refusal.Record =
+    seen (Some refusal.Memory) attention (fine 0 2048 2048) (fine_lent 0 2048 2048) w (inl (w, refl))
+each_row (Some refusal.Record) =
     let a = areas_of (zeros 8192) (zeros 2048) (zeros 2048) (zeros 0) in
     let w : Right attention a refusal.Record → ⊥ = λ h. omega (arith, h, zeros_length 0) in
-    seen refusal.Record attention a (lent 8192 2048 2048 (zeros 0) (zeros_bytes 0)) (inr w) (inr (memory_right, inl (w, refl)))
-each_row refusal.Holding =
+    seen (Some refusal.Record) attention a (lent 8192 2048 2048 (zeros 0) (zeros_bytes 0)) w (inr (memory_right, inl (w, refl)))
+each_row (Some refusal.Holding) =
     let w : Right attention (fine 8192 0 2048) refusal.Holding → ⊥ = λ h. omega (arith, h, zeros_length 0) in
-    seen refusal.Holding attention (fine 8192 0 2048) (fine_lent 8192 0 2048) (inr w) (inr (memory_right, inr (fresh_length, inl (w, refl))))
-each_row refusal.Outgoing =
+    seen (Some refusal.Holding) attention (fine 8192 0 2048) (fine_lent 8192 0 2048) w (inr (memory_right, inr (fresh_length, inl (w, refl))))
+each_row (Some refusal.Outgoing) =
     let w : Right attention (fine 8192 2048 0) refusal.Outgoing → ⊥ = λ h. omega (arith, h, zeros_length 0) in
-    seen refusal.Outgoing attention (fine 8192 2048 0) (fine_lent 8192 2048 0) (inr w)
+    seen (Some refusal.Outgoing) attention (fine 8192 2048 0) (fine_lent 8192 2048 0) w
     (inr (memory_right, inr (fresh_length, inr (area_right, inl (w, refl)))))
-each_row refusal.Overlong =
+each_row (Some refusal.Overlong) =
     let c = arrive (zeros 2049) 0 in
     let w : Right c (fine 8192 2048 2048) refusal.Overlong → ⊥ = λ h. omega (arith, h, zeros_length 2049) in
-    seen refusal.Overlong c (fine 8192 2048 2048) (fine_lent 8192 2048 2048) (inr w)
+    seen (Some refusal.Overlong) c (fine 8192 2048 2048) (fine_lent 8192 2048 2048) w
     (inr (memory_right, inr (fresh_length, inr (area_right, inr (area_right, inl (w, refl))))))
-each_row refusal.Foreign =
+each_row (Some refusal.Foreign) =
     let a = areas_of (zeros 8192) (zeros 2048) (zeros 2048) (zeros 256) in
     let w : Right attention a refusal.Foreign → ⊥ = foreign_holds (zeros 256) zeros_foreign in
-    seen refusal.Foreign attention a (lent 8192 2048 2048 (zeros 256) (zeros_bytes 256)) (inr w)
+    seen (Some refusal.Foreign) attention a (lent 8192 2048 2048 (zeros 256) (zeros_bytes 256)) w
     (inr (memory_right, inr (zeros_length 256, inr (area_right, inr (area_right, inr (omega arith, inl (w, refl)))))))

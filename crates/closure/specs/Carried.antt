@@ -1,7 +1,7 @@
 -- From states to the areas that are lent: what is shown of a call on a state holds of the call on the bytes. Assumes nothing.
 use Rattle.std.specs.Prelude.{◌≡◌, ℕ, ◌≤◌, length}
 use Rattle.scb.specs.Words.{one}
-use Rattle.device.specs.Numbers.{reason_number}
+use Rattle.device.specs.Numbers.{reason_or_0}
 use Rattle.device.specs.declared.Answer.{Answer}
 use Rattle.device.specs.declared.Device.{Device}
 use Rattle.image.specs.Image.{decode_of, device_at}
@@ -40,6 +40,6 @@ pub record Parts (answer : ℕ) (said : Answer) : Type 0 where
   pub length : sent_length answer ≡ said.length
   pub most : sent_length answer ≤ 2048
   pub edge : edge answer ≡ one said.edge
-  pub reason : reason answer ≡ reason_number said.reason
+  pub reason : reason answer ≡ reason_or_0 said.reason
   -- and nothing else
   pub whole : answer ≡ answer_number said

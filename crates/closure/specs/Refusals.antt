@@ -1,8 +1,8 @@
 -- Demand 1, the table of refusals: 01, "Calls, lent areas, refusals", as 02, Wish 3, mends it. Assumes nothing.
-use Rattle.std.specs.Prelude.{◌≡◌, List, [], ◌∷◌, ◌⊎◌, ℕ, length}
+use Rattle.std.specs.Prelude.{◌≡◌, List, [], ◌∷◌, ◌⊎◌, ℕ, length, Option, Some, None}
 use Rattle.memory.specs.Size.{Allowed}
 use Rattle.device.specs.Limits.{holding_size, outgoing_size, record_size}
-use Rattle.device.specs.Numbers.{refusal_number}
+use Rattle.device.specs.Numbers.{refusal_number, refusal_or_0}
 use Rattle.device.specs.declared.Device.{Device}
 use Rattle.device.specs.declared.Refusal.{Refusal}
 use Rattle.device.specs.declared.Refusal.TheVariants as refusal
@@ -21,7 +21,6 @@ FrameRight c = NotOverlong (arriving c)
 -- 1: N is allowed, a power of two from 8,192 to 16,777,216. 21, 22, 23: the device record has 256 bytes, the holding area 2,048, the outgoing area
 -- 2,048. 3: no arriving frame exceeds 2,048 bytes. 4: the record is the image of a state within docs/' ranges
 abbrev pub Right : Call → Areas → Refusal → Type 0
-Right c a refusal.Accepted = Unit {0}
 Right c a refusal.Memory = Allowed (length a.memory)
 Right c a refusal.Record = length a.kept ≡ record_size
 Right c a refusal.Holding = length a.holding ≡ holding_size
@@ -54,27 +53,32 @@ abbrev pub When : ℕ → Call → Areas → Type 0
 When n c a = FirstWrong (Right c a) (rows_of c) n
 
 -- the table written out, for a call that takes all four: what each of the seven numbers means
-abbrev pub Means : Refusal → Call → Areas → Type 0
-Means refusal.Memory c a = Right c a refusal.Memory → ⊥
-Means refusal.Record c a = Right c a refusal.Memory × (Right c a refusal.Record → ⊥)
-Means refusal.Holding c a = Right c a refusal.Memory × (Right c a refusal.Record × (Right c a refusal.Holding → ⊥))
-Means refusal.Outgoing c a = Right c a refusal.Memory × (Right c a refusal.Record × (Right c a refusal.Holding × (Right c a refusal.Outgoing → ⊥)))
-Means refusal.Overlong c a =
+abbrev pub Means : Option Refusal → Call → Areas → Type 0
+Means (Some refusal.Memory) c a = Right c a refusal.Memory → ⊥
+Means (Some refusal.Record) c a = Right c a refusal.Memory × (Right c a refusal.Record → ⊥)
+Means (Some refusal.Holding) c a = Right c a refusal.Memory × (Right c a refusal.Record × (Right c a refusal.Holding → ⊥))
+Means (Some refusal.Outgoing) c a = Right c a refusal.Memory × (Right c a refusal.Record × (Right c a refusal.Holding × (Right c a refusal.Outgoing → ⊥)))
+Means (Some refusal.Overlong) c a =
     Right c a refusal.Memory × (Right c a refusal.Record × (Right c a refusal.Holding × (Right c a refusal.Outgoing × (Right c a refusal.Overlong → ⊥))))
-Means refusal.Foreign c a =
+Means (Some refusal.Foreign) c a =
     Right c a refusal.Memory
     × (Right c a refusal.Record × (Right c a refusal.Holding × (Right c a refusal.Outgoing × (Right c a refusal.Overlong × (Right c a refusal.Foreign → ⊥)))))
-Means refusal.Accepted c a =
+Means None c a =
     Right c a refusal.Memory
     × (Right c a refusal.Record × (Right c a refusal.Holding × (Right c a refusal.Outgoing × (Right c a refusal.Overlong × Right c a refusal.Foreign))))
 
--- a call, and what is lent with it, at which a row is the first that is not right
-pub record Seen (r : Refusal) : Type 0 where
+-- a row is not right; of none nothing is said
+abbrev pub Wrong : Option Refusal → Call → Areas → Type 0
+Wrong None c a = Unit {0}
+Wrong (Some r) c a = Right c a r → ⊥
+
+-- a call, and what is lent with it, at which a row is the first that is not right, or none is
+pub record Seen (r : Option Refusal) : Type 0 where
   pub call : Call
   pub areas : Areas
   pub lent : AreBytes areas
-  pub wrong : (refusal_number r ≡ 0) ⊎ (Right call areas r → ⊥)
-  pub given : number (called call areas).answer ≡ refusal_number r
+  pub wrong : Wrong r call areas
+  pub given : number (called call areas).answer ≡ refusal_or_0 r
 
 -- ---- a refusal changes nothing lent; length 0, no interrupt edge, no reason
 

@@ -1,16 +1,14 @@
 -- Good frames, which counter an arrival adds to, and why a frame is dropped. No contract cites this file. Assumes nothing.
 use mathlib.Core.Path.{◌≡◌, ◌∙◌, refl, sym, ap}
 use mathlib.Core.Bool.{Bool, true, false, not, cond, ◌&&◌, ◌||◌, false≢true}
-use mathlib.Core.List.{List, [], ◌∷◌}
 use Prim.Native.Nat.{ℕ, ◌<◌, ◌≤◌}
 use native.Mathlib.Omega.{arith}
 use lib.Dec.{eqb, ltb}
-use Rattle.memory.specs.Address.{place}
-use Rattle.memory.specs.Memory.{count_to}
+use Rattle.std.specs.Prelude.{Option, Some, None}
 use Rattle.memory.specs.declared.Offset.{Offset}
 use Rattle.memory.specs.declared.RealAddress.{RealAddress}
-use Rattle.device.specs.Answers.{counter_of, counts, is_held, reason_of}
-use Rattle.device.specs.Numbers.{counter_place, verdict_of}
+use Rattle.device.specs.Answers.{counter_of, is_held, reason_of}
+use Rattle.device.specs.Numbers.{verdict_of}
 use Rattle.device.specs.State.{good_by, is_good}
 use Rattle.device.specs.declared.Counter.{Counter}
 use Rattle.device.specs.declared.Counter.TheVariants as counter
@@ -44,80 +42,80 @@ unfolding verdict_of
 good_is true k = refl
 good_is false k = sym (good_by_lem (eqb k 0) (eqb k 1))
 
--- the place of the counter that an arrival adds to, by the unit's tag
-ready_place : (g s : Bool) (c : Counter) → counter_place (counter_of (in_ready g s c)) ≡ counter_place c
-ready_place true s c = refl
-ready_place false true c = refl
-ready_place false false c = refl
+-- the counter that an arrival adds to, by the unit's tag
+ready_counter : (g s : Bool) (c : Option Counter) → counter_of (in_ready g s c) ≡ c
+ready_counter true s c = refl
+ready_counter false true c = refl
+ready_counter false false c = refl
 
-good_place : (short : Bool) (v : Verdict) → good_by short v ≡ true → counter_place (counter_by short v) ≡ 0
-good_place true v g = refl
-good_place false verdict.Good g = refl
-good_place false verdict.Crc g = absurd (false≢true g)
-good_place false verdict.Misaligned g = absurd (false≢true g)
+good_counter : (short : Bool) (v : Verdict) → good_by short v ≡ true → counter_by short v ≡ None
+good_counter true v g = refl
+good_counter false verdict.Good g = refl
+good_counter false verdict.Crc g = absurd (false≢true g)
+good_counter false verdict.Misaligned g = absurd (false≢true g)
 
 module _ (f : Frame) where
-  abbrev placed : Ru → ℕ
-  placed u = counter_place (counter_of (fate_in u f))
+  abbrev counted : Ru → Option Counter
+  counted u = counter_of (fate_in u f)
 
   -- a frame is held already
-  pub place_held : (u : Ru) → 3 < ru_tag u → 14 ≡ placed u
-  place_held ru.Idle l = absurd (omega (arith, l))
-  place_held ru.NoResources l = absurd (omega (arith, l))
-  place_held (ru.Suspended o) l = absurd (omega (arith, l))
-  place_held (ru.Ready o) l = absurd (omega (arith, l))
-  place_held (ru.Held o h p) l = refl
-  place_held (ru.Filling s w) l = refl
-  place_held (ru.Closing s o full) l = refl
-  place_held (ru.Lacking s) l = refl
+  pub counted_held : (u : Ru) → 3 < ru_tag u → Some counter.Overruns ≡ counted u
+  counted_held ru.Idle l = absurd (omega (arith, l))
+  counted_held ru.NoResources l = absurd (omega (arith, l))
+  counted_held (ru.Suspended o) l = absurd (omega (arith, l))
+  counted_held (ru.Ready o) l = absurd (omega (arith, l))
+  counted_held (ru.Held o h p) l = refl
+  counted_held (ru.Filling s w) l = refl
+  counted_held (ru.Closing s o full) l = refl
+  counted_held (ru.Lacking s) l = refl
 
   -- none is, and this one is good
-  pub place_lost : (u : Ru) → is_good f ≡ true → ru_tag u ≡ 2 → 12 ≡ placed u
-  place_lost ru.Idle g e = absurd (omega (arith, e))
-  place_lost ru.NoResources g e = rw g
-  place_lost (ru.Suspended o) g e = absurd (omega (arith, e))
-  place_lost (ru.Ready o) g e = absurd (omega (arith, e))
-  place_lost (ru.Held o h p) g e = absurd (omega (arith, e))
-  place_lost (ru.Filling s w) g e = absurd (omega (arith, e))
-  place_lost (ru.Closing s o full) g e = absurd (omega (arith, e))
-  place_lost (ru.Lacking s) g e = absurd (omega (arith, e))
+  pub counted_lost : (u : Ru) → is_good f ≡ true → ru_tag u ≡ 2 → Some counter.Resources ≡ counted u
+  counted_lost ru.Idle g e = absurd (omega (arith, e))
+  counted_lost ru.NoResources g e = rw g
+  counted_lost (ru.Suspended o) g e = absurd (omega (arith, e))
+  counted_lost (ru.Ready o) g e = absurd (omega (arith, e))
+  counted_lost (ru.Held o h p) g e = absurd (omega (arith, e))
+  counted_lost (ru.Filling s w) g e = absurd (omega (arith, e))
+  counted_lost (ru.Closing s o full) g e = absurd (omega (arith, e))
+  counted_lost (ru.Lacking s) g e = absurd (omega (arith, e))
 
-  pub place_good : (u : Ru) → ru_tag u ≤ 3 → is_good f ≡ true → (ru_tag u ≡ 2 → ⊥) → 0 ≡ placed u
-  place_good ru.Idle l g n = refl
-  place_good ru.NoResources l g n = absurd (n refl)
-  place_good (ru.Suspended o) l g n = refl
-  place_good (ru.Ready o) l g n = sym (ready_place (is_good f) f.savebad (counter_for f) ∙ good_place f.short f.verdict g)
-  place_good (ru.Held o h p) l g n = absurd (omega (arith, l))
-  place_good (ru.Filling s w) l g n = absurd (omega (arith, l))
-  place_good (ru.Closing s o full) l g n = absurd (omega (arith, l))
-  place_good (ru.Lacking s) l g n = absurd (omega (arith, l))
+  pub counted_good : (u : Ru) → ru_tag u ≤ 3 → is_good f ≡ true → (ru_tag u ≡ 2 → ⊥) → None ≡ counted u
+  counted_good ru.Idle l g n = refl
+  counted_good ru.NoResources l g n = absurd (n refl)
+  counted_good (ru.Suspended o) l g n = refl
+  counted_good (ru.Ready o) l g n = sym (ready_counter (is_good f) f.savebad (counter_for f) ∙ good_counter f.short f.verdict g)
+  counted_good (ru.Held o h p) l g n = absurd (omega (arith, l))
+  counted_good (ru.Filling s w) l g n = absurd (omega (arith, l))
+  counted_good (ru.Closing s o full) l g n = absurd (omega (arith, l))
+  counted_good (ru.Lacking s) l g n = absurd (omega (arith, l))
 
   -- or bad, and then it counts in Ready and No Resources
-  pub place_bad : (u : Ru) → ru_tag u ≤ 3 → is_good f ≡ false → 1 < ru_tag u → counter_place (counter_for f) ≡ placed u
-  place_bad ru.Idle l g m = absurd (omega (arith, m))
-  place_bad ru.NoResources l g m = rw g
-  place_bad (ru.Suspended o) l g m = absurd (omega (arith, m))
-  place_bad (ru.Ready o) l g m = sym (ready_place (is_good f) f.savebad (counter_for f))
-  place_bad (ru.Held o h p) l g m = absurd (omega (arith, l))
-  place_bad (ru.Filling s w) l g m = absurd (omega (arith, l))
-  place_bad (ru.Closing s o full) l g m = absurd (omega (arith, l))
-  place_bad (ru.Lacking s) l g m = absurd (omega (arith, l))
+  pub counted_bad : (u : Ru) → ru_tag u ≤ 3 → is_good f ≡ false → 1 < ru_tag u → counter_for f ≡ counted u
+  counted_bad ru.Idle l g m = absurd (omega (arith, m))
+  counted_bad ru.NoResources l g m = rw g
+  counted_bad (ru.Suspended o) l g m = absurd (omega (arith, m))
+  counted_bad (ru.Ready o) l g m = sym (ready_counter (is_good f) f.savebad (counter_for f))
+  counted_bad (ru.Held o h p) l g m = absurd (omega (arith, l))
+  counted_bad (ru.Filling s w) l g m = absurd (omega (arith, l))
+  counted_bad (ru.Closing s o full) l g m = absurd (omega (arith, l))
+  counted_bad (ru.Lacking s) l g m = absurd (omega (arith, l))
 
-  pub place_none : (u : Ru) → ru_tag u ≤ 1 → 0 ≡ placed u
-  place_none ru.Idle l = refl
-  place_none ru.NoResources l = absurd (omega (arith, l))
-  place_none (ru.Suspended o) l = refl
-  place_none (ru.Ready o) l = absurd (omega (arith, l))
-  place_none (ru.Held o h p) l = absurd (omega (arith, l))
-  place_none (ru.Filling s w) l = absurd (omega (arith, l))
-  place_none (ru.Closing s o full) l = absurd (omega (arith, l))
-  place_none (ru.Lacking s) l = absurd (omega (arith, l))
+  pub counted_none : (u : Ru) → ru_tag u ≤ 1 → None ≡ counted u
+  counted_none ru.Idle l = refl
+  counted_none ru.NoResources l = absurd (omega (arith, l))
+  counted_none (ru.Suspended o) l = refl
+  counted_none (ru.Ready o) l = absurd (omega (arith, l))
+  counted_none (ru.Held o h p) l = absurd (omega (arith, l))
+  counted_none (ru.Filling s w) l = absurd (omega (arith, l))
+  counted_none (ru.Closing s o full) l = absurd (omega (arith, l))
+  counted_none (ru.Lacking s) l = absurd (omega (arith, l))
 
-none_held : (g : Bool) (c : Counter) → is_held (in_no_resources g c) ≡ false
+none_held : (g : Bool) (c : Option Counter) → is_held (in_no_resources g c) ≡ false
 none_held true c = refl
 none_held false c = refl
 
-ready_held : (g s : Bool) (c : Counter) → is_held (in_ready g s c) ≡ (g || s)
+ready_held : (g s : Bool) (c : Option Counter) → is_held (in_ready g s c) ≡ (g || s)
 ready_held true s c = refl
 ready_held false true c = refl
 ready_held false false c = refl
@@ -133,19 +131,19 @@ held_is_lem (ru.Closing s o full) f = refl
 held_is_lem (ru.Lacking s) f = refl
 
 -- why a frame is dropped: not if it is held, or if a frame is held already; past Suspended good or bad, and else by the unit
-abbrev pub why_by : (held already judged good idle : Bool) → Reason
-why_by true already judged good idle = reason.NotDropped
-why_by false true judged good idle = reason.NotDropped
-why_by false false true true idle = reason.NotDropped
-why_by false false true false idle = reason.Bad
-why_by false false false good true = reason.UnitIdle
-why_by false false false good false = reason.UnitSuspended
+abbrev pub why_by : (held already judged good idle : Bool) → Option Reason
+why_by true already judged good idle = None
+why_by false true judged good idle = None
+why_by false false true true idle = None
+why_by false false true false idle = Some reason.Bad
+why_by false false false good true = Some reason.UnitIdle
+why_by false false false good false = Some reason.UnitSuspended
 
-unready_why : (g : Bool) (c : Counter) → reason_of (in_no_resources g c) ≡ why_by (is_held (in_no_resources g c)) false true g false
+unready_why : (g : Bool) (c : Option Counter) → reason_of (in_no_resources g c) ≡ why_by (is_held (in_no_resources g c)) false true g false
 unready_why true c = refl
 unready_why false c = refl
 
-ready_why : (g s : Bool) (c : Counter) → reason_of (in_ready g s c) ≡ why_by (is_held (in_ready g s c)) false true g false
+ready_why : (g s : Bool) (c : Option Counter) → reason_of (in_ready g s c) ≡ why_by (is_held (in_ready g s c)) false true g false
 ready_why true s c = refl
 ready_why false true c = refl
 ready_why false false c = refl
@@ -160,20 +158,3 @@ reason_is (ru.Held o h p) f = refl
 reason_is (ru.Filling s w) f = refl
 reason_is (ru.Closing s o full) f = refl
 reason_is (ru.Lacking s) f = refl
-
-module _ (base : RealAddress) (scb : Offset) (m : List ℕ) where
-  pub counts_none : (c : Counter) → 0 ≡ counter_place c → counts c base scb m ≡ []
-  unfolding counts
-  counts_none counter.Uncounted e = refl
-  counts_none counter.Crc e = absurd (omega arith)
-  counts_none counter.Alignment e = absurd (omega arith)
-  counts_none counter.Resources e = absurd (omega arith)
-  counts_none counter.Overruns e = absurd (omega arith)
-
-  pub counts_some : (c : Counter) (k : ℕ) → k ≡ counter_place c → (k ≡ 0 → ⊥) → counts c base scb m ≡ count_to m (place base scb k) ∷ []
-  unfolding counts
-  counts_some counter.Uncounted k e h = absurd (h e)
-  counts_some counter.Crc k e h = rw e
-  counts_some counter.Alignment k e h = rw e
-  counts_some counter.Resources k e h = rw e
-  counts_some counter.Overruns k e h = rw e

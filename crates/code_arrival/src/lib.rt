@@ -7,9 +7,8 @@
 ghost use Rattle.std.specs.Prelude.{◌≡◌, ◌<◌, ◌≤◌, ◌^◌, length};
 ghost use Rattle.memory.specs.Memory.{apply};
 ghost use Rattle.device.specs.Answers.{counter_of, counts, is_held, reason_of};
-ghost use Rattle.device.specs.Numbers.{counter_place, verdict_number, verdict_of};
+ghost use Rattle.device.specs.Numbers.{verdict_number, verdict_of};
 ghost use Rattle.device.specs.State.{is_good};
-ghost use Rattle.device.specs.declared.Counter.{Counter};
 ghost use Rattle.device.specs.declared.Ru.{Ru};
 ghost use Rattle.actions.specs.Setup.{Setup};
 ghost use Rattle.receive.specs.Arrival as arrivals;
@@ -17,7 +16,7 @@ ghost use Rattle.phases.specs.Phases.{ru_tag, frame_number};
 ghost use Rattle.packed.specs.SetUp.{setup_size, SetIs};
 ghost use Rattle.code_arrival.specs.Arrives.{frame_in, ArrivesAt};
 
-use device::Reason;
+use device::{Counter, Reason};
 use memory::{Offset, RealAddress};
 use packed::{Packed, ru, setup};
 
@@ -28,17 +27,6 @@ const FCS: u64 = 4;
 
 // Where in the holding area a held frame begins.
 const HELD_FROM: usize = 0;
-
-// Where the counters stand in the SCB; no counter has no place.
-const UNCOUNTED: u16 = 0;
-
-const CRCERRS: u16 = 8;
-
-const ALNERRS: u16 = 10;
-
-const RSCERRS: u16 = 12;
-
-const OVRNERRS: u16 = 14;
 
 // The length of a frame. One that exceeds 2,048 bytes is refused before anything here is asked.
 fn length_of(frame: &[u8]) -> u64
@@ -81,36 +69,36 @@ pub fn is_good(f: u64) -> bool
 }
 
 // Short: no counter whatever the verdict. Misaligned verdict: ALNERRS. CRC verdict: CRCERRS.
-fn counter_of(f: u64) -> u16
-    ensures { result ≡ counter_place (arrivals.counter_for (frame_in f)) }
+fn counter_of(f: u64) -> Option<Counter>
+    ensures { result ≡ arrivals.counter_for (frame_in f) }
 {
     if ru::short(f) {
-        return UNCOUNTED;
+        return None;
     }
     match ru::verdict(f) {
-        0 => UNCOUNTED,
-        1 => CRCERRS,
-        _ => ALNERRS,
+        0 => None,
+        1 => Some(Counter::Crc),
+        _ => Some(Counter::Alignment),
     }
 }
 
 // A frame already held: OVRNERRS. A good frame in No Resources: RSCERRS. A bad one in Ready or No Resources: as it was judged.
-fn counter_for(tag: u64, f: u64) -> u16
-    ensures { (u : Ru) → tag ≡ ru_tag u → result ≡ counter_place (counter_of (arrivals.fate_in u (frame_in f))) }
+fn counter_for(tag: u64, f: u64) -> Option<Counter>
+    ensures { (u : Ru) → tag ≡ ru_tag u → result ≡ counter_of (arrivals.fate_in u (frame_in f)) }
 {
     if ru::READY < tag {
-        return OVRNERRS;
+        return Some(Counter::Overruns);
     }
     if is_good(f) {
         if tag == ru::NO_RESOURCES {
-            return RSCERRS;
+            return Some(Counter::Resources);
         }
-        return UNCOUNTED;
+        return None;
     }
     if ru::SUSPENDED < tag {
         return counter_of(f);
     }
-    UNCOUNTED
+    None
 }
 
 // In Ready a good frame is held, a bad one with save-bad set.
@@ -122,41 +110,42 @@ fn is_held(tag: u64, f: u64) -> bool
 
 // Why a frame is dropped: it is not if it is held, or lost and counted since one is held or since there are no resources; then it is bad, or the
 // unit is Idle or Suspended.
-fn reason_for(tag: u64, f: u64) -> Reason
+fn reason_for(tag: u64, f: u64) -> Option<Reason>
     ensures { (u : Ru) → tag ≡ ru_tag u → result ≡ reason_of (arrivals.fate_in u (frame_in f)) }
 {
     if is_held(tag, f) {
-        return Reason::NotDropped;
+        return None;
     }
     if ru::READY < tag {
-        return Reason::NotDropped;
+        return None;
     }
     if ru::SUSPENDED < tag {
         if is_good(f) {
-            return Reason::NotDropped;
+            return None;
         }
-        return Reason::Bad;
+        return Some(Reason::Bad);
     }
     if tag == ru::IDLE {
-        return Reason::UnitIdle;
+        return Some(Reason::UnitIdle);
     }
-    Reason::UnitSuspended
+    Some(Reason::UnitSuspended)
 }
 
 // The counter is read from the SCB, increased modulo 65,536, written back. No counter: nothing is written.
-pub fn count(memory: &mut [u8], base: RealAddress, scb: Offset, counter: u16)
-    ensures { (c : Counter) → counter ≡ counter_place c → memory.new ≡ apply (counts c base scb memory.old) memory.old }
+#[tactic(auto, unfolding(device::specs::Answers::counts))]
+pub fn count(memory: &mut [u8], base: RealAddress, scb: Offset, counter: Option<Counter>)
+    ensures { memory.new ≡ apply (counts counter base scb memory.old) memory.old }
 {
-    if counter != UNCOUNTED {
-        memory::count_up(memory, memory::place(base, scb, counter));
+    if let Some(c) = counter {
+        memory::count_up(memory, memory::place(base, scb, c.place()));
     }
 }
 
-// What an arrival comes to, besides the lent bytes: the numbers afterwards, and why the frame was dropped.
+// What an arrival comes to, besides the lent bytes: the numbers afterwards, and why the frame was dropped, if it was.
 #[derive(Clone, Copy)]
 pub struct Arrived {
     pub packed: Packed,
-    pub reason: Reason,
+    pub reason: Option<Reason>,
 }
 
 // A frame that matched arrives. Only a held frame enters the holding area, and the unit holds it before the descriptor that was next.

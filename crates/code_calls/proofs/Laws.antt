@@ -5,8 +5,10 @@ use mathlib.Core.List.{List, ◌++◌}
 use Prim.Native.Nat.{ℕ, zero, suc, ◌+◌, ◌*◌, ◌^◌}
 use native.Mathlib.Omega.{arith}
 use lib.ListN.{length, take, drop, replicate, take-append-drop}
+use Rattle.std.specs.Prelude.{Option, Some, None}
+use Rattle.std.proofs.lemmas.Option.{none-some}
 use Rattle.memory.proofs.Bytes.{Bytes}
-use Rattle.device.specs.Numbers.{refusal_number, reason_number}
+use Rattle.device.specs.Numbers.{refusal_or_0, reason_or_0}
 use Rattle.device.specs.declared.Answer.{Answer}
 use Rattle.device.specs.declared.Device.{Device}
 use Rattle.device.specs.declared.Refusal.{Refusal}
@@ -28,25 +30,27 @@ use Rattle.code_chip.proofs.Loop.{holding_kept}
 use Rattle.chip.proofs.Answers.{Plain, run_plain}
 use Rattle.calls.specs.Calls.{Areas, is_image, lengths_of, refusal_of, refused, unless_refused, answer_number}
 use Rattle.calls.proofs.Rows.{LengthsRight, rows_right, by_length_lem}
-use Rattle.calls.proofs.Laws.{refuses, no_image, accepted}
+use Rattle.calls.proofs.Laws.{no_image, accepted}
 use Rattle.code_calls.specs.declared.Asked.{Asked}
 use Rattle.code_calls.specs.Inner.{frame_of, by_lengths, Finds, turns_told, turns, asked_on, asked_call}
 
 -- ---- a call, whatever is asked
 
--- r: what the lengths give
-module _ (x : Asked) (a : Areas) (r : Refusal) (e : r ≡ by_lengths (length a.memory) (length a.holding) (length a.outgoing) (length a.kept) (frame_of x)) where
-  -- refused for a length: the record was not looked at
-  pub asked_early : (refusal_number r ≡ 0 → ⊥) → asked_call x a ≡ refused r a
-  unfolding asked_call refusal_of
-  asked_early n =
-      let d : refusal_of a (frame_of x) ≡ r =
-      by_length_lem (lengths_of a (frame_of x)) (is_image (decode_of a.kept)) (λ z. n (ap refusal_number e ∙ z)) ∙ sym e in
-      ap (λ (y : Refusal). unless_refused y (asked_on x) a) d ∙ refuses r (asked_on x) a n
+abbrev by_lengths_of : Asked → Areas → Option Refusal
+by_lengths_of x a = by_lengths (length a.memory) (length a.holding) (length a.outgoing) (length a.kept) (frame_of x)
 
-  module _ (n : refusal_number r ≡ 0) where
+module _ (x : Asked) (a : Areas) where
+  -- refused for a length: the record was not looked at
+  pub asked_early : (r : Refusal) → by_lengths_of x a ≡ Some r → asked_call x a ≡ refused r a
+  unfolding asked_call refusal_of
+  asked_early r e =
+      let d : refusal_of a (frame_of x) ≡ Some r =
+      by_length_lem (lengths_of a (frame_of x)) (is_image (decode_of a.kept)) (λ z. none-some r (sym z ∙ e)) ∙ e in
+      ap (λ (y : Option Refusal). unless_refused y (asked_on x) a) d
+
+  module _ (n : by_lengths_of x a ≡ None) where
     asked_right : LengthsRight (lengths_of a (frame_of x))
-    asked_right = (rows_right (lengths_of a (frame_of x)) true (sym (ap refusal_number e) ∙ n)).0
+    asked_right = (rows_right (lengths_of a (frame_of x)) true n).0
 
     pub asked_foreign : decode_of a.kept ≡ is.Foreign → asked_call x a ≡ refused refusal.Foreign a
     unfolding asked_call
@@ -98,8 +102,8 @@ module _ (r : List ℕ) (k : Packed) (u : Units) (l : length r ≡ 256) (b : Byt
 told_packed : (a : Answer) → Plain a → told_of a * 65536 ≡ answer_number a
 unfolding answer_number
 told_packed a p =
-    let q = ap (λ (x : Answer). refusal_number x.number) p in
-    let y = ap (λ (x : Answer). reason_number x.reason) p in
+    let q = ap (λ (x : Answer). refusal_or_0 x.refusal) p in
+    let y = ap (λ (x : Answer). reason_or_0 x.reason) p in
     omega (arith, q, y)
 
 pub run_answer : (n : ℕ) (w : World) (report : ℕ) (counted : Bool) (told taken : ℕ) → told ≡ told_of (run_of n w report).answer → taken ≡ (run_of n w report).taken

@@ -1,5 +1,5 @@
 -- The shapes of the contracts of the code's inner functions: what is asked, and a call on a record that is an image. Assumes nothing.
-use Rattle.std.specs.Prelude.{◌≡◌, Bool, true, List, [], ℕ, cond, length}
+use Rattle.std.specs.Prelude.{◌≡◌, Bool, true, List, Option, [], ℕ, cond, length}
 use Rattle.device.specs.declared.Refusal.{Refusal}
 use Rattle.device.specs.declared.Units.{Units}
 use Rattle.packed.specs.Packed.{packed_of}
@@ -22,8 +22,8 @@ frame_of asked.Attention = []
 frame_of (asked.Arrival f v) = f.now
 frame_of (asked.Turns report budget counted) = []
 
--- why a call is refused by the lengths alone: the record is not looked at
-abbrev pub by_lengths : (memory holding outgoing kept : ℕ) (f : List ℕ) → Refusal
+-- why a call is refused by the lengths alone, if it is: the record is not looked at
+abbrev pub by_lengths : (memory holding outgoing kept : ℕ) (f : List ℕ) → Option Refusal
 by_lengths memory holding outgoing kept f =
     first_wrong (is_right (record { memory = memory; holding = holding; outgoing = outgoing; kept = kept; frame = length f }) true) rows
 

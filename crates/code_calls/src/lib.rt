@@ -3,9 +3,10 @@
 
 #![tactic(auto)]
 
-ghost use Rattle.std.specs.Prelude.{◌≡◌, List, ℕ, ◌+◌, ◌*◌, ◌^◌, length};
+ghost use Rattle.std.specs.Prelude.{◌≡◌, List, ℕ, ◌+◌, ◌*◌, ◌^◌, length, None};
+ghost use Rattle.std.specs.Result.{result_err};
 ghost use Rattle.device.specs.Limits.{record_size};
-ghost use Rattle.device.specs.declared.Refusal.TheVariants as refusals;
+ghost use Rattle.device.specs.Numbers as numbers;
 ghost use Rattle.device.specs.declared.Units.{Units};
 ghost use Rattle.calls.specs.Calls as calls;
 ghost use Rattle.code_calls.specs.Inner as inner;
@@ -46,6 +47,25 @@ impl Asked<'_> {
 
 // ---- the answer as one number
 
+// The number of a refusal, 0 if a call is not refused; of a reason, 0 if no frame was dropped.
+fn refusal_or_0(refusal: Option<Refusal>) -> u16
+    ensures { result ≡ numbers.refusal_or_0 refusal }
+{
+    match refusal {
+        None => 0,
+        Some(r) => u16::from(r),
+    }
+}
+
+fn reason_or_0(reason: Option<Reason>) -> u8
+    ensures { result ≡ numbers.reason_or_0 reason }
+{
+    match reason {
+        None => 0,
+        Some(r) => u8::from(r),
+    }
+}
+
 // What the length, the edge, the reason and the turns of a run count in an answer: bits 16, 32, 40 and 48.
 const LENGTH: u64 = 1 << 16;
 
@@ -60,10 +80,10 @@ const TURN: u64 = 1 << 48;
 fn answer_number(a: Answer) -> u64
     ensures { result ≡ calls.answer_number a }
 {
-    device::refusal_number(a.number) as u64
+    refusal_or_0(a.refusal) as u64
         + a.length as u64 * LENGTH
         + u64::from(a.edge) * EDGE
-        + device::reason_number(a.reason) as u64 * REASON
+        + reason_or_0(a.reason) as u64 * REASON
 }
 
 // The answer of a refused call: its number, length 0, no edge, no reason.
@@ -71,10 +91,10 @@ fn refuse(r: Refusal) -> u64
     ensures { result ≡ calls.answer_number (calls.refused_answer r) }
 {
     answer_number(Answer {
-        number: r,
+        refusal: Some(r),
         length: 0,
         edge: false,
-        reason: Reason::NotDropped,
+        reason: None,
     })
 }
 
@@ -86,39 +106,39 @@ const OUTGOING: usize = 2048;
 const LONGEST: usize = 2048;
 
 // Why a call is refused, if it is not for its record: the rows of the table in their order, by the lengths of what is lent and of the frame.
-fn refusal(
+fn right_lengths(
     memory: usize,
     holding: usize,
     outgoing: usize,
     kept: usize,
     asked: &Asked<'_>,
-) -> Refusal
-    ensures { result ≡ inner.by_lengths memory holding outgoing kept (inner.frame_of asked.now) }
+) -> Result<(), Refusal>
+    ensures { result_err result ≡ inner.by_lengths memory holding outgoing kept (inner.frame_of asked.now) }
 {
     if !memory::size_allowed(memory) {
-        return Refusal::Memory;
+        return Err(Refusal::Memory);
     }
     if kept != record::SIZE {
-        return Refusal::Record;
+        return Err(Refusal::Record);
     }
     if holding != HOLDING {
-        return Refusal::Holding;
+        return Err(Refusal::Holding);
     }
     if outgoing != OUTGOING {
-        return Refusal::Outgoing;
+        return Err(Refusal::Outgoing);
     }
     if asked.frame_length() > LONGEST {
-        return Refusal::Overlong;
+        return Err(Refusal::Overlong);
     }
-    Refusal::Accepted
+    Ok(())
 }
 
 // The answer of a call that is not refused and sends nothing: an edge, or why a frame was dropped.
-fn answer_of(edge: bool, reason: Reason) -> u64
-    ensures { result ≡ calls.answer_number (record { number = refusals.Accepted; length = 0; edge = edge; reason = reason }) }
+fn answer_of(edge: bool, reason: Option<Reason>) -> u64
+    ensures { result ≡ calls.answer_number (record { refusal = None; length = 0; edge = edge; reason = reason }) }
 {
     answer_number(Answer {
-        number: Refusal::Accepted,
+        refusal: None,
         length: 0,
         edge,
         reason,
@@ -139,7 +159,7 @@ fn attention_on(memory: &mut [u8], kept: &mut [u8], k: Packed) -> u64
     let a = code_attention::attend(memory, &mut kept[record::SETUP..record::SIZE], k);
     let after = a.packed;
     image::store(kept, after);
-    answer_of(a.edge, Reason::NotDropped)
+    answer_of(a.edge, None)
 }
 
 // A frame that arrives at the device of the numbers k.
@@ -214,7 +234,7 @@ pub fn reset(kept: &mut [u8]) -> u64
 {
     if kept.len() == record::SIZE {
         image::renew(kept);
-        return answer_of(false, Reason::NotDropped);
+        return answer_of(false, None);
     }
     refuse(Refusal::Record)
 }
@@ -230,14 +250,14 @@ pub fn call(
     ensures { calls.Calls (inner.asked_call asked.now (calls.areas_of memory.old holding.old outgoing.old kept.old))
         result memory.new holding.new outgoing.new kept.new }
 {
-    let r = refusal(
+    let lengths = right_lengths(
         memory.len(),
         holding.len(),
         outgoing.len(),
         kept.len(),
         asked,
     );
-    if device::refusal_number(r) != 0 {
+    if let Err(r) = lengths {
         return refuse(r);
     }
     let Decoded::Units(k) = image::decode(kept) else {

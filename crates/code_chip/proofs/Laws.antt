@@ -7,6 +7,7 @@ use native.Mathlib.Omega.{arith}
 use borrow.Author.Tests.{ne_eqb, le-leb, lt-leb}
 use lib.Dec.{eqb, leb, ltb}
 use lib.ListN.{length}
+use Rattle.std.specs.Prelude.{Option, Some, None}
 use Rattle.memory.specs.Memory.{apply}
 use Rattle.memory.specs.declared.Offset.{Offset}
 use Rattle.memory.specs.declared.RealAddress.{RealAddress}
@@ -37,8 +38,8 @@ use Rattle.attention.specs.Status.{status_to}
 use Rattle.chip.specs.World.{World, world_of}
 use Rattle.chip.specs.Arrival.{arrival, arrival_of}
 use Rattle.chip.specs.Turn.{command_units, receive_units, raised_in, status_by, concluded, command_turn, receive_turn, turn_by, turn_of, served_by, served_of, is_command}
-use Rattle.chip.specs.declared.Served.{Served}
-use Rattle.chip.specs.declared.Served.TheVariants as serves
+use Rattle.chip.specs.declared.Unit.{Unit}
+use Rattle.chip.specs.declared.Unit.TheVariants as unit
 use Rattle.chip.proofs.Status.{command_memory, receive_memory}
 use Rattle.chip.specs.Run.{tells, stops, stops_at}
 use Rattle.phases.specs.Fields.{odd}
@@ -184,12 +185,12 @@ module _ (d : Device) (m h out set : List ℕ) where
 -- ---- which unit is served
 
 module _ (w : World) (report : ℕ) (r : Turned) (m out set : List ℕ) where
-  by_command : (s : Served) → is_command s ≡ true → Tells (command_turn w report) r m out set
+  by_command : (s : Option Unit) → is_command s ≡ true → Tells (command_turn w report) r m out set
       → Does (turn_by s w report) (stops s (turn_by s w report).outcome.answer) r m out set
   unfolding stops
-  by_command serves.Neither e t = absurd (false≢true e)
-  by_command serves.CommandUnit e t = t
-  by_command serves.ReceiveUnit e t = absurd (false≢true e)
+  by_command None e t = absurd (false≢true e)
+  by_command (Some unit.Command) e t = t
+  by_command (Some unit.Receive) e t = absurd (false≢true e)
 
   by_receive : (a b c : Bool) → is_command (served_by a b c) ≡ false → b ≡ true → Tells (receive_turn w) r m out set
       → Does (turn_by (served_by a b c) w report) (stops (served_by a b c) (turn_by (served_by a b c) w report).outcome.answer) r m out set
@@ -278,12 +279,12 @@ module _ (d : Device) (f : List ℕ) (v : ℕ) (m h out set : List ℕ) where
   headed = header d.units.settings.form.length
 
   pub arrives_few : (k : Packed) → ltb (length f) headed ≡ true → DeviceIs d k set
-      → Arrives (arrival_of world f v) (record { packed = k; reason = reason.TooFew }) set m h
+      → Arrives (arrival_of world f v) (record { packed = k; reason = Some reason.TooFew }) set m h
   unfolding arrival_of arrival receive_arrival.arrival receive_arrival.fate_of counts
   arrives_few k a x = rw a (record { device = x; answer = refl; memory = refl; holding = refl })
 
   pub arrives_unmatched : (k : Packed) → ltb (length f) headed ≡ false → matched ≡ false → DeviceIs d k set
-      → Arrives (arrival_of world f v) (record { packed = k; reason = reason.NoMatch }) set m h
+      → Arrives (arrival_of world f v) (record { packed = k; reason = Some reason.NoMatch }) set m h
   unfolding arrival_of arrival receive_arrival.arrival receive_arrival.fate_of counts
   arrives_unmatched k a b x = rw (a, b) (record { device = x; answer = refl; memory = refl; holding = refl })
 

@@ -4,11 +4,12 @@ use mathlib.Core.Bool.{true, false}
 use mathlib.Core.List.{List}
 use Prim.Native.Nat.{ℕ, ◌+◌, ◌-◌, ◌≤◌, ◌<◌}
 use native.Mathlib.Omega.{arith}
+use Rattle.std.specs.Prelude.{Option, Some, None}
 use Rattle.device.specs.declared.Device.{Device}
 use Rattle.chip.specs.World.{World, world_of, afterwards}
 use Rattle.chip.specs.Turn.{command_turn, receive_turn, served_of, turn_by, turn_of}
-use Rattle.chip.specs.declared.Served.{Served}
-use Rattle.chip.specs.declared.Served.TheVariants as served
+use Rattle.chip.specs.declared.Unit.{Unit}
+use Rattle.chip.specs.declared.Unit.TheVariants as unit
 use Rattle.chip.specs.Run.{Run, stops_at, run_of, run_from}
 use Rattle.chip.proofs.Run.{from_start, from_none, from_stops, from_goes}
 use Rattle.packed.specs.declared.Packed.{Packed}
@@ -16,11 +17,11 @@ use Rattle.code_chip.specs.Does.{DeviceIs, Does, Runs}
 use Rattle.code_chip.specs.declared.Turned.{Turned}
 
 -- a turn only reads the holding area
-holding_by : (s : Served) (w : World) (report : ℕ) → (turn_by s w report).holding ≡ w.holding
+holding_by : (s : Option Unit) (w : World) (report : ℕ) → (turn_by s w report).holding ≡ w.holding
 unfolding command_turn receive_turn
-holding_by served.Neither w report = refl
-holding_by served.CommandUnit w report = refl
-holding_by served.ReceiveUnit w report = refl
+holding_by None w report = refl
+holding_by (Some unit.Command) w report = refl
+holding_by (Some unit.Receive) w report = refl
 
 pub holding_kept : (w : World) (report : ℕ) → (turn_of w report).holding ≡ w.holding
 unfolding turn_of

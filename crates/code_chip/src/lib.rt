@@ -192,7 +192,7 @@ pub fn arrival(
     if !form::has_header(f, frame.len() as u64) {
         return Arrived {
             packed: k,
-            reason: Reason::TooFew,
+            reason: Some(Reason::TooFew),
         };
     }
     if code_filter::matches(setup, form::length(f) as usize, frame) {
@@ -200,6 +200,6 @@ pub fn arrival(
     }
     Arrived {
         packed: k,
-        reason: Reason::NoMatch,
+        reason: Some(Reason::NoMatch),
     }
 }

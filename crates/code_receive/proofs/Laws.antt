@@ -8,14 +8,15 @@ use native.Mathlib.Nat.{div-one}
 use native.Mathlib.Omega.{arith}
 use borrow.Author.Tests.{leb-false, le-leb, lt-leb, eq-eqb, ne_eqb}
 use lib.Dec.{eqb, leb}
+use Rattle.std.specs.Prelude.{Some, None}
 use Rattle.memory.proofs.Laws.{apply_append, below_or_not}
 use Rattle.memory.specs.Memory.{Write, apply}
 use Rattle.memory.specs.declared.Offset.{Offset}
 use Rattle.memory.specs.declared.RealAddress.{RealAddress}
 use Rattle.scb.specs.Words.{one, bits_at, bit, joined, event_bits, no_events}
 use Rattle.device.specs.Answers.{counter_of, is_stored}
-use Rattle.device.specs.Numbers.{counter_place}
 use Rattle.device.specs.State.{good_by, is_good}
+use Rattle.device.specs.declared.Counter.TheVariants as counter
 use Rattle.device.specs.declared.Fate.{Fate}
 use Rattle.device.specs.declared.Frame.{Frame}
 use Rattle.device.specs.declared.Ru.{Ru}
@@ -142,7 +143,7 @@ stored_is true true false = refl
 stored_is true false true = refl
 stored_is true false false = refl
 
-pub lost_is : (lacking saved good : Bool) → counter_place (counter_of (fate_by lacking saved good)) ≡ cond (lacking && good) 12 0
+pub lost_is : (lacking saved good : Bool) → counter_of (fate_by lacking saved good) ≡ cond (lacking && good) (Some counter.Resources) None
 lost_is false saved good = refl
 lost_is true true true = refl
 lost_is true true false = refl

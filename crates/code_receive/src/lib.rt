@@ -8,7 +8,7 @@ ghost use Rattle.memory.specs.Address.{is_none, place};
 ghost use Rattle.memory.specs.Memory.{apply};
 ghost use Rattle.device.specs.Answers.{counter_of, is_stored};
 ghost use Rattle.device.specs.Header as rule;
-ghost use Rattle.device.specs.Numbers.{counter_place, verdict_of};
+ghost use Rattle.device.specs.Numbers.{verdict_of};
 ghost use Rattle.device.specs.declared.Fate.{Fate};
 ghost use Rattle.device.specs.declared.Ru.{Ru};
 ghost use Rattle.receive.specs.Part.{first_at};
@@ -21,6 +21,7 @@ ghost use Rattle.code_arrival.specs.Arrives.{frame_in};
 ghost use Rattle.code_receive.specs.Receives as receives;
 ghost use Rattle.code_receive.specs.Receives.{part_by, Quietly, Serves};
 
+use device::Counter;
 use memory::{Offset, RealAddress};
 use packed::{form, ru};
 
@@ -40,11 +41,6 @@ const RNR: u64 = 1;
 
 // Where in the holding area a held frame begins.
 const HELD_FROM: usize = 0;
-
-// Where the counter stands in the SCB; no counter has no place.
-const UNCOUNTED: u16 = 0;
-
-const RSCERRS: u16 = 12;
 
 // The frame descriptor: +0 status, +2 EL and S, +4 link, +6 first buffer descriptor, +8 the header.
 const STATUS: u16 = 0;
@@ -310,13 +306,13 @@ fn describe(
 }
 
 // Out of buffers and otherwise good: RSCERRS.
-fn lost(lacking: bool, n: u64) -> u16
-    ensures { result ≡ counter_place (counter_of (ends.fate_of lacking (frame_in n))) }
+fn lost(lacking: bool, n: u64) -> Option<Counter>
+    ensures { result ≡ counter_of (ends.fate_of lacking (frame_in n)) }
 {
     if lacking & code_arrival::is_good(n) {
-        return RSCERRS;
+        return Some(Counter::Resources);
     }
-    UNCOUNTED
+    None
 }
 
 // The held frame's fate is settled: its descriptor is written, then its counter, if it has one, goes up. The answer is whether the frame is

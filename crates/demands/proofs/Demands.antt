@@ -7,6 +7,7 @@ use mathlib.Core.Logic.{◌⊎◌}
 use Prim.Native.Nat.{ℕ, ◌+◌, ◌-◌, ◌*◌, ◌%◌, ◌^◌, ◌≤◌, ◌<◌}
 use lib.Dec.{T, eqb}
 use lib.ListN.{length, take, drop, replicate}
+use Rattle.std.specs.Prelude.{Option, Some, None}
 use Rattle.memory.specs.Address.{place, none}
 use Rattle.memory.specs.Memory.{bytes_at, put_bytes, digits, field_at, word_at, word_to}
 use Rattle.memory.specs.declared.Offset.{Offset}
@@ -24,7 +25,7 @@ use Rattle.hash.proofs.Shown as folded
 use Rattle.device.specs.Answers.{reason_of}
 use Rattle.device.specs.Header.{destination_in, source_in, type_in, header, unbuffered}
 use Rattle.device.specs.Limits.{type_length, record_size, outgoing_size}
-use Rattle.device.specs.Numbers.{refusal_number, reason_number}
+use Rattle.device.specs.Numbers.{refusal_number, refusal_or_0, reason_or_0}
 use Rattle.device.specs.State.{ru_state, is_holding, held_in, is_good, fresh_form}
 use Rattle.device.specs.declared.Action.TheVariants as action
 use Rattle.device.specs.declared.Begun.{Begun}
@@ -36,7 +37,6 @@ use Rattle.device.specs.declared.Fate.TheVariants as fate
 use Rattle.device.specs.declared.Form.{Form}
 use Rattle.device.specs.declared.Frame.{Frame}
 use Rattle.device.specs.declared.Reason.{Reason}
-use Rattle.device.specs.declared.Reason.TheVariants as reason
 use Rattle.device.specs.declared.Refusal.{Refusal}
 use Rattle.device.specs.declared.Ru.TheVariants as ru
 use Rattle.device.specs.declared.Settings.{Settings}
@@ -171,8 +171,8 @@ refused_by_the_table = refusals.table
 -- means, both ways, of a call that takes all four; and of reset, which gives 21 or none
 pub each_number_exactly_when : (c : Call) (a : Areas) → Bytes a.kept
     → TakesAll c
-    ((r : Refusal)
-    → (number (called c a).answer ≡ refusal_number r → Means r c a) × (Means r c a → number (called c a).answer ≡ refusal_number r))
+    ((r : Option Refusal)
+    → (number (called c a).answer ≡ refusal_or_0 r → Means r c a) × (Means r c a → number (called c a).answer ≡ refusal_or_0 r))
 each_number_exactly_when = refusals.written_out
 
 pub a_reset_gives_21_or_none : (a : Areas)
@@ -184,11 +184,11 @@ a_reset_gives_21_or_none = refusals.reset_numbers
 pub the_order_of_refusals : (map refusal_number rows ≡ 1 ∷ 21 ∷ 22 ∷ 23 ∷ 3 ∷ 4 ∷ []) × (map refusal_number reset_rows ≡ 21 ∷ [])
 the_order_of_refusals = tabled.rows_in_order
 
-pub a_number_names_one_row : (x y : Refusal) → refusal_number x ≡ refusal_number y → x ≡ y
+pub a_number_names_one_row : (x y : Option Refusal) → refusal_or_0 x ≡ refusal_or_0 y → x ≡ y
 a_number_names_one_row = numbers.one_refusal
 
 -- and every row of it is given at some call
-pub every_row_is_given : (r : Refusal) → Seen r
+pub every_row_is_given : (r : Option Refusal) → Seen r
 every_row_is_given = rows_seen.each_row
 
 -- "and a refused call changes no lent byte", with length 0, no edge and no reason
@@ -316,12 +316,12 @@ the_faster_fold_is_the_same = faster_is_hash
 -- "A good frame addressed to us, arriving while the receive unit is Ready, is held to be stored"
 pub a_good_frame_is_held : (w : World) (f : List ℕ) (v : ℕ) (fd : Offset) → arrival.RightLengths w f → arrival.Ours w f → arrival.Good w f v
     → arrival.unit_of w ≡ ru.Ready fd
-    → arrival.IsHeld w f fd (arrival.judged_as w f verdict.Good false) counter.Uncounted (arrival_of w f v)
+    → arrival.IsHeld w f fd (arrival.judged_as w f verdict.Good false) None (arrival_of w f v)
 a_good_frame_is_held = arrivals.good_ready
 
 -- "or adds one to exactly one counter", one being held: memory is as it was but for OVRNERRS, one more, "wrapping after 65,535"
 pub or_is_counted : (w : World) (f : List ℕ) (v : ℕ) → arrival.RightLengths w f → arrival.Ours w f → is_holding (arrival.unit_of w) ≡ true
-    → arrival.NotHeld w fate.Overrun reason.NotDropped counter.Overruns (arrival_of w f v)
+    → arrival.NotHeld w fate.Overrun None (Some counter.Overruns) (arrival_of w f v)
 or_is_counted = arrivals.overrun
 
 -- the same exactness for every other arrival
@@ -335,7 +335,7 @@ every_arrival_on_bytes = arrived.arrived_on
 
 -- 02, Wish 3: "An arrival that is dropped also says why .. Each reason is given exactly when document 01's order reaches it": both ways, at every arrival
 -- that is not refused, a frame that is held or lost by OVRNERRS or RSCERRS among them, which has no reason
-pub why_a_frame_is_dropped : (w : World) (f : List ℕ) (v : ℕ) → arrival.RightLengths w f → (why : Reason)
+pub why_a_frame_is_dropped : (w : World) (f : List ℕ) (v : ℕ) → arrival.RightLengths w f → (why : Option Reason)
     → (why_of w f v ≡ why → Reached why w f v) × (Reached why w f v → why_of w f v ≡ why)
 why_a_frame_is_dropped = reasons.exactly
 
@@ -345,14 +345,14 @@ the_reason_is_that_of_the_fate = reasons.by_the_fate
 
 -- on bytes: in bits 40 to 47 of the answer, by its number; the number is one of the reasons', and names it
 pub why_a_frame_is_dropped_on_bytes : (a : Areas) (d : Device) (f : List ℕ) (v : ℕ) → AreBytes a → Holds a.kept d
-    → is_refused (called (arrive f v) a) ≡ false → (why : Reason)
-    → (reason_in (called (arrive f v) a).answer ≡ reason_number why → Reached why (world_in d a) f v)
-    × (Reached why (world_in d a) f v → reason_in (called (arrive f v) a).answer ≡ reason_number why)
+    → is_refused (called (arrive f v) a) ≡ false → (why : Option Reason)
+    → (reason_in (called (arrive f v) a).answer ≡ reason_or_0 why → Reached why (world_in d a) f v)
+    × (Reached why (world_in d a) f v → reason_in (called (arrive f v) a).answer ≡ reason_or_0 why)
 why_a_frame_is_dropped_on_bytes = reasons.exactly_on_bytes
 
 pub every_arrival_has_its_reason : (a : Areas) (d : Device) (f : List ℕ) (v : ℕ) → AreBytes a → Holds a.kept d
     → is_refused (called (arrive f v) a) ≡ false
-    → (why : Reason) × ((reason_in (called (arrive f v) a).answer ≡ reason_number why) × Reached why (world_in d a) f v)
+    → (why : Option Reason) × ((reason_in (called (arrive f v) a).answer ≡ reason_or_0 why) × Reached why (world_in d a) f v)
 every_arrival_has_its_reason = reasons.some_reason
 
 -- every part of it, at every call that is not refused: number 0, and length, edge and reason as the call on the state has them; nothing else is set
@@ -360,7 +360,7 @@ pub the_parts_of_an_answer : (c : Call) (a : Areas) (d : Device) → AreBytes a 
     → Parts (called c a).answer (ran c (world_in d a)).outcome.answer
 the_parts_of_an_answer = carried.answer_parts
 
-pub a_number_names_one_reason : (x y : Reason) → reason_number x ≡ reason_number y → x ≡ y
+pub a_number_names_one_reason : (x y : Option Reason) → reason_or_0 x ≡ reason_or_0 y → x ≡ y
 a_number_names_one_reason = numbers.one_reason
 
 -- no other call's answer has one, refused or not, nor that of a run; a refused arrival's has none either (`a_refusal_changes_nothing`)
@@ -371,7 +371,7 @@ pub no_reason_of_a_run : (a : Areas) (report budget : ℕ) → AreBytes a → re
 no_reason_of_a_run = reasons.no_reason_of_a_run
 
 -- and each is given at some arrival
-pub every_reason_is_given : (why : Reason) → Told why
+pub every_reason_is_given : (why : Option Reason) → Told why
 every_reason_is_given = reasons_run.each_reason
 
 -- a held good frame stays held, is stored, or is counted, "both, if kept with too few buffers", or is lost by an abort or a reset. While it stays held
@@ -433,7 +433,7 @@ its_data_is_stored = stored.delivered
 
 -- and from the arrival on, of the very bytes that arrived: the data is what they have behind the header, with location 1 all of them, and the header
 -- bytes that the end writes are their first; by the length and location at their arrival, whatever Configure has said since
-pub the_bytes_that_arrived_are_stored : (w : World) (bs : List ℕ) (v : ℕ) (c : Counter) (es : List Event) (report : ℕ) → arrival.RightLengths w bs
+pub the_bytes_that_arrived_are_stored : (w : World) (bs : List ℕ) (v : ℕ) (c : Option Counter) (es : List Event) (report : ℕ) → arrival.RightLengths w bs
     → in_range w.device ≡ true → (arrival_of w bs v).outcome.fates ≡ fate.Held c ∷ []
     → AllMay Staying step es (step (call (arrive bs v)) w) → ends (turn report) (run step es (step (call (arrive bs v)) w)) ≡ true
     → ArrivedDelivered bs es (step (call (arrive bs v)) w) report
@@ -446,7 +446,7 @@ pub its_data_is_stored_on_bytes : (a b : Areas) (w : World) (fd : Offset) (f : F
     → DeliveredOnBytes f (data_of f a.holding) ls b w report
 its_data_is_stored_on_bytes = stored.delivered_on_bytes
 
-pub the_bytes_that_arrived_are_stored_on_bytes : (a b : Areas) (d : Device) (bs : List ℕ) (v : ℕ) (c : Counter) (ls : List Lending) (report : ℕ)
+pub the_bytes_that_arrived_are_stored_on_bytes : (a b : Areas) (d : Device) (bs : List ℕ) (v : ℕ) (c : Option Counter) (ls : List Lending) (report : ℕ)
     → AreBytes a → Holds a.kept d → Bytes bs → is_refused (called (arrive bs v) a) ≡ false
     → (arrival_of (world_in d a) bs v).outcome.fates ≡ fate.Held c ∷ []
     → AllFair Staying ls (called (arrive bs v) a).areas → EndLent b report (run left ls (called (arrive bs v) a).areas)

@@ -4,7 +4,8 @@ use mathlib.Core.Bool.{true, false, cond}
 use mathlib.Core.List.{List, [], ◌∷◌, nil≢cons, cons≢nil}
 use Prim.Native.Nat.{ℕ}
 use lib.Dec.{eqb}
-use Rattle.device.specs.Numbers.{action_number, action_of, verdict_number, verdict_of, refusal_number, reason_number}
+use Rattle.std.specs.Prelude.{Option, Some, None}
+use Rattle.device.specs.Numbers.{action_number, action_of, verdict_number, verdict_of, refusal_or_0, reason_or_0}
 use Rattle.device.specs.State.{ru_state, is_ready, is_holding, held_in}
 use Rattle.device.specs.Change.{with_settings}
 use Rattle.device.specs.declared.Action.{Action}
@@ -38,46 +39,46 @@ verdict_back verdict.Crc = refl
 verdict_back verdict.Misaligned = refl
 
 -- 02, Wish 3: a number names one refusal, and one reason
-refusal_at : ℕ → Refusal
+refusal_at : ℕ → Option Refusal
 refusal_at n =
-    cond (eqb n 0) refusal.Accepted
-    (cond (eqb n 1) refusal.Memory
-    (cond (eqb n 21) refusal.Record
-    (cond (eqb n 22) refusal.Holding
-    (cond (eqb n 23) refusal.Outgoing
-    (cond (eqb n 3) refusal.Overlong refusal.Foreign)))))
+    cond (eqb n 0) None
+    (cond (eqb n 1) (Some refusal.Memory)
+    (cond (eqb n 21) (Some refusal.Record)
+    (cond (eqb n 22) (Some refusal.Holding)
+    (cond (eqb n 23) (Some refusal.Outgoing)
+    (cond (eqb n 3) (Some refusal.Overlong) (Some refusal.Foreign))))))
 
-refusal_back : (r : Refusal) → refusal_at (refusal_number r) ≡ r
+refusal_back : (r : Option Refusal) → refusal_at (refusal_or_0 r) ≡ r
 unfolding refusal_at
-refusal_back refusal.Accepted = refl
-refusal_back refusal.Memory = refl
-refusal_back refusal.Record = refl
-refusal_back refusal.Holding = refl
-refusal_back refusal.Outgoing = refl
-refusal_back refusal.Overlong = refl
-refusal_back refusal.Foreign = refl
+refusal_back None = refl
+refusal_back (Some refusal.Memory) = refl
+refusal_back (Some refusal.Record) = refl
+refusal_back (Some refusal.Holding) = refl
+refusal_back (Some refusal.Outgoing) = refl
+refusal_back (Some refusal.Overlong) = refl
+refusal_back (Some refusal.Foreign) = refl
 
-pub one_refusal : (x y : Refusal) → refusal_number x ≡ refusal_number y → x ≡ y
+pub one_refusal : (x y : Option Refusal) → refusal_or_0 x ≡ refusal_or_0 y → x ≡ y
 one_refusal x y e = sym (refusal_back x) ∙ ap refusal_at e ∙ refusal_back y
 
-reason_at : ℕ → Reason
+reason_at : ℕ → Option Reason
 reason_at n =
-    cond (eqb n 0) reason.NotDropped
-    (cond (eqb n 1) reason.TooFew
-    (cond (eqb n 2) reason.NoMatch
-    (cond (eqb n 3) reason.UnitIdle
-    (cond (eqb n 4) reason.UnitSuspended reason.Bad))))
+    cond (eqb n 0) None
+    (cond (eqb n 1) (Some reason.TooFew)
+    (cond (eqb n 2) (Some reason.NoMatch)
+    (cond (eqb n 3) (Some reason.UnitIdle)
+    (cond (eqb n 4) (Some reason.UnitSuspended) (Some reason.Bad)))))
 
-reason_back : (r : Reason) → reason_at (reason_number r) ≡ r
+reason_back : (r : Option Reason) → reason_at (reason_or_0 r) ≡ r
 unfolding reason_at
-reason_back reason.NotDropped = refl
-reason_back reason.TooFew = refl
-reason_back reason.NoMatch = refl
-reason_back reason.UnitIdle = refl
-reason_back reason.UnitSuspended = refl
-reason_back reason.Bad = refl
+reason_back None = refl
+reason_back (Some reason.TooFew) = refl
+reason_back (Some reason.NoMatch) = refl
+reason_back (Some reason.UnitIdle) = refl
+reason_back (Some reason.UnitSuspended) = refl
+reason_back (Some reason.Bad) = refl
 
-pub one_reason : (x y : Reason) → reason_number x ≡ reason_number y → x ≡ y
+pub one_reason : (x y : Option Reason) → reason_or_0 x ≡ reason_or_0 y → x ≡ y
 one_reason x y e = sym (reason_back x) ∙ ap reason_at e ∙ reason_back y
 
 -- 01, refusal 4: no held frame outside Ready

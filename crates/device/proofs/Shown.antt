@@ -5,10 +5,11 @@ use lib.Dec.{T, eqb}
 use lib.ListN.{length, replicate}
 use Rattle.memory.specs.Memory.{byte_at, put_byte, bytes_at, put_bytes, value, digits, field_at, apply}
 use Rattle.memory.specs.Address.{place}
+use Rattle.std.specs.Prelude.{Option, Some, None}
 use Rattle.device.specs.Answers.{counter_of, reason_of, counts}
 use Rattle.device.specs.Header.{header, unbuffered}
 use Rattle.device.specs.Limits.{longest_address, type_length, holding_size, outgoing_size, record_size, longest, most_buffers, filter_bits, fcs}
-use Rattle.device.specs.Numbers.{verdict_number, verdict_of, refusal_number, reason_number, counter_place}
+use Rattle.device.specs.Numbers.{verdict_number, verdict_of, refusal_or_0, reason_or_0, counter_place}
 use Rattle.device.specs.State.{good_by, ru_works, cu_works, fresh_form, fresh}
 use Rattle.device.specs.declared.Counter.{Counter}
 use Rattle.device.specs.declared.Counter.TheVariants as counter
@@ -26,33 +27,41 @@ others_misaligned = tt
 
 -- 01, "Calls, lent areas, refusals": 1 N, 3 an arriving frame, 4 the record's content; 0 if not refused. 02, Wish 3: 21 device record, 22 holding area,
 -- 23 outgoing area
-pub refusals_numbered : T (eqb (refusal_number refusal.Accepted) 0 && eqb (refusal_number refusal.Memory) 1 && eqb (refusal_number refusal.Record) 21
-    && eqb (refusal_number refusal.Holding) 22 && eqb (refusal_number refusal.Outgoing) 23 && eqb (refusal_number refusal.Overlong) 3 && eqb (refusal_number refusal.Foreign) 4)
+pub refusals_numbered : T (eqb (refusal_or_0 None) 0 && eqb (refusal_or_0 (Some refusal.Memory)) 1 && eqb (refusal_or_0 (Some refusal.Record)) 21
+    && eqb (refusal_or_0 (Some refusal.Holding)) 22 && eqb (refusal_or_0 (Some refusal.Outgoing)) 23 && eqb (refusal_or_0 (Some refusal.Overlong)) 3 && eqb (refusal_or_0 (Some refusal.Foreign)) 4)
 refusals_numbered = tt
 
 -- 02, Wish 3: the reasons of the fates of an arriving frame, in the order of the rules. Lost by OVRNERRS or RSCERRS, or held: none
 abbrev why : Fate → ℕ
-why f = reason_number (reason_of f)
+why f = reason_or_0 (reason_of f)
 
 pub reasons_of_fates : T (eqb (why fate.TooFew) 1 && eqb (why fate.NoMatch) 2 && eqb (why fate.UnitIdle) 3 && eqb (why fate.UnitSuspended) 4
-    && eqb (why fate.Overrun) 0 && eqb (why (fate.Bad counter.Crc)) 5 && eqb (why (fate.Bad counter.Uncounted)) 5
-    && eqb (why (fate.Held counter.Alignment)) 0 && eqb (why fate.NoResources) 0)
+    && eqb (why fate.Overrun) 0 && eqb (why (fate.Bad (Some counter.Crc))) 5 && eqb (why (fate.Bad None)) 5
+    && eqb (why (fate.Held (Some counter.Alignment))) 0 && eqb (why fate.NoResources) 0)
 reasons_of_fates = tt
 
 -- 01, "The SCB": +8 CRCERRS, +10 ALNERRS, +12 RSCERRS, +14 OVRNERRS. Each is increased alone: what the four come to, with an SCB at 0 and
 -- every byte of it alike before
-abbrev counted : Counter → (byte : ℕ) → ℕ
+abbrev counted : Option Counter → (byte : ℕ) → ℕ
 counted c byte = let m = replicate {A = ℕ} 16 byte in field_at 8 (apply (counts c (record { 0 = 0 }) (record { 0 = 0 }) m) m) 8
 
-pub counters_in_place : T (eqb (counted counter.Crc 7) 0x0707070707070708 && eqb (counted counter.Alignment 7) 0x0707070707080707
-    && eqb (counted counter.Resources 7) 0x0707070807070707 && eqb (counted counter.Overruns 7) 0x0708070707070707
-    && eqb (counted counter.Uncounted 7) 0x0707070707070707 && eqb (counted counter.Crc 255) 0xFFFFFFFFFFFF0000)
+pub counters_in_place : T (eqb (counted (Some counter.Crc) 7) 0x0707070707070708 && eqb (counted (Some counter.Alignment) 7) 0x0707070707080707
+    && eqb (counted (Some counter.Resources) 7) 0x0707070807070707 && eqb (counted (Some counter.Overruns) 7) 0x0708070707070707
+    && eqb (counted None 7) 0x0707070707070707 && eqb (counted (Some counter.Crc) 255) 0xFFFFFFFFFFFF0000)
 unfolding byte_at put_byte bytes_at put_bytes value digits field_at place counts
 counters_in_place = tt
 
+-- the place of a counter, 0 of none
+abbrev pub place_or_0 : Option Counter → ℕ
+place_or_0 None = 0
+place_or_0 (Some c) = counter_place c
+
 -- 01, "Arrival and storing": a frame already held: OVRNERRS; a good one that is not held: RSCERRS; kept out of buffers: RSCERRS too
-pub counters_of_fates : T (eqb (counter_place (counter_of fate.Overrun)) 14 && eqb (counter_place (counter_of fate.NoResources)) 12
-    && eqb (counter_place (counter_of fate.StoredCounted)) 12 && eqb (counter_place (counter_of fate.Aborted)) 0)
+abbrev place_of : Fate → ℕ
+place_of f = place_or_0 (counter_of f)
+
+pub counters_of_fates : T (eqb (place_of fate.Overrun) 14 && eqb (place_of fate.NoResources) 12 && eqb (place_of fate.StoredCounted) 12
+    && eqb (place_of fate.Aborted) 0)
 counters_of_fates = tt
 
 -- short: bad

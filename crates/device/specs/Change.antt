@@ -1,6 +1,6 @@
 -- Values with some of their fields changed, and the others as they were. antt has no update of a record, so each change that the rules make
 -- stands here once, and nothing else lists the fields but the fresh state. Assumes nothing.
-use Rattle.std.specs.Prelude.{Bool, true, false, List, ℕ}
+use Rattle.std.specs.Prelude.{Bool, true, List, ℕ}
 use Rattle.memory.specs.declared.Offset.{Offset}
 use Rattle.memory.specs.declared.RealAddress.{RealAddress}
 use Rattle.scb.specs.declared.Events.{Events}

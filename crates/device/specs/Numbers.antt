@@ -1,5 +1,5 @@
 -- The paper's number for each case of an enum, and the case for a number. Assumes nothing.
-use Rattle.std.specs.Prelude.{cond, ℕ, eqb}
+use Rattle.std.specs.Prelude.{cond, ℕ, eqb, Option, Some, None}
 use Rattle.device.specs.declared.Action.{Action}
 use Rattle.device.specs.declared.Action.TheVariants as action
 use Rattle.device.specs.declared.Counter.{Counter}
@@ -42,9 +42,8 @@ verdict_number verdict.Misaligned = 2
 unfoldable pub verdict_of : ℕ → Verdict
 verdict_of n = cond (eqb n 0) verdict.Good (cond (eqb n 1) verdict.Crc verdict.Misaligned)
 
--- 01, "Calls, lent areas, refusals", as 02, Wish 3, mends it: the number, 0 if not refused. "21 device record, 22 holding area, 23 outgoing area"
+-- 01, "Calls, lent areas, refusals", as 02, Wish 3, mends it: "21 device record, 22 holding area, 23 outgoing area"
 abbrev pub refusal_number : Refusal → ℕ
-refusal_number refusal.Accepted = 0
 refusal_number refusal.Memory = 1
 refusal_number refusal.Record = 21
 refusal_number refusal.Holding = 22
@@ -52,18 +51,26 @@ refusal_number refusal.Outgoing = 23
 refusal_number refusal.Overlong = 3
 refusal_number refusal.Foreign = 4
 
--- 02, Wish 3: "too few bytes, no match, unit Idle, unit Suspended, or bad and not saved", from 1 on; 0 if not dropped
+-- the number of an answer, 0 if not refused
+abbrev pub refusal_or_0 : Option Refusal → ℕ
+refusal_or_0 None = 0
+refusal_or_0 (Some r) = refusal_number r
+
+-- 02, Wish 3: "too few bytes, no match, unit Idle, unit Suspended, or bad and not saved", from 1 on
 abbrev pub reason_number : Reason → ℕ
-reason_number reason.NotDropped = 0
 reason_number reason.TooFew = 1
 reason_number reason.NoMatch = 2
 reason_number reason.UnitIdle = 3
 reason_number reason.UnitSuspended = 4
 reason_number reason.Bad = 5
 
--- 01, "The SCB": +8 CRCERRS, +10 ALNERRS, +12 RSCERRS, +14 OVRNERRS; no counter has no place
+-- 0 if not dropped
+abbrev pub reason_or_0 : Option Reason → ℕ
+reason_or_0 None = 0
+reason_or_0 (Some r) = reason_number r
+
+-- 01, "The SCB": +8 CRCERRS, +10 ALNERRS, +12 RSCERRS, +14 OVRNERRS
 abbrev pub counter_place : Counter → ℕ
-counter_place counter.Uncounted = 0
 counter_place counter.Crc = 8
 counter_place counter.Alignment = 10
 counter_place counter.Resources = 12

@@ -145,7 +145,6 @@ pub struct Device {
 // Why a call is refused: a case for each row of the table of refusals.
 #[derive(Clone, Copy)]
 pub enum Refusal {
-    Accepted,
     Memory,
     Record,
     Holding,
@@ -154,10 +153,9 @@ pub enum Refusal {
     Foreign,
 }
 
-// Why an arriving frame was dropped, in the order of the rules; or that it was not: it is held, or lost and counted by OVRNERRS or RSCERRS.
+// Why an arriving frame was dropped, in the order of the rules. One that is held, or lost and counted by OVRNERRS or RSCERRS, was not dropped.
 #[derive(Clone, Copy)]
 pub enum Reason {
-    NotDropped,
     TooFew,
     NoMatch,
     UnitIdle,
@@ -165,19 +163,19 @@ pub enum Reason {
     Bad,
 }
 
-// An answer: the number, the length sent, whether an interrupt edge is reported, and why an arriving frame was dropped.
+// An answer: why the call is refused, if it is, the length sent, whether an interrupt edge is reported, and why an arriving frame was dropped, if it
+// was.
 #[derive(Clone, Copy)]
 pub struct Answer {
-    pub number: Refusal,
+    pub refusal: Option<Refusal>,
     pub length: u16,
     pub edge: bool,
-    pub reason: Reason,
+    pub reason: Option<Reason>,
 }
 
-// The SCB's error counters, or none of them.
+// The SCB's error counters.
 #[derive(Clone, Copy)]
 pub enum Counter {
-    Uncounted,
     Crc,
     Alignment,
     Resources,
@@ -192,8 +190,8 @@ pub enum Fate {
     UnitIdle,
     UnitSuspended,
     Overrun,
-    Bad(Counter),
-    Held(Counter),
+    Bad(Option<Counter>),
+    Held(Option<Counter>),
     NoResources,
     Stored,
     StoredCounted,
@@ -204,31 +202,54 @@ pub enum Fate {
 
 // ---- the paper's numbers
 
-// The number of an answer, 0 if the call is not refused.
-pub fn refusal_number(r: Refusal) -> u16
-    ensures { result ≡ numbers.refusal_number r }
-{
-    match r {
-        Refusal::Accepted => 0,
-        Refusal::Memory => 1,
-        Refusal::Record => 21,
-        Refusal::Holding => 22,
-        Refusal::Outgoing => 23,
-        Refusal::Overlong => 3,
-        Refusal::Foreign => 4,
+impl From<Refusal> for u16 {
+    ghost from_gives = { λ r n. n ≡ numbers.refusal_number r };
+
+    fn from(r: Refusal) -> u16 {
+        match r {
+            Refusal::Memory => 1,
+            Refusal::Record => 21,
+            Refusal::Holding => 22,
+            Refusal::Outgoing => 23,
+            Refusal::Overlong => 3,
+            Refusal::Foreign => 4,
+        }
     }
 }
 
-// The number of a reason, 0 if no frame was dropped.
-pub fn reason_number(r: Reason) -> u8
-    ensures { result ≡ numbers.reason_number r }
-{
-    match r {
-        Reason::NotDropped => 0,
-        Reason::TooFew => 1,
-        Reason::NoMatch => 2,
-        Reason::UnitIdle => 3,
-        Reason::UnitSuspended => 4,
-        Reason::Bad => 5,
+impl From<Reason> for u8 {
+    ghost from_gives = { λ r n. n ≡ numbers.reason_number r };
+
+    fn from(r: Reason) -> u8 {
+        match r {
+            Reason::TooFew => 1,
+            Reason::NoMatch => 2,
+            Reason::UnitIdle => 3,
+            Reason::UnitSuspended => 4,
+            Reason::Bad => 5,
+        }
+    }
+}
+
+// Where a counter stands in the SCB.
+const CRCERRS: u16 = 8;
+
+const ALNERRS: u16 = 10;
+
+const RSCERRS: u16 = 12;
+
+const OVRNERRS: u16 = 14;
+
+impl Counter {
+    // Its place in the SCB.
+    pub fn place(self) -> u16
+        ensures { result ≡ numbers.counter_place self }
+    {
+        match self {
+            Counter::Crc => CRCERRS,
+            Counter::Alignment => ALNERRS,
+            Counter::Resources => RSCERRS,
+            Counter::Overruns => OVRNERRS,
+        }
     }
 }

@@ -5,8 +5,7 @@ use mathlib.Core.List.{List}
 use Prim.Native.Nat.{ℕ}
 use native.Mathlib.Omega.{arith}
 use lib.ListN.{length}
-use Rattle.device.specs.Numbers.{refusal_number}
-use Rattle.device.specs.declared.Refusal.TheVariants as refusal
+use Rattle.std.specs.Prelude.{None}
 use Rattle.device.specs.declared.Units.{Units}
 use Rattle.image.specs.Image.{decode_of, decode_full, shaped, range_from, units_at, device_from, device_at}
 use Rattle.image.specs.Ranges.{in_range}
@@ -56,5 +55,5 @@ runs_by (is.Units u) a f e n i =
     }
 
 -- the areas and the frame of a call; f is empty for the calls without one
-pub accepted : (a : Areas) (f : List ℕ) → refusal_of a f ≡ refusal.Accepted → Runs a f
-accepted a f h = let x = calls.unrefused a f (ap refusal_number h) in runs_by (decode_of a.kept) a f refl x.0 x.1
+pub accepted : (a : Areas) (f : List ℕ) → refusal_of a f ≡ None → Runs a f
+accepted a f h = let x = calls.unrefused a f h in runs_by (decode_of a.kept) a f refl x.0 x.1

@@ -10,6 +10,7 @@ use borrow.Author.Tests.{lt-ltb, le-ltb, ltb-true, ltb-false, eqb-true, eqb-fals
 use lib.Dec.{eqb, ltb}
 use lib.ListN.{length, take, drop}
 use lib.Seq.{sets, sets-eq, take-append_seam, drop-append_seam}
+use Rattle.std.specs.Prelude.{Option, Some, None}
 use Rattle.memory.specs.Memory.{word_at, digits, count_to, apply}
 use Rattle.memory.specs.declared.Offset.{Offset}
 use Rattle.memory.proofs.Fields.{word_same, bytes_other, length_digits}
@@ -45,14 +46,14 @@ one_more_lem m a h =
       others = λ b k p. bytes_other m a (digits 2 ((word_at m a + 1) % 65536)) b k (rw length_digits p);
     }
 
-counted : (c : Counter) (w : World) → 2 ≤ length w.memory
+counted : (c : Option Counter) (w : World) → 2 ≤ length w.memory
     → Counts c w (apply (counts c w.device.units.base w.device.units.scb w.memory) w.memory)
 unfolding counts
-counted counter.Uncounted w h = refl
-counted counter.Crc w h = one_more_lem w.memory (in_scb w 8) h
-counted counter.Alignment w h = one_more_lem w.memory (in_scb w 10) h
-counted counter.Resources w h = one_more_lem w.memory (in_scb w 12) h
-counted counter.Overruns w h = one_more_lem w.memory (in_scb w 14) h
+counted None w h = refl
+counted (Some counter.Crc) w h = one_more_lem w.memory (in_scb w 8) h
+counted (Some counter.Alignment) w h = one_more_lem w.memory (in_scb w 10) h
+counted (Some counter.Resources) w h = one_more_lem w.memory (in_scb w 12) h
+counted (Some counter.Overruns) w h = one_more_lem w.memory (in_scb w 14) h
 
 pub enough : {w : World} {f : List ℕ} → RightLengths w f → 2 ≤ length w.memory
 enough {w} l =
@@ -99,7 +100,7 @@ fits {w} {f} l =
     let frame = l.frame in
     omega arith
 
-is_held_said : (c : Counter) (w : World) (f : List ℕ) (v : ℕ) (fd : Offset) (j : Frame) → RightLengths w f → unit_of w ≡ ru.Ready fd
+is_held_said : (c : Option Counter) (w : World) (f : List ℕ) (v : ℕ) (fd : Offset) (j : Frame) → RightLengths w f → unit_of w ≡ ru.Ready fd
     → receive.judged (settings_of w) f v ≡ j
     → IsHeld w f fd j c (said w f v (fate.Held c))
 unfolding said
@@ -114,7 +115,7 @@ is_held_said c w f v fd j l u e =
       memory = counted c w (enough l);
     }
 
-is_held_lem : (c : Counter) (w : World) (f : List ℕ) (v : ℕ) (fd : Offset) (j : Frame) → RightLengths w f → unit_of w ≡ ru.Ready fd
+is_held_lem : (c : Option Counter) (w : World) (f : List ℕ) (v : ℕ) (fd : Offset) (j : Frame) → RightLengths w f → unit_of w ≡ ru.Ready fd
     → receive.judged (settings_of w) f v ≡ j
     → fated w f v ≡ fate.Held c → IsHeld w f fd j c (chip.arrival_of w f v)
 is_held_lem c w f v fd j l u e x =
@@ -132,7 +133,7 @@ unfolding verdict_of
 good_judged w f v l g =
     judged_as_lem w f v false l (le-ltb _ _ g.long) ∙ ap (λ (n : ℕ). judged_as w f (verdict_of n) false) g.verdict
 
-bad_judged : (w : World) (f : List ℕ) (v : ℕ) (c : Counter) → RightLengths w f → Bad w f v c
+bad_judged : (w : World) (f : List ℕ) (v : ℕ) (c : Option Counter) → RightLengths w f → Bad w f v c
     → receive.judged (settings_of w) f v ≡ judged_as w f (verdict_of v) (short_by c)
 bad_judged w f v c l (short s) = judged_as_lem w f v true l (lt-ltb _ _ s)
 bad_judged w f v c l (crc n e) = judged_as_lem w f v false l (le-ltb _ _ n)
@@ -146,12 +147,12 @@ crc_verdict : (v : ℕ) → v ≡ 1 → verdict_of v ≡ verdict.Crc
 unfolding verdict_of
 crc_verdict v h = rw h
 
-bad_good : (w : World) (f : List ℕ) (v : ℕ) (c : Counter) → Bad w f v c → good_by (short_by c) (verdict_of v) ≡ false
+bad_good : (w : World) (f : List ℕ) (v : ℕ) (c : Option Counter) → Bad w f v c → good_by (short_by c) (verdict_of v) ≡ false
 bad_good w f v c (short s) = refl
 bad_good w f v c (crc n e) = rw (crc_verdict v e)
 bad_good w f v c (misaligned n e) = rw (misaligned_verdict v e)
 
-bad_counter : (w : World) (f : List ℕ) (v : ℕ) (c : Counter) → Bad w f v c → receive.counter_by (short_by c) (verdict_of v) ≡ c
+bad_counter : (w : World) (f : List ℕ) (v : ℕ) (c : Option Counter) → Bad w f v c → receive.counter_by (short_by c) (verdict_of v) ≡ c
 bad_counter w f v c (short s) = refl
 bad_counter w f v c (crc n e) = rw (crc_verdict v e)
 bad_counter w f v c (misaligned n e) = rw (misaligned_verdict v e)
@@ -165,23 +166,23 @@ in_unit w f v u j o e g = rw (le-ltb (length f) (header_in w) o.enough, o.matche
 -- ---- the classes
 
 -- shorter than the header, dropped
-pub few : (w : World) (f : List ℕ) (v : ℕ) → RightLengths w f → length f < header_in w → NotHeld w fate.TooFew reason.TooFew counter.Uncounted (chip.arrival_of w f v)
+pub few : (w : World) (f : List ℕ) (v : ℕ) → RightLengths w f → length f < header_in w → NotHeld w fate.TooFew (Some reason.TooFew) None (chip.arrival_of w f v)
 unfolding fated receive.fate_of
 few w f v l h = not_held fate.TooFew w f v refl l (rw (lt-ltb (length f) (header_in w) h))
 
 -- no match, dropped
 pub unmatched : (w : World) (f : List ℕ) (v : ℕ) → RightLengths w f → header_in w ≤ length f → is_ours w f ≡ false
-    → NotHeld w fate.NoMatch reason.NoMatch counter.Uncounted (chip.arrival_of w f v)
+    → NotHeld w fate.NoMatch (Some reason.NoMatch) None (chip.arrival_of w f v)
 unfolding fated receive.fate_of
 unmatched w f v l h n = not_held fate.NoMatch w f v refl l (rw (le-ltb (length f) (header_in w) h, n))
 
 -- RU Idle or Suspended, dropped
 pub idle : (w : World) (f : List ℕ) (v : ℕ) → RightLengths w f → Ours w f → unit_of w ≡ ru.Idle
-    → NotHeld w fate.UnitIdle reason.UnitIdle counter.Uncounted (chip.arrival_of w f v)
+    → NotHeld w fate.UnitIdle (Some reason.UnitIdle) None (chip.arrival_of w f v)
 idle w f v l o u = not_held fate.UnitIdle w f v refl l (in_unit w f v ru.Idle _ o u refl)
 
 pub suspended : (w : World) (f : List ℕ) (v : ℕ) (fd : Offset) → RightLengths w f → Ours w f → unit_of w ≡ ru.Suspended fd
-    → NotHeld w fate.UnitSuspended reason.UnitSuspended counter.Uncounted (chip.arrival_of w f v)
+    → NotHeld w fate.UnitSuspended (Some reason.UnitSuspended) None (chip.arrival_of w f v)
 suspended w f v fd l o u = not_held fate.UnitSuspended w f v refl l (in_unit w f v (ru.Suspended fd) _ o u refl)
 
 -- a frame already held: OVRNERRS, whatever the frame
@@ -196,39 +197,39 @@ overrun_fate (ru.Closing s o e) j h = refl
 overrun_fate (ru.Lacking s) j h = refl
 
 pub overrun : (w : World) (f : List ℕ) (v : ℕ) → RightLengths w f → Ours w f → is_holding (unit_of w) ≡ true
-    → NotHeld w fate.Overrun reason.NotDropped counter.Overruns (chip.arrival_of w f v)
+    → NotHeld w fate.Overrun None (Some counter.Overruns) (chip.arrival_of w f v)
 overrun w f v l o h =
     not_held fate.Overrun w f v refl l (in_unit w f v (unit_of w) (receive.judged (settings_of w) f v) o refl refl ∙ overrun_fate (unit_of w) _ h)
 
 -- a good one is held in Ready
 pub good_ready : (w : World) (f : List ℕ) (v : ℕ) (fd : Offset) → RightLengths w f → Ours w f → Good w f v → unit_of w ≡ ru.Ready fd
-    → IsHeld w f fd (judged_as w f verdict.Good false) counter.Uncounted (chip.arrival_of w f v)
+    → IsHeld w f fd (judged_as w f verdict.Good false) None (chip.arrival_of w f v)
 good_ready w f v fd l o g u =
-    let j = good_judged w f v l g in is_held_lem counter.Uncounted w f v fd _ l u j (in_unit w f v (ru.Ready fd) _ o u j)
+    let j = good_judged w f v l g in is_held_lem None w f v fd _ l u j (in_unit w f v (ru.Ready fd) _ o u j)
 
 -- else RSCERRS
 pub good_unready : (w : World) (f : List ℕ) (v : ℕ) → RightLengths w f → Ours w f → Good w f v → unit_of w ≡ ru.NoResources
-    → NotHeld w fate.NoResources reason.NotDropped counter.Resources (chip.arrival_of w f v)
+    → NotHeld w fate.NoResources None (Some counter.Resources) (chip.arrival_of w f v)
 good_unready w f v l o g u =
     not_held fate.NoResources w f v refl l (in_unit w f v ru.NoResources _ o u (good_judged w f v l g))
 
 -- a bad one is held only in Ready with save-bad set; its counter moves in either case
-pub bad_saved : (w : World) (f : List ℕ) (v : ℕ) (fd : Offset) (c : Counter) → RightLengths w f → Ours w f → Bad w f v c → unit_of w ≡ ru.Ready fd
+pub bad_saved : (w : World) (f : List ℕ) (v : ℕ) (fd : Offset) (c : Option Counter) → RightLengths w f → Ours w f → Bad w f v c → unit_of w ≡ ru.Ready fd
     → (settings_of w).savebad ≡ true
     → IsHeld w f fd (judged_as w f (verdict_of v) (short_by c)) c (chip.arrival_of w f v)
 bad_saved w f v fd c l o b u s =
     let j = bad_judged w f v c l b in
     is_held_lem c w f v fd _ l u j (in_unit w f v (ru.Ready fd) _ o u j ∙ rw (bad_good w f v c b, s, bad_counter w f v c b))
 
-pub bad_unsaved : (w : World) (f : List ℕ) (v : ℕ) (fd : Offset) (c : Counter) → RightLengths w f → Ours w f → Bad w f v c → unit_of w ≡ ru.Ready fd
+pub bad_unsaved : (w : World) (f : List ℕ) (v : ℕ) (fd : Offset) (c : Option Counter) → RightLengths w f → Ours w f → Bad w f v c → unit_of w ≡ ru.Ready fd
     → (settings_of w).savebad ≡ false
-    → NotHeld w (fate.Bad c) reason.Bad c (chip.arrival_of w f v)
+    → NotHeld w (fate.Bad c) (Some reason.Bad) c (chip.arrival_of w f v)
 bad_unsaved w f v fd c l o b u s =
     not_held (fate.Bad c) w f v refl l
     (in_unit w f v (ru.Ready fd) _ o u (bad_judged w f v c l b) ∙ rw (bad_good w f v c b, s, bad_counter w f v c b))
 
-pub bad_unready : (w : World) (f : List ℕ) (v : ℕ) (c : Counter) → RightLengths w f → Ours w f → Bad w f v c → unit_of w ≡ ru.NoResources
-    → NotHeld w (fate.Bad c) reason.Bad c (chip.arrival_of w f v)
+pub bad_unready : (w : World) (f : List ℕ) (v : ℕ) (c : Option Counter) → RightLengths w f → Ours w f → Bad w f v c → unit_of w ≡ ru.NoResources
+    → NotHeld w (fate.Bad c) (Some reason.Bad) c (chip.arrival_of w f v)
 bad_unready w f v c l o b u =
     not_held (fate.Bad c) w f v refl l
     (in_unit w f v ru.NoResources _ o u (bad_judged w f v c l b) ∙ rw (bad_good w f v c b, bad_counter w f v c b))
@@ -242,17 +243,17 @@ at_least_two (suc (suc v)) a b = omega arith
 
 data Judgement (w : World) (f : List ℕ) (v : ℕ) : Type 0 where
   is_good_lem : Good w f v → Judgement w f v
-  is_bad : (c : Counter) → Bad w f v c → Judgement w f v
+  is_bad : (c : Option Counter) → Bad w f v c → Judgement w f v
 
 verdicts : (zero? one? : Bool) (w : World) (f : List ℕ) (v : ℕ) → (settings_of w).minimum ≤ length f + fcs → eqb v 0 ≡ zero? → eqb v 1 ≡ one?
     → Judgement w f v
 verdicts true one? w f v l a b = is_good_lem (record { long = l; verdict = eqb-true v 0 a })
-verdicts false true w f v l a b = is_bad counter.Crc (crc l (eqb-true v 1 b))
+verdicts false true w f v l a b = is_bad (Some counter.Crc) (crc l (eqb-true v 1 b))
 verdicts false false w f v l a b =
-    is_bad counter.Alignment (misaligned l (at_least_two v (eqb-false v 0 a) (eqb-false v 1 b)))
+    is_bad (Some counter.Alignment) (misaligned l (at_least_two v (eqb-false v 0 a) (eqb-false v 1 b)))
 
 judgement : (is_short : Bool) (w : World) (f : List ℕ) (v : ℕ) → ltb (length f + fcs) (settings_of w).minimum ≡ is_short → Judgement w f v
-judgement true w f v h = is_bad counter.Uncounted (short (ltb-true (length f + fcs) (settings_of w).minimum h))
+judgement true w f v h = is_bad None (short (ltb-true (length f + fcs) (settings_of w).minimum h))
 judgement false w f v h = verdicts (eqb v 0) (eqb v 1) w f v (ltb-false (length f + fcs) (settings_of w).minimum h) refl refl
 
 ready_class : (saved : Bool) (w : World) (f : List ℕ) (v : ℕ) (fd : Offset) → RightLengths w f → Ours w f → unit_of w ≡ ru.Ready fd

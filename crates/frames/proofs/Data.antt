@@ -9,6 +9,7 @@ use borrow.Author.Tests.{leb-true, leb-false}
 use lib.Dec.{leb}
 use lib.ListN.{length, take, drop, length-take}
 use lib.Seq.{take-add, drop-drop, take-take, drop_at}
+use Rattle.std.specs.Prelude.{Option, None}
 use Rattle.memory.specs.Memory.{Write}
 use Rattle.memory.proofs.Bytes.{Bytes, bytes_nil}
 use Rattle.memory.proofs.Power.{size_allowed_lem}
@@ -19,7 +20,6 @@ use Rattle.device.specs.Limits.{held_from}
 use Rattle.device.specs.Numbers.{verdict_of}
 use Rattle.device.specs.State.{held_in}
 use Rattle.device.specs.declared.Counter.{Counter}
-use Rattle.device.specs.declared.Counter.TheVariants as counter
 use Rattle.device.specs.declared.Device.{Device}
 use Rattle.device.specs.declared.Fate.{Fate}
 use Rattle.device.specs.declared.Fate.TheVariants as fate
@@ -322,7 +322,7 @@ record Came (bs : List ℕ) (r : Ran) : Type 0 where
   enough : unbuffered frame.form ≤ length bs
   entered : take (length bs) r.holding ≡ bs
 
-is_held_lem : (w : World) (bs : List ℕ) (fd : Offset) (v : Verdict) (short : Bool) (c : Counter) (r : Ran) → header_in w ≤ length bs
+is_held_lem : (w : World) (bs : List ℕ) (fd : Offset) (v : Verdict) (short : Bool) (c : Option Counter) (r : Ran) → header_in w ≤ length bs
     → IsHeld w bs fd (judged_as w bs v short) c r → Came bs r
 is_held_lem w bs fd v short c r l h =
     record {
@@ -336,16 +336,16 @@ is_held_lem w bs fd v short c r l h =
     }
 
 -- no other fate is that it is held
-not_held : (x : Fate) (c : Counter) (fs : List Fate) → is_held x ≡ false → fs ≡ x ∷ [] → fs ≡ fate.Held c ∷ [] → ⊥
+not_held : (x : Fate) (c : Option Counter) (fs : List Fate) → is_held x ≡ false → fs ≡ x ∷ [] → fs ≡ fate.Held c ∷ [] → ⊥
 not_held x c fs n e h = true≢false (ap is_held (head-eq_of_cons-eq (sym h ∙ e)) ∙ n)
 
-came : (w : World) (bs : List ℕ) (v : ℕ) (c : Counter) (r : Ran) → r.outcome.fates ≡ fate.Held c ∷ [] → ArrivalFate w bs v r → Came bs r
+came : (w : World) (bs : List ℕ) (v : ℕ) (c : Option Counter) (r : Ran) → r.outcome.fates ≡ fate.Held c ∷ [] → ArrivalFate w bs v r → Came bs r
 came w bs v c r h (arrival.few l k) = absurd (not_held fate.TooFew c r.outcome.fates refl k.fates h)
 came w bs v c r h (arrival.unmatched l m k) = absurd (not_held fate.NoMatch c r.outcome.fates refl k.fates h)
 came w bs v c r h (arrival.idle o e k) = absurd (not_held fate.UnitIdle c r.outcome.fates refl k.fates h)
 came w bs v c r h (arrival.suspended fd o e k) = absurd (not_held fate.UnitSuspended c r.outcome.fates refl k.fates h)
 came w bs v c r h (arrival.overrun o e k) = absurd (not_held fate.Overrun c r.outcome.fates refl k.fates h)
-came w bs v c r h (arrival.good_ready fd o g e k) = is_held_lem w bs fd verdict.Good false counter.Uncounted r o.enough k
+came w bs v c r h (arrival.good_ready fd o g e k) = is_held_lem w bs fd verdict.Good false None r o.enough k
 came w bs v c r h (arrival.good_unready o g e k) = absurd (not_held fate.NoResources c r.outcome.fates refl k.fates h)
 came w bs v c r h (arrival.bad_saved fd x o b e z k) = is_held_lem w bs fd (verdict_of v) (short_by x) x r o.enough k
 came w bs v c r h (arrival.bad_unsaved fd x o b e z k) = absurd (not_held (fate.Bad x) c r.outcome.fates refl k.fates h)
@@ -371,7 +371,7 @@ from_came bs r es report s k m n =
 
 -- a frame that arrives and is held, good or bad: what the buffers get is what it has behind its header, all of it or a proper beginning, and the header
 -- bytes that the end writes are its own
-pub arrived : (w : World) (bs : List ℕ) (v : ℕ) (c : Counter) (es : List Event) (report : ℕ) → RightLengths w bs → in_range w.device ≡ true
+pub arrived : (w : World) (bs : List ℕ) (v : ℕ) (c : Option Counter) (es : List Event) (report : ℕ) → RightLengths w bs → in_range w.device ≡ true
     → (arrival_of w bs v).outcome.fates ≡ fate.Held c ∷ []
     → AllMay Staying step es (step (call (arrive bs v)) w) → ends (turn report) (run step es (step (call (arrive bs v)) w)) ≡ true
     → ArrivedDelivered bs es (step (call (arrive bs v)) w) report
@@ -421,7 +421,7 @@ delivered_on_bytes a b w fd f p ls report s e m t n =
     record { delivered = rw s.holding (delivered w fd f p (up_to ls b) report s.kept.range e k.may k.ends); calls = k.calls }
 
 -- and of the bytes that a call brings
-pub arrived_on_bytes : (a b : Areas) (d : Device) (bs : List ℕ) (v : ℕ) (c : Counter) (ls : List Lending) (report : ℕ) → AreBytes a → Holds a.kept d
+pub arrived_on_bytes : (a b : Areas) (d : Device) (bs : List ℕ) (v : ℕ) (c : Option Counter) (ls : List Lending) (report : ℕ) → AreBytes a → Holds a.kept d
     → Bytes bs → is_refused (called (arrive bs v) a) ≡ false → (arrival_of (world_in d a) bs v).outcome.fates ≡ fate.Held c ∷ []
     → AllFair Staying ls (called (arrive bs v) a).areas → EndLent b report (run left ls (called (arrive bs v) a).areas)
     → ends (turn report) (world_said b) ≡ true

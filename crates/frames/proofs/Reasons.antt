@@ -5,10 +5,11 @@ use mathlib.Core.Bool.{Bool, true, false}
 use mathlib.Core.List.{List, [], ◌∷◌}
 use Prim.Native.Nat.{ℕ, zero, suc}
 use native.Mathlib.Omega.{arith}
+use Rattle.std.specs.Prelude.{Option, Some, None}
 use Rattle.memory.proofs.Bytes.{bytes_nil}
 use Rattle.scb.specs.Words.{bits_at}
 use Rattle.device.specs.Answers.{reason_of}
-use Rattle.device.specs.Numbers.{reason_number}
+use Rattle.device.specs.Numbers.{reason_or_0}
 use Rattle.device.specs.declared.Answer.{Answer}
 use Rattle.device.specs.declared.Device.{Device}
 use Rattle.device.specs.declared.Fate.{Fate}
@@ -37,8 +38,8 @@ use Rattle.frames.proofs.Arrival as arrivals
 use Rattle.frames.proofs.Arrived.{right_lengths}
 
 -- the reason is that of the one fate
-first_why : List Fate → Reason
-first_why [] = reason.NotDropped
+first_why : List Fate → Option Reason
+first_why [] = None
 first_why (x ∷ xs) = reason_of x
 
 pub by_the_fate : (w : World) (f : List ℕ) (v : ℕ) (x : Fate) → (arrival_of w f v).outcome.fates ≡ x ∷ [] → why_of w f v ≡ reason_of x
@@ -48,45 +49,45 @@ by_the_fate w f v x e = ap first_why e
 -- ---- a reason that is given is reached
 
 record Because (w : World) (f : List ℕ) (v : ℕ) : Type 0 where
-  why : Reason
+  why : Option Reason
   said : why_of w f v ≡ why
   reached : Reached why w f v
 
-abbrev why_in : Answer → Reason
+abbrev why_in : Answer → Option Reason
 why_in a = a.reason
 
 because : (w : World) (f : List ℕ) (v : ℕ) → ArrivalFate w f v (arrival_of w f v) → Because w f v
-because w f v (classes.few n h) = record { why = reason.TooFew; said = ap why_in h.answer; reached = n }
-because w f v (classes.unmatched n m h) = record { why = reason.NoMatch; said = ap why_in h.answer; reached = (n, m) }
-because w f v (classes.idle o u h) = record { why = reason.UnitIdle; said = ap why_in h.answer; reached = (o, u) }
-because w f v (classes.suspended fd o u h) = record { why = reason.UnitSuspended; said = ap why_in h.answer; reached = (o, (fd, u)) }
-because w f v (classes.overrun o u h) = record { why = reason.NotDropped; said = ap why_in h.answer; reached = (o, overrun u) }
-because w f v (classes.good_ready fd o g u h) = record { why = reason.NotDropped; said = ap why_in h.answer; reached = (o, held fd u g) }
-because w f v (classes.good_unready o g u h) = record { why = reason.NotDropped; said = ap why_in h.answer; reached = (o, lost u g) }
-because w f v (classes.bad_saved fd c o b u s h) = record { why = reason.NotDropped; said = ap why_in h.answer; reached = (o, saved fd c u s b) }
-because w f v (classes.bad_unsaved fd c o b u s h) = record { why = reason.Bad; said = ap why_in h.answer; reached = (o, (unset fd u s, (c, b))) }
-because w f v (classes.bad_unready c o b u h) = record { why = reason.Bad; said = ap why_in h.answer; reached = (o, (unready u, (c, b))) }
+because w f v (classes.few n h) = record { why = Some reason.TooFew; said = ap why_in h.answer; reached = n }
+because w f v (classes.unmatched n m h) = record { why = Some reason.NoMatch; said = ap why_in h.answer; reached = (n, m) }
+because w f v (classes.idle o u h) = record { why = Some reason.UnitIdle; said = ap why_in h.answer; reached = (o, u) }
+because w f v (classes.suspended fd o u h) = record { why = Some reason.UnitSuspended; said = ap why_in h.answer; reached = (o, (fd, u)) }
+because w f v (classes.overrun o u h) = record { why = None; said = ap why_in h.answer; reached = (o, overrun u) }
+because w f v (classes.good_ready fd o g u h) = record { why = None; said = ap why_in h.answer; reached = (o, held fd u g) }
+because w f v (classes.good_unready o g u h) = record { why = None; said = ap why_in h.answer; reached = (o, lost u g) }
+because w f v (classes.bad_saved fd c o b u s h) = record { why = None; said = ap why_in h.answer; reached = (o, saved fd c u s b) }
+because w f v (classes.bad_unsaved fd c o b u s h) = record { why = Some reason.Bad; said = ap why_in h.answer; reached = (o, (unset fd u s, (c, b))) }
+because w f v (classes.bad_unready c o b u h) = record { why = Some reason.Bad; said = ap why_in h.answer; reached = (o, (unready u, (c, b))) }
 
 -- ---- and one that is reached is given
 
-given : (w : World) (f : List ℕ) (v : ℕ) → RightLengths w f → (why : Reason) → Reached why w f v → why_of w f v ≡ why
-given w f v l reason.TooFew n = ap why_in (arrivals.few w f v l n).answer
-given w f v l reason.NoMatch (n, m) = ap why_in (arrivals.unmatched w f v l n m).answer
-given w f v l reason.UnitIdle (o, u) = ap why_in (arrivals.idle w f v l o u).answer
-given w f v l reason.UnitSuspended (o, (fd, u)) = ap why_in (arrivals.suspended w f v fd l o u).answer
-given w f v l reason.Bad (o, (unset fd u s, (c, b))) = ap why_in (arrivals.bad_unsaved w f v fd c l o b u s).answer
-given w f v l reason.Bad (o, (unready u, (c, b))) = ap why_in (arrivals.bad_unready w f v c l o b u).answer
-given w f v l reason.NotDropped (o, overrun u) = ap why_in (arrivals.overrun w f v l o u).answer
-given w f v l reason.NotDropped (o, held fd u g) = ap why_in (arrivals.good_ready w f v fd l o g u).answer
-given w f v l reason.NotDropped (o, lost u g) = ap why_in (arrivals.good_unready w f v l o g u).answer
-given w f v l reason.NotDropped (o, saved fd c u s b) = ap why_in (arrivals.bad_saved w f v fd c l o b u s).answer
+given : (w : World) (f : List ℕ) (v : ℕ) → RightLengths w f → (why : Option Reason) → Reached why w f v → why_of w f v ≡ why
+given w f v l (Some reason.TooFew) n = ap why_in (arrivals.few w f v l n).answer
+given w f v l (Some reason.NoMatch) (n, m) = ap why_in (arrivals.unmatched w f v l n m).answer
+given w f v l (Some reason.UnitIdle) (o, u) = ap why_in (arrivals.idle w f v l o u).answer
+given w f v l (Some reason.UnitSuspended) (o, (fd, u)) = ap why_in (arrivals.suspended w f v fd l o u).answer
+given w f v l (Some reason.Bad) (o, (unset fd u s, (c, b))) = ap why_in (arrivals.bad_unsaved w f v fd c l o b u s).answer
+given w f v l (Some reason.Bad) (o, (unready u, (c, b))) = ap why_in (arrivals.bad_unready w f v c l o b u).answer
+given w f v l None (o, overrun u) = ap why_in (arrivals.overrun w f v l o u).answer
+given w f v l None (o, held fd u g) = ap why_in (arrivals.good_ready w f v fd l o g u).answer
+given w f v l None (o, lost u g) = ap why_in (arrivals.good_unready w f v l o g u).answer
+given w f v l None (o, saved fd c u s b) = ap why_in (arrivals.bad_saved w f v fd c l o b u s).answer
 
 -- both ways, at every arrival that is not refused
-pub exactly : (w : World) (f : List ℕ) (v : ℕ) → RightLengths w f → (why : Reason)
+pub exactly : (w : World) (f : List ℕ) (v : ℕ) → RightLengths w f → (why : Option Reason)
     → (why_of w f v ≡ why → Reached why w f v) × (Reached why w f v → why_of w f v ≡ why)
 exactly w f v l why =
     let b = because w f v (arrivals.arrival_fate w f v l) in (
-      (λ e. subst (λ (y : Reason). Reached y w f v) (sym b.said ∙ e) b.reached),
+      (λ e. subst (λ (y : Option Reason). Reached y w f v) (sym b.said ∙ e) b.reached),
       (λ h. given w f v l why h),
     )
 
@@ -100,25 +101,25 @@ module _ (a : Areas) (d : Device) (f : List ℕ) (v : ℕ) (b : AreBytes a) (h :
   right = right_lengths a d f v b e
 
   -- the number in the answer is that of the reason
-  numbered : reason_in (called (arrive f v) a).answer ≡ reason_number (why_of there f v)
+  numbered : reason_in (called (arrive f v) a).answer ≡ reason_or_0 (why_of there f v)
   numbered = (answer_parts (arrive f v) a d b h e).reason
 
-  pub exactly_on_bytes : (why : Reason)
-      → (reason_in (called (arrive f v) a).answer ≡ reason_number why → Reached why there f v)
-      × (Reached why there f v → reason_in (called (arrive f v) a).answer ≡ reason_number why)
+  pub exactly_on_bytes : (why : Option Reason)
+      → (reason_in (called (arrive f v) a).answer ≡ reason_or_0 why → Reached why there f v)
+      × (Reached why there f v → reason_in (called (arrive f v) a).answer ≡ reason_or_0 why)
   exactly_on_bytes why =
       let x = exactly there f v right why in (
         (λ n. x.0 (one_reason (why_of there f v) why (sym numbered ∙ n))),
-        (λ r. numbered ∙ ap reason_number (x.1 r)),
+        (λ r. numbered ∙ ap reason_or_0 (x.1 r)),
       )
 
   -- and it is one of them
-  pub some_reason : (why : Reason) × ((reason_in (called (arrive f v) a).answer ≡ reason_number why) × Reached why there f v)
+  pub some_reason : (why : Option Reason) × ((reason_in (called (arrive f v) a).answer ≡ reason_or_0 why) × Reached why there f v)
   some_reason = let y = why_of there f v in (y, (numbered, (exactly there f v right y).0 refl))
 
 -- ---- no other call gives one
 
-none_on : (c : Call) (w : World) → IsOther c → (ran c w).outcome.answer.reason ≡ reason.NotDropped
+none_on : (c : Call) (w : World) → IsOther c → (ran c w).outcome.answer.reason ≡ None
 unfolding reset_of attention_of
 none_on reset w o = refl
 none_on attention w o = ap why_in (attention_plain w.device w.memory)
@@ -128,7 +129,7 @@ none_on (turn report) w o = ap why_in (turn_plain w report)
 -- one that is not refused answers as on the state that the record holds
 state_none : (c : Call) (a : Areas) (d : Device) → AreBytes a → Holds a.kept d → is_refused (called c a) ≡ false → IsOther c
     → reason_in (called c a).answer ≡ 0
-state_none c a d b h e o = (answer_parts c a d b h e).reason ∙ ap reason_number (none_on c (world_in d a) o)
+state_none c a d b h e o = (answer_parts c a d b h e).reason ∙ ap reason_or_0 (none_on c (world_in d a) o)
 
 -- reset ignores the record's content
 reset_none : (a : Areas) → AreBytes a → is_refused (called reset a) ≡ false → reason_in (called reset a).answer ≡ 0

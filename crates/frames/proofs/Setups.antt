@@ -4,6 +4,7 @@ use mathlib.Core.Bool.{Bool, true, false}
 use mathlib.Core.List.{List, [], ◌∷◌}
 use Prim.Native.Nat.{ℕ}
 use lib.Dec.{eqb}
+use Rattle.std.specs.Prelude.{Some, None, Option}
 use Rattle.memory.specs.Address.{place}
 use Rattle.memory.specs.Memory.{word_at, word_to}
 use Rattle.memory.specs.declared.RealAddress.{RealAddress}
@@ -31,8 +32,8 @@ use Rattle.chip.specs.Call as calls
 use Rattle.chip.specs.Call.{Call, ran}
 use Rattle.chip.specs.Turn.{served_of, concluded, command_turn, receive_turn, turn_of}
 use Rattle.chip.specs.World.{World, reset_of}
-use Rattle.chip.specs.declared.Served.{Served}
-use Rattle.chip.specs.declared.Served.TheVariants as served
+use Rattle.chip.specs.declared.Unit.{Unit}
+use Rattle.chip.specs.declared.Unit.TheVariants as unit
 use Rattle.calls.specs.Calls.{Areas}
 use Rattle.traces.specs.Areas.{FrameBytes, AreBytes, Holds, world_in}
 use Rattle.traces.specs.Bytes.{called, is_refused}
@@ -86,7 +87,7 @@ begun_keeps : (transmits : Bool) (p : Part) (b : Begun) (word : ℕ) (m : List �
 begun_keeps true p b word m = refl
 begun_keeps false p b word m = refl
 
-module _ (w : World) (report : ℕ) (p : served_of w.device.units ≡ served.CommandUnit) where
+module _ (w : World) (report : ℕ) (p : served_of w.device.units ≡ Some unit.Command) where
   command_after : (c : Cu) → w.device.units.cu ≡ c → SetupAfter w (calls.turn report)
   unfolding turn_of command_turn concluded service begin buffer end sent
   command_after cu.Idle q = kept (calls.turn report) (rw (p, q)) (rw (p, q))
@@ -101,11 +102,11 @@ module _ (w : World) (report : ℕ) (p : served_of w.device.units ≡ served.Com
   command_after (cu.Ending b n) q = kept (calls.turn report) (rw (p, q)) (rw (p, q))
   command_after (cu.Failing b) q = kept (calls.turn report) (rw (p, q)) (rw (p, q))
 
-turn_after : (w : World) (report : ℕ) (s : Served) → served_of w.device.units ≡ s → SetupAfter w (calls.turn report)
+turn_after : (w : World) (report : ℕ) (s : Option Unit) → served_of w.device.units ≡ s → SetupAfter w (calls.turn report)
 unfolding turn_of receive_turn concluded
-turn_after w report served.Neither p = kept (calls.turn report) (rw p) (rw p)
-turn_after w report served.CommandUnit p = command_after w report p w.device.units.cu refl
-turn_after w report served.ReceiveUnit p = kept (calls.turn report) (rw p) (rw p)
+turn_after w report None p = kept (calls.turn report) (rw p) (rw p)
+turn_after w report (Some unit.Command) p = command_after w report p w.device.units.cu refl
+turn_after w report (Some unit.Receive) p = kept (calls.turn report) (rw p) (rw p)
 
 attention_after : (w : World) (i r : Bool) → w.device.units.initialised ≡ i → resets (command_of w) ≡ r → SetupAfter w calls.attention
 unfolding attention_of attention attend attend_by initialise

@@ -7,6 +7,7 @@ use mathlib.Core.Logic.{◌⊎◌, inl, inr}
 use Prim.Native.Nat.{ℕ, suc}
 use lib.Dec.{eqb, ltb}
 use lib.ListN.{length}
+use Rattle.std.specs.Prelude.{Option}
 use Rattle.memory.specs.declared.Offset.{Offset}
 use Rattle.scb.specs.Control.{Code, code_of, start, resume, suspend, abort, other}
 use Rattle.scb.specs.Words.{resets, ruc, cu_number, ru_number, event_bits}
@@ -312,7 +313,7 @@ ready_arrives false true fd j g b =
     comes (ap₂ (λ (x y : Bool). is_held (arrivals.in_ready x y (arrivals.counter_for j))) g b) refl (ap₂ (λ (x y : Bool). x || y) g b)
 ready_arrives false false fd j g b = kept (ap₂ (λ (x y : Bool). is_held (arrivals.in_ready x y (arrivals.counter_for j))) g b)
 
-resources_arrives : (good : Bool) (c : Counter) → is_held (arrivals.in_no_resources good c) ≡ false
+resources_arrives : (good : Bool) (c : Option Counter) → is_held (arrivals.in_no_resources good c) ≡ false
 resources_arrives true c = refl
 resources_arrives false c = refl
 
@@ -328,12 +329,12 @@ arrives false true (ru.Filling s w) j = kept refl
 arrives false true (ru.Closing s free full) j = kept refl
 arrives false true (ru.Lacking s) j = kept refl
 
-in_ready_new : (good saved : Bool) (c : Counter) → of_held (arrivals.in_ready good saved c) ≡ false
+in_ready_new : (good saved : Bool) (c : Option Counter) → of_held (arrivals.in_ready good saved c) ≡ false
 in_ready_new true saved c = refl
 in_ready_new false true c = refl
 in_ready_new false false c = refl
 
-in_none_new : (good : Bool) (c : Counter) → of_held (arrivals.in_no_resources good c) ≡ false
+in_none_new : (good : Bool) (c : Option Counter) → of_held (arrivals.in_no_resources good c) ≡ false
 in_none_new true c = refl
 in_none_new false c = refl
 

@@ -1,5 +1,5 @@
 -- What an arrival that is not refused can come to, and for which frames: 01, "Arrival and storing". Assumes nothing.
-use Rattle.std.specs.Prelude.{◌≡◌, Bool, true, false, List, [], ◌∷◌, ℕ, ◌+◌, ◌%◌, ◌≤◌, ◌<◌, length, take, drop}
+use Rattle.std.specs.Prelude.{◌≡◌, Bool, true, false, List, [], ◌∷◌, ℕ, ◌+◌, ◌%◌, ◌≤◌, ◌<◌, length, take, drop, Option, Some, None}
 use Rattle.memory.specs.Memory.{word_at, bytes_at}
 use Rattle.memory.specs.Size.{size_allowed}
 use Rattle.memory.specs.declared.Offset.{Offset}
@@ -67,10 +67,10 @@ pub record Good (w : World) (f : List ℕ) (v : ℕ) : Type 0 where
   pub verdict : v ≡ 0
 
 -- bad, and the counter that it adds to. Short: no counter whatever the verdict. 1 is the CRC verdict, any other but 0 misaligned
-pub data Bad (w : World) (f : List ℕ) (v : ℕ) : Counter → Type 0 where
-  short : Short w f → Bad w f v counter.Uncounted
-  crc : (settings_of w).minimum ≤ length f + fcs → v ≡ 1 → Bad w f v counter.Crc
-  misaligned : (settings_of w).minimum ≤ length f + fcs → 2 ≤ v → Bad w f v counter.Alignment
+pub data Bad (w : World) (f : List ℕ) (v : ℕ) : Option Counter → Type 0 where
+  short : Short w f → Bad w f v None
+  crc : (settings_of w).minimum ≤ length f + fcs → v ≡ 1 → Bad w f v (Some counter.Crc)
+  misaligned : (settings_of w).minimum ≤ length f + fcs → 2 ≤ v → Bad w f v (Some counter.Alignment)
 
 -- ---- what it comes to
 
@@ -85,15 +85,15 @@ abbrev pub in_scb : World → ℕ → ℕ
 in_scb w field = of_scb w.device.units field
 
 -- +8 CRCERRS, +10 ALNERRS, +12 RSCERRS, +14 OVRNERRS; where there is none, memory is as it was
-abbrev pub Counts : Counter → World → List ℕ → Type 0
-Counts counter.Uncounted w after = after ≡ w.memory
-Counts counter.Crc w after = OneMore (in_scb w 8) w.memory after
-Counts counter.Alignment w after = OneMore (in_scb w 10) w.memory after
-Counts counter.Resources w after = OneMore (in_scb w 12) w.memory after
-Counts counter.Overruns w after = OneMore (in_scb w 14) w.memory after
+abbrev pub Counts : Option Counter → World → List ℕ → Type 0
+Counts None w after = after ≡ w.memory
+Counts (Some counter.Crc) w after = OneMore (in_scb w 8) w.memory after
+Counts (Some counter.Alignment) w after = OneMore (in_scb w 10) w.memory after
+Counts (Some counter.Resources) w after = OneMore (in_scb w 12) w.memory after
+Counts (Some counter.Overruns) w after = OneMore (in_scb w 14) w.memory after
 
 -- the frame is not held: the record and both areas are as they were, the answer is the reason said and no more, and memory changes by the counter said
-pub record NotHeld (w : World) (x : Fate) (why : Reason) (c : Counter) (r : Ran) : Type 0 where
+pub record NotHeld (w : World) (x : Fate) (why : Option Reason) (c : Option Counter) (r : Ran) : Type 0 where
   pub fates : r.outcome.fates ≡ x ∷ []
   pub device : r.outcome.device ≡ w.device
   pub answer : r.outcome.answer ≡ arrived why
@@ -103,22 +103,22 @@ pub record NotHeld (w : World) (x : Fate) (why : Reason) (c : Counter) (r : Ran)
 
 -- it is held, before the descriptor that was next: its bytes enter the holding area, bytes that it doesn't reach stay; of the record only
 -- the receive unit changes, which keeps how the frame was judged; no reason is given, and memory changes by the counter said
-pub record IsHeld (w : World) (f : List ℕ) (fd : Offset) (judged : Frame) (c : Counter) (r : Ran) : Type 0 where
+pub record IsHeld (w : World) (f : List ℕ) (fd : Offset) (judged : Frame) (c : Option Counter) (r : Ran) : Type 0 where
   pub fates : r.outcome.fates ≡ fate.Held c ∷ []
   pub device : r.outcome.device ≡ with_units w.device (with_ru w.device.units (ru.Held fd judged false))
-  pub answer : r.outcome.answer ≡ arrived reason.NotDropped
+  pub answer : r.outcome.answer ≡ arrived None
   pub entered : take (length f) r.holding ≡ f
   pub stayed : drop (length f) r.holding ≡ drop (length f) w.holding
   pub outgoing : r.outgoing ≡ w.outgoing
   pub memory : Counts c w r.memory
 
 -- a bad frame without a counter is short
-abbrev pub short_by : Counter → Bool
-short_by counter.Uncounted = true
-short_by counter.Crc = false
-short_by counter.Alignment = false
-short_by counter.Resources = false
-short_by counter.Overruns = false
+abbrev pub short_by : Option Counter → Bool
+short_by None = true
+short_by (Some counter.Crc) = false
+short_by (Some counter.Alignment) = false
+short_by (Some counter.Resources) = false
+short_by (Some counter.Overruns) = false
 
 -- how a frame is judged: once, by the settings at arrival
 abbrev pub judged_as : World → List ℕ → Verdict → Bool → Frame
@@ -129,22 +129,22 @@ judged_as w f v is_short =
 
 pub data ArrivalFate (w : World) (f : List ℕ) (v : ℕ) (r : Ran) : Type 0 where
   -- shorter than the header, dropped. No match, dropped. RU Idle or Suspended, dropped
-  few : length f < header_in w → NotHeld w fate.TooFew reason.TooFew counter.Uncounted r → ArrivalFate w f v r
-  unmatched : header_in w ≤ length f → is_ours w f ≡ false → NotHeld w fate.NoMatch reason.NoMatch counter.Uncounted r → ArrivalFate w f v r
-  idle : Ours w f → unit_of w ≡ ru.Idle → NotHeld w fate.UnitIdle reason.UnitIdle counter.Uncounted r → ArrivalFate w f v r
-  suspended : (fd : Offset) → Ours w f → unit_of w ≡ ru.Suspended fd → NotHeld w fate.UnitSuspended reason.UnitSuspended counter.Uncounted r → ArrivalFate w f v r
+  few : length f < header_in w → NotHeld w fate.TooFew (Some reason.TooFew) None r → ArrivalFate w f v r
+  unmatched : header_in w ≤ length f → is_ours w f ≡ false → NotHeld w fate.NoMatch (Some reason.NoMatch) None r → ArrivalFate w f v r
+  idle : Ours w f → unit_of w ≡ ru.Idle → NotHeld w fate.UnitIdle (Some reason.UnitIdle) None r → ArrivalFate w f v r
+  suspended : (fd : Offset) → Ours w f → unit_of w ≡ ru.Suspended fd → NotHeld w fate.UnitSuspended (Some reason.UnitSuspended) None r → ArrivalFate w f v r
   -- a frame already held: OVRNERRS, which is no reason
-  overrun : Ours w f → is_holding (unit_of w) ≡ true → NotHeld w fate.Overrun reason.NotDropped counter.Overruns r → ArrivalFate w f v r
+  overrun : Ours w f → is_holding (unit_of w) ≡ true → NotHeld w fate.Overrun None (Some counter.Overruns) r → ArrivalFate w f v r
   -- a good one is held in Ready, else RSCERRS, which is none either
   good_ready : (fd : Offset) → Ours w f → Good w f v → unit_of w ≡ ru.Ready fd
-      → IsHeld w f fd (judged_as w f verdict.Good false) counter.Uncounted r
+      → IsHeld w f fd (judged_as w f verdict.Good false) None r
       → ArrivalFate w f v r
-  good_unready : Ours w f → Good w f v → unit_of w ≡ ru.NoResources → NotHeld w fate.NoResources reason.NotDropped counter.Resources r → ArrivalFate w f v r
+  good_unready : Ours w f → Good w f v → unit_of w ≡ ru.NoResources → NotHeld w fate.NoResources None (Some counter.Resources) r → ArrivalFate w f v r
   -- a bad one is held only in Ready with save-bad set; else it is dropped, counted or not
-  bad_saved : (fd : Offset) (c : Counter) → Ours w f → Bad w f v c → unit_of w ≡ ru.Ready fd → (settings_of w).savebad ≡ true
+  bad_saved : (fd : Offset) (c : Option Counter) → Ours w f → Bad w f v c → unit_of w ≡ ru.Ready fd → (settings_of w).savebad ≡ true
       → IsHeld w f fd (judged_as w f (verdict_of v) (short_by c)) c r
       → ArrivalFate w f v r
-  bad_unsaved : (fd : Offset) (c : Counter) → Ours w f → Bad w f v c → unit_of w ≡ ru.Ready fd → (settings_of w).savebad ≡ false
-      → NotHeld w (fate.Bad c) reason.Bad c r
+  bad_unsaved : (fd : Offset) (c : Option Counter) → Ours w f → Bad w f v c → unit_of w ≡ ru.Ready fd → (settings_of w).savebad ≡ false
+      → NotHeld w (fate.Bad c) (Some reason.Bad) c r
       → ArrivalFate w f v r
-  bad_unready : (c : Counter) → Ours w f → Bad w f v c → unit_of w ≡ ru.NoResources → NotHeld w (fate.Bad c) reason.Bad c r → ArrivalFate w f v r
+  bad_unready : (c : Option Counter) → Ours w f → Bad w f v c → unit_of w ≡ ru.NoResources → NotHeld w (fate.Bad c) (Some reason.Bad) c r → ArrivalFate w f v r

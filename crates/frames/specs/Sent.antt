@@ -1,5 +1,5 @@
 -- What a Transmit's turns make of the outgoing area, and what its end tells: 01, "Turns", as 02, Wish 4, mends it. Assumes nothing.
-use Rattle.std.specs.Prelude.{◌≡◌, true, cond, List, [], ◌∷◌, ◌++◌, ℕ, ◌+◌, take, drop}
+use Rattle.std.specs.Prelude.{◌≡◌, true, cond, List, [], ◌∷◌, ◌++◌, ℕ, ◌+◌, take, drop, Some}
 use Rattle.memory.specs.Address.{place, offset_at, is_none}
 use Rattle.memory.specs.Memory.{word_at, bytes_at, word_to}
 use Rattle.memory.specs.declared.Offset.{Offset}
@@ -18,14 +18,14 @@ use Rattle.command.specs.Service.{service}
 use Rattle.chip.specs.Call.{turn, ran}
 use Rattle.chip.specs.Turn.{served_of}
 use Rattle.chip.specs.World.{World}
-use Rattle.chip.specs.declared.Served.TheVariants as served
+use Rattle.chip.specs.declared.Unit.TheVariants as unit
 use Rattle.frames.specs.Arrival.{settings_of, length_in}
 
 -- ---- its begin
 
 -- the command unit is served, and the block at o, which is next, is a Transmit's
 pub record BeginsTransmit (w : World) (o : Offset) : Type 0 where
-  pub served : served_of w.device.units ≡ served.CommandUnit
+  pub served : served_of w.device.units ≡ Some unit.Command
   pub waiting : w.device.units.cu ≡ cu.Waiting o
   pub transmits : cmd (word_at w.memory (place w.device.units.base o 2)) ≡ 4
 
@@ -47,7 +47,7 @@ pub record HeaderPlaced (w : World) (o : Offset) (out : List ℕ) : Type 0 where
 
 -- the command unit is served, and a Transmit is at the descriptor that k says, whose buffer fits
 pub record TakesBuffer (w : World) (b : Begun) (k : Walk) : Type 0 where
-  pub served : served_of w.device.units ≡ served.CommandUnit
+  pub served : served_of w.device.units ≡ Some unit.Command
   pub sending : w.device.units.cu ≡ cu.Sending b k
   pub fits : fits (descriptor_at w.device.units.base k.next w.memory) k ≡ true
 
@@ -73,7 +73,7 @@ pub record BufferTaken (w : World) (k : Walk) (out : List ℕ) : Type 0 where
 
 -- the command unit is served, and a Transmit of n bytes is before its end
 pub record EndsTransmit (w : World) (b : Begun) (n : ℕ) : Type 0 where
-  pub served : served_of w.device.units ≡ served.CommandUnit
+  pub served : served_of w.device.units ≡ Some unit.Command
   pub ending : w.device.units.cu ≡ cu.Ending b n
 
 -- as the line reports: its length is told if it was sent, of a frame of no bytes 0 too; its status is what the unit writes, to the block, and the turn adds

@@ -1,5 +1,5 @@
 -- What a call makes of what the commands set up: settings, own address and filter: 01, "Turns". Assumes nothing.
-use Rattle.std.specs.Prelude.{◌≡◌, Bool, true, false, ◌&&◌, ℕ}
+use Rattle.std.specs.Prelude.{◌≡◌, Bool, true, false, ◌&&◌, ℕ, Some}
 use Rattle.scb.specs.Words.{resets}
 use Rattle.device.specs.State.{fresh}
 use Rattle.device.specs.declared.Action.{Action}
@@ -11,7 +11,7 @@ use Rattle.actions.specs.Setup.{setup_of}
 use Rattle.chip.specs.Call.{Call, reset, attention, arrive, turn, ran}
 use Rattle.chip.specs.Turn.{served_of, is_command, turn_of}
 use Rattle.chip.specs.World.{World, afterwards}
-use Rattle.chip.specs.declared.Served.TheVariants as served
+use Rattle.chip.specs.declared.Unit.TheVariants as unit
 use Rattle.frames.specs.Held.{command_of}
 
 -- what a turn leaves
@@ -37,7 +37,7 @@ sets_up (turn report) w = is_command (served_of w.device.units) && acts w.device
 
 -- a turn that ends the command a, begun as b
 pub record EndsAction (w : World) (b : Begun) (a : Action) : Type 0 where
-  pub served : served_of w.device.units ≡ served.CommandUnit
+  pub served : served_of w.device.units ≡ Some unit.Command
   pub begun : w.device.units.cu ≡ cu.Acting b a
 
 -- what a call makes of the setup: nothing; or all is fresh; or what the action makes of it

@@ -8,16 +8,16 @@ use native.Mathlib.Omega.{arith}
 use lib.Count.{ones}
 use lib.Dec.{T, lit≤}
 use lib.ListN.{length, get_or, replicate, length-replicate}
+use Rattle.std.specs.Prelude.{None}
 use Rattle.memory.specs.Memory.{digits, word_to, apply}
 use Rattle.memory.specs.Size.{size_allowed}
 use Rattle.memory.proofs.Bytes.{Bytes, bytes_nil, put_bytes_lem, digits_bytes}
 use Rattle.scb.specs.Words.{bits_at}
 use Rattle.device.specs.Limits.{holding_size, outgoing_size, record_size}
-use Rattle.device.specs.Numbers.{refusal_number}
+use Rattle.device.specs.Numbers.{refusal_or_0}
 use Rattle.device.specs.State.{held_in}
 use Rattle.device.specs.declared.Answer.{Answer}
 use Rattle.device.specs.declared.Device.{Device}
-use Rattle.device.specs.declared.Refusal.TheVariants as refusal
 use Rattle.numerals.specs.Places as places
 use Rattle.phases.specs.Forms.{form_number}
 use Rattle.phases.specs.Phases.{cu_word, ru_word}
@@ -136,8 +136,8 @@ pub record Good (d : Device) : Type 0 where
   pub range : in_range d ≡ true
   pub wide : Wide d
 
-number_zero : (a : Answer) → a.number ≡ refusal.Accepted → number (answer_number a) ≡ 0
-number_zero a e = told_number a ∙ ap refusal_number e
+number_zero : (a : Answer) → a.refusal ≡ None → number (answer_number a) ≡ 0
+number_zero a e = told_number a ∙ ap refusal_or_0 e
 
 sent_bytes : (h : List ℕ) → Bytes h → Bytes (sent_beside h)
 sent_bytes h b = filled_bytes (get_or h 0 0) outgoing_size (b.each 0)

@@ -8,9 +8,9 @@ use native.Mathlib.Omega.{arith}
 use borrow.Author.Tests.{eqb-true}
 use lib.Dec.{eqb, lit≤}
 use lib.ListN.{length}
+use Rattle.std.specs.Prelude.{Option, Some, None}
 use Rattle.memory.proofs.Bytes.{Bytes}
 use Rattle.device.specs.Limits.{record_size}
-use Rattle.device.specs.Numbers.{refusal_number}
 use Rattle.device.specs.State.{is_holding, held_in}
 use Rattle.device.specs.declared.Device.{Device}
 use Rattle.device.specs.declared.Fate.{Fate}
@@ -59,16 +59,11 @@ pub record Taken (run : World → Ran) (a : Areas) (c : Called) : Type 0 where
 taken_on : (d : Found) (run : World → Ran) (a : Areas) → decode_of a.kept ≡ d → is_refused (called_on run a d) ≡ false
     → Taken run a (called_on run a (decode_of a.kept))
 taken_on (is.Units u) run a e n = record { decoded = rw e; leaves = rw e }
-taken_on is.Foreign run a e n = absurd (true≢false (sym (says_refused refusal.Foreign a refl) ∙ n))
+taken_on is.Foreign run a e n = absurd (true≢false (sym (says_refused refusal.Foreign a) ∙ n))
 
-taken_if : (x : Bool) (r : Refusal) (run : World → Ran) (a : Areas) → eqb (refusal_number r) 0 ≡ x
-    → is_refused (cond x (called_on run a (decode_of a.kept)) (refused r a)) ≡ false
-    → Taken run a (cond x (called_on run a (decode_of a.kept)) (refused r a))
-taken_if true r run a e n = taken_on (decode_of a.kept) run a refl n
-taken_if false r run a e n = absurd (true≢false (sym (says_refused r a e) ∙ n))
-
-taken_by : (r : Refusal) (run : World → Ran) (a : Areas) → is_refused (called_by r run a) ≡ false → Taken run a (called_by r run a)
-taken_by r run a n = taken_if (eqb (refusal_number r) 0) r run a refl n
+taken_by : (r : Option Refusal) (run : World → Ran) (a : Areas) → is_refused (called_by r run a) ≡ false → Taken run a (called_by r run a)
+taken_by None run a n = taken_on (decode_of a.kept) run a refl n
+taken_by (Some r) run a n = absurd (true≢false (sym (says_refused r a) ∙ n))
 
 not_refused : (b : Bool) → not b ≡ true → b ≡ false
 not_refused true e = absurd (false≢true e)

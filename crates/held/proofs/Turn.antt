@@ -5,6 +5,7 @@ use mathlib.Core.List.{List, [], ◌∷◌}
 use Prim.Native.Nat.{ℕ}
 use lib.Dec.{ltb}
 use lib.ListN.{length}
+use Rattle.std.specs.Prelude.{Option, Some, None}
 use Rattle.device.specs.Header.{header}
 use Rattle.device.specs.State.{is_holding, held_in, cu_works, ru_works}
 use Rattle.device.proofs.Laws.{some_held}
@@ -19,8 +20,8 @@ use Rattle.receive.specs.Service as receive_service
 use Rattle.receive.specs.Arrival as arrivals
 use Rattle.chip.specs.World.{World, Ran}
 use Rattle.chip.specs.Arrival as chip_arrival
-use Rattle.chip.specs.declared.Served.{Served}
-use Rattle.chip.specs.declared.Served.TheVariants as served
+use Rattle.chip.specs.declared.Unit.{Unit}
+use Rattle.chip.specs.declared.Unit.TheVariants as unit
 use Rattle.chip.specs.Turn.{served_by, served_of, is_receive, concluded, command_turn, receive_turn, turn_by, turn_of}
 use Rattle.held.specs.Held.{frames_in}
 use Rattle.held.proofs.Service.{left_of, Serving, serves}
@@ -56,10 +57,10 @@ passes w report = record { unit = refl; fates = refl; last = refl }
 abbrev pub is_receiving : Units → Bool
 is_receiving u = is_receive (served_of u)
 
-received_by : (s : Served) (w : World) (report : ℕ) → is_receive s ≡ true → turn_by s w report ≡ receive_turn w
-received_by served.Neither w report h = absurd (false≢true h)
-received_by served.CommandUnit w report h = absurd (false≢true h)
-received_by served.ReceiveUnit w report h = refl
+received_by : (s : Option Unit) (w : World) (report : ℕ) → is_receive s ≡ true → turn_by s w report ≡ receive_turn w
+received_by None w report h = absurd (false≢true h)
+received_by (Some unit.Command) w report h = absurd (false≢true h)
+received_by (Some unit.Receive) w report h = refl
 
 pub turn_received : (w : World) (report : ℕ) → is_receiving w.device.units ≡ true → turn_of w report ≡ receive_turn w
 unfolding turn_of

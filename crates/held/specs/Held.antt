@@ -1,6 +1,6 @@
 -- Demand 3, second half, over states: a held frame is stored or counted within so many turns. Assumes nothing.
-use Rattle.std.specs.Prelude.{◌≡◌, Bool, true, false, ◌||◌, List, [], ◌∷◌, ◌++◌, ℕ, ◌≤◌, ◌<◌}
-use Rattle.device.specs.Answers.{counter_of, is_stored, is_counter}
+use Rattle.std.specs.Prelude.{◌≡◌, Bool, true, false, ◌||◌, List, [], ◌∷◌, ◌++◌, ℕ, ◌≤◌, ◌<◌, is_some}
+use Rattle.device.specs.Answers.{counter_of, is_stored}
 use Rattle.device.specs.State.{held_in, is_good}
 use Rattle.device.specs.declared.Fate.{Fate}
 use Rattle.device.specs.declared.Frame.{Frame}
@@ -24,7 +24,7 @@ is_to_hold f = is_good f || f.savebad
 
 -- stored or counted, or both
 abbrev pub is_settled : Fate → Bool
-is_settled f = is_stored f || is_counter (counter_of f)
+is_settled f = is_stored f || is_some (counter_of f)
 
 -- ---- a trace
 

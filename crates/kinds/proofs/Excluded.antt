@@ -179,7 +179,7 @@ module _ (chip : Chip) where
 
   module _ (x : Device) (said : Ran) (r : Called) (p : AsDefined said r) where
     nothing_invented : Invented x said r → ⊥
-    nothing_invented (another_counter u s k c differs) = differs (ap (λ (m : List ℕ). word_at m (of_scb u (counter_place k))) p.memory)
+    nothing_invented (another_counter u s k differs) = differs (ap (λ (m : List ℕ). word_at m (of_scb u (counter_place k))) p.memory)
     nothing_invented (another_edge differs) = differs (ap from_edge p.answer)
 
   pub invents_lacks_2 : Invents chip → Demand2 chip → ⊥

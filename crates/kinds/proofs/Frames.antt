@@ -4,6 +4,7 @@ use mathlib.Core.Bool.{true}
 use mathlib.Core.List.{List, [], ◌∷◌, ◌++◌}
 use Prim.Native.Nat.{ℕ}
 use lib.ListN.{length}
+use Rattle.std.specs.Prelude.{Option}
 use Rattle.memory.proofs.Power.{size_allowed_lem}
 use Rattle.device.specs.declared.Counter.{Counter}
 use Rattle.chip.specs.Call.{Call, reset, attention, arrive, turn}
@@ -54,7 +55,7 @@ acceptable_parts (host m h out ∷ xs) ys a =
     let parts = acceptable_parts xs ys a.1 in
     ((a.0, parts.0), parts.1)
 
-data_said : (before : List Event) (bs : List ℕ) (v : ℕ) (c : Counter) (meanwhile : List Event) (report : ℕ) (rest : List Event) (w : World)
+data_said : (before : List Event) (bs : List ℕ) (v : ℕ) (c : Option Counter) (meanwhile : List Event) (report : ℕ) (rest : List Event) (w : World)
     → AllAcceptable (before ++ (call (arrive bs v) ∷ rest)) → Right w → StoredBytes bs v c meanwhile report (run step before w)
 data_said before bs v c meanwhile report rest w a r h m e =
     let parts = acceptable_parts before (call (arrive bs v) ∷ rest) a in

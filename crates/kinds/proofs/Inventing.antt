@@ -124,7 +124,7 @@ counting_is_of_its_kind =
       outgoing = sent_area;
       acceptable = fresh_acceptable;
       lent = fresh_handed;
-      invented = another_counter fresh.units (inl refl) counter.Overruns refl (λ e. count_differs freshly fresh_acceptable fresh_handed e);
+      invented = another_counter fresh.units (inl refl) counter.Overruns (λ e. count_differs freshly fresh_acceptable fresh_handed e);
     }
 
 -- ---- along a trace, of one turn
@@ -168,7 +168,7 @@ counting_in_trace =
       all_acceptable = (sevenths, lit≤ tt, tt);
       scb = fresh;
       before_or_after = inl refl;
-      invented = another_count counter.Overruns refl (λ e. count_differs freshly fresh_acceptable fresh_handed e);
+      invented = another_count counter.Overruns (λ e. count_differs freshly fresh_acceptable fresh_handed e);
     }
 
 -- ---- in the run of a list: two NOPs, and the first turn after the start
@@ -219,7 +219,7 @@ counting_along =
       world = waits;
       comes = two_run 7 (omega arith);
       invented =
-          another_count counter.Overruns refl
+          another_count counter.Overruns
           (λ e.
           count_differs begun after_acceptable after_handed
           (same_place _ ∙ ap (λ (a : Areas). overruns idle (counting.calls tt (turn 7) a).areas.memory) (sym after_lent) ∙ e ∙ sym (same_place _)));
@@ -298,5 +298,5 @@ counting_while_held =
       more = turns_of (replicate 131 0);
       world = holds;
       comes = held_run;
-      invented = another_count counter.Overruns refl (λ e. count_differs holds holds_acceptable holds_handed e);
+      invented = another_count counter.Overruns (λ e. count_differs holds holds_acceptable holds_handed e);
     }

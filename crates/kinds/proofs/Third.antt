@@ -173,7 +173,7 @@ module _ (chip : Chip) where
 -- all bytes and answers are the definitions': nothing is invented
 pub none_along : (d : Device) (after : Areas) (answers : List ℕ) (w : World) (said : List ℕ) → after ≡ shown w → answers ≡ said
     → InventedAlong d after answers w said → ⊥
-none_along d after answers w said p q (another_count k c differs) =
+none_along d after answers w said p q (another_count k differs) =
     differs (ap (λ (a : Areas). word_at a.memory (of_scb d.units (counter_place k))) p)
 none_along d after answers w said p q (another_edges differs) = differs (ap (map from_edge) q)
 

@@ -1,5 +1,5 @@
 -- Demand 2's sentences on frames, of an arbitrary chip: what becomes of frames in its own run is what they say. Assumes nothing.
-use Rattle.std.specs.Prelude.{◌≡◌, true, List, [], ◌∷◌, ◌++◌, map, ℕ, ◌+◌, ◌<◌}
+use Rattle.std.specs.Prelude.{◌≡◌, true, List, [], ◌∷◌, ◌++◌, map, ℕ, ◌+◌, ◌<◌, Option}
 use Rattle.device.specs.declared.Counter.{Counter}
 use Rattle.device.specs.declared.Fate.TheVariants as fate
 use Rattle.chip.specs.Call.{Call, reset, attention, arrive, turn, ran}
@@ -42,7 +42,7 @@ abbrev pub still_after : List Event → World → List Noted
 still_after es w = still (run advance (deeds_in es) (opening w))
 
 -- a frame arrives in the world w and is held; meanwhile no call loses it or ends it, and the turn that comes then ends it. What is stored are its bytes
-abbrev pub StoredBytes : List ℕ → ℕ → Counter → List Event → ℕ → World → Type 0
+abbrev pub StoredBytes : List ℕ → ℕ → Option Counter → List Event → ℕ → World → Type 0
 StoredBytes bs v c meanwhile report w =
     let held = step (call (arrive bs v)) w in
     (ran (arrive bs v) w).outcome.fates ≡ fate.Held c ∷ [] → AllMay Staying step meanwhile held
@@ -62,7 +62,7 @@ pub record FramesAsSaid (es : List Event) (w : World) : Type 0 where
   pub accounted : names_of (ended_over es w) ++ still_after es w ≡ held_over es w
   pub fated : AllProper ⊥ (deeds_in es) (opening w)
   -- "held to be stored": what the buffers get of one that arrived, and what its end writes, are its own bytes, while the host keeps the holding area
-  pub stored : (before : List Event) (bs : List ℕ) (v : ℕ) (c : Counter) (meanwhile : List Event) (report : ℕ) (after : List Event)
+  pub stored : (before : List Event) (bs : List ℕ) (v : ℕ) (c : Option Counter) (meanwhile : List Event) (report : ℕ) (after : List Event)
       → es ≡ before ++ (call (arrive bs v) ∷ (meanwhile ++ (call (turn report) ∷ after)))
       → StoredBytes bs v c meanwhile report (run step before w)
 

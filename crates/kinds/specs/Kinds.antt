@@ -4,7 +4,6 @@ use Rattle.memory.specs.Address.{place}
 use Rattle.memory.specs.Memory.{word_at}
 use Rattle.memory.specs.declared.Offset.{Offset}
 use Rattle.scb.specs.Words.{bit}
-use Rattle.device.specs.Answers.{is_counter}
 use Rattle.device.specs.Numbers.{counter_place}
 use Rattle.device.specs.declared.Action.TheVariants as action
 use Rattle.device.specs.declared.Begun.{Begun}
@@ -154,7 +153,7 @@ from_edge answer = answer / 2 ^ 32
 
 -- a counter's word, or the edge, or what stands above it, is not what the definitions leave
 pub data Invented (d : Device) (said : Ran) (r : Called) : Type 0 where
-  another_counter : (u : Units) → ScbOf d said u → (k : Counter) → is_counter k ≡ true
+  another_counter : (u : Units) → ScbOf d said u → (k : Counter)
       → (word_at r.areas.memory (of_scb u (counter_place k)) ≡ word_at said.memory (of_scb u (counter_place k)) → ⊥) → Invented d said r
   another_edge : (from_edge r.answer ≡ from_edge (answer_number said.outcome.answer) → ⊥) → Invented d said r
 
@@ -172,7 +171,7 @@ pub record Invents (chip : Chip) : Type 0 where
 -- the same in the run of a list, as demand 3 has it, amid turns, arriving frames, host writes and refused calls: after some of them a counter, or
 -- along them an edge, or what stands above it, is not what the definitions leave
 pub data InventedAlong (d : Device) (after : Areas) (answers : List ℕ) (w : World) (said : List ℕ) : Type 0 where
-  another_count : (k : Counter) → is_counter k ≡ true
+  another_count : (k : Counter)
       → (word_at after.memory (of_scb d.units (counter_place k)) ≡ word_at w.memory (of_scb d.units (counter_place k)) → ⊥)
       → InventedAlong d after answers w said
   another_edges : (map from_edge answers ≡ map from_edge said → ⊥) → InventedAlong d after answers w said

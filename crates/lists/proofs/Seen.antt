@@ -3,6 +3,7 @@ use mathlib.Core.Path.{◌≡◌, refl, sym, ap, subst}
 use mathlib.Core.Bool.{Bool, true, false, ◌||◌, false≢true}
 use mathlib.Core.List.{List, [], ◌∷◌, ◌++◌, append_assoc, append-nil}
 use Prim.Native.Nat.{ℕ}
+use Rattle.std.specs.Prelude.{Option, Some, None}
 use Rattle.memory.specs.Memory.{apply}
 use Rattle.scb.specs.Words.{raise, any_of}
 use Rattle.scb.specs.declared.Events.{Events}
@@ -13,8 +14,8 @@ use Rattle.command.specs.Begin.{begin}
 use Rattle.command.specs.Buffer.{buffer}
 use Rattle.command.specs.Part.{Part, part_of}
 use Rattle.command.specs.Service.{service_by, service}
-use Rattle.chip.specs.declared.Served.{Served}
-use Rattle.chip.specs.declared.Served.TheVariants as served
+use Rattle.chip.specs.declared.Unit.{Unit}
+use Rattle.chip.specs.declared.Unit.TheVariants as unit
 use Rattle.attention.specs.Attention.{attend_by, attend, initialise, attention_by}
 use Rattle.attention.specs.Attention as attentions
 use Rattle.chip.specs.Attention.{attention_of}
@@ -42,10 +43,10 @@ raised_noted (cu.Failing b) p m r = refl
 
 -- ---- a turn that goes to the command unit
 
-goes : (s : Served) (w : World) (r : ℕ) → is_command s ≡ true → command_turn w r ≡ turn_by s w r
-goes served.Neither w r h = absurd (false≢true h)
-goes served.CommandUnit w r h = refl
-goes served.ReceiveUnit w r h = absurd (false≢true h)
+goes : (s : Option Unit) (w : World) (r : ℕ) → is_command s ≡ true → command_turn w r ≡ turn_by s w r
+goes None w r h = absurd (false≢true h)
+goes (Some unit.Command) w r h = refl
+goes (Some unit.Receive) w r h = absurd (false≢true h)
 
 command_turn_lem : (w : World) (r : ℕ) → command_next w.device.units ≡ true → command_turn w r ≡ ran (turn r) w
 unfolding turn_of
@@ -90,14 +91,14 @@ frames_noted (cu.Ending b n) p m r = sym (append-nil _)
 frames_noted (cu.Failing b) p m r = sym (append-nil _)
 
 -- only the command unit's turns send
-abbrev noted_by : Served → World → ℕ → List Note
+abbrev noted_by : Option Unit → World → ℕ → List Note
 noted_by s w r = at_service machine true (is_command s) (note_by w.device.units.cu (part_of w.device w.outgoing) w.memory r) []
 
-turn_frames : (s : Served) (w : World) (r : ℕ) → frame_of (turn_by s w r).outcome.answer.length (turn_by s w r).outgoing ≡ frames_of (noted_by s w r)
+turn_frames : (s : Option Unit) (w : World) (r : ℕ) → frame_of (turn_by s w r).outcome.answer.length (turn_by s w r).outgoing ≡ frames_of (noted_by s w r)
 unfolding command_turn receive_turn concluded service
-turn_frames served.Neither w r = refl
-turn_frames served.CommandUnit w r = frames_noted w.device.units.cu (part_of w.device w.outgoing) w.memory r
-turn_frames served.ReceiveUnit w r = refl
+turn_frames None w r = refl
+turn_frames (Some unit.Command) w r = frames_noted w.device.units.cu (part_of w.device w.outgoing) w.memory r
+turn_frames (Some unit.Receive) w r = refl
 
 attend_none : (resets : Bool) (d : Device) (command : ℕ) (m : List ℕ) → (attend_by resets d command m).outcome.answer.length ≡ 0
 unfolding attend_by

@@ -5,7 +5,7 @@ use mathlib.Core.List.{◌++◌}
 use Prim.Native.Nat.{ℕ, ◌%◌, ◌^◌, ◌<◌}
 use native.Mathlib.Omega.{arith}
 use Rattle.scb.specs.Words.{one}
-use Rattle.device.specs.Numbers.{refusal_number, reason_number}
+use Rattle.device.specs.Numbers.{refusal_or_0, reason_or_0}
 use Rattle.device.specs.declared.Answer.{Answer}
 use Rattle.calls.specs.Answer.{answer_number, with_turns, turns_taken}
 use Rattle.calls.proofs.Answer.{told, told_number_of_run}
@@ -14,8 +14,8 @@ use Rattle.texts.specs.Texts.{decimal, further_text, reason_text, answer_text}
 
 pub answer_printed : (a : Answer) (taken : ℕ) → a.length < 65536 → taken < 65536
     → answer_text (with_turns (answer_number a) taken)
-    ≡ decimal (refusal_number a.number) ++ codes " " ++ decimal a.length ++ codes " " ++ decimal (one a.edge) ++ further_text taken
-    ++ reason_text (reason_number a.reason) ++ codes "\n"
+    ≡ decimal (refusal_or_0 a.refusal) ++ codes " " ++ decimal a.length ++ codes " " ++ decimal (one a.edge) ++ further_text taken
+    ++ reason_text (reason_or_0 a.reason) ++ codes "\n"
 unfolding answer_text
 answer_printed a taken l t =
     let p = told a taken l in

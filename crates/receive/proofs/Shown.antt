@@ -10,7 +10,7 @@ use Rattle.memory.specs.Memory.{byte_at, put_byte, bytes_at, put_bytes, value, d
 use Rattle.scb.specs.Words.{bits_at, one}
 use Rattle.device.specs.Answers.{counter_of, counts, is_held, reason_of}
 use Rattle.device.specs.Change.{with_ru, with_settings}
-use Rattle.device.specs.Numbers.{counter_place, verdict_of, reason_number}
+use Rattle.device.specs.Numbers.{verdict_of, reason_or_0}
 use Rattle.device.specs.State.{fresh_form, fresh_units}
 use Rattle.device.specs.declared.Fate.{Fate}
 use Rattle.device.specs.declared.Form.{Form}
@@ -21,6 +21,7 @@ use Rattle.device.specs.declared.Settings.{Settings}
 use Rattle.device.specs.declared.Storing.{Storing}
 use Rattle.device.specs.declared.Verdict.{Verdict}
 use Rattle.device.specs.declared.Verdict.TheVariants as verdict
+use Rattle.device.proofs.Shown.{place_or_0}
 use Rattle.receive.specs.Arrival.{Arrival, length_of, judged, fate_of, arrival}
 use Rattle.receive.specs.Begin.{begin, begun_by}
 use Rattle.receive.specs.Buffer.{descriptor_at, buffer}
@@ -42,7 +43,7 @@ arrives savebad unit bytes v = fate_of (settings savebad) true unit (replicate b
 
 -- the place of the counter that it adds to, 0 if it adds to none
 abbrev counted : Fate → ℕ
-counted f = counter_place (counter_of f)
+counted f = place_or_0 (counter_of f)
 
 -- the same of a service that settles one frame; no place has the number 1
 abbrev counted_once : List Fate → ℕ
@@ -99,7 +100,7 @@ lacking_counted = tt
 -- 02, Wish 3: the reasons, as the order reaches them: too few before no match, no match before Idle and Suspended, these before bad; a frame already held
 -- is no reason, bad or not, nor is RSCERRS; a bad frame in No Resources is not saved, whatever save-bad says
 abbrev why : (savebad matched : Bool) → Ru → (bytes verdict : ℕ) → ℕ
-why savebad matched unit bytes v = reason_number (reason_of (fate_of (settings savebad) matched unit (replicate bytes 0) v))
+why savebad matched unit bytes v = reason_or_0 (reason_of (fate_of (settings savebad) matched unit (replicate bytes 0) v))
 
 -- a frame is held that has run out of buffers, and whose end is next
 abbrev out_of_them : Ru

@@ -5,10 +5,11 @@ use mathlib.Core.List.{List, [], ◌∷◌}
 use Prim.Native.Nat.{ℕ}
 use lib.Dec.{T, eqb}
 use lib.ListN.{replicate}
+use Rattle.std.specs.Prelude.{is_some}
 use Rattle.memory.specs.Address.{place}
 use Rattle.memory.specs.Memory.{byte_at, put_byte, bytes_at, put_bytes, value, digits, field_at, word_at, word_to, apply}
 use Rattle.scb.specs.Words.{bits_at}
-use Rattle.device.specs.Answers.{counter_of, is_counter}
+use Rattle.device.specs.Answers.{counter_of}
 use Rattle.device.specs.Header.{unbuffered}
 use Rattle.device.specs.Numbers.{verdict_of}
 use Rattle.device.specs.State.{fresh_form, fresh_settings}
@@ -48,7 +49,7 @@ base_not_added = tt
 
 -- Counting frames lost while Idle: whatever the verdict, no counter
 abbrev uncounted : ℕ → Bool
-uncounted v = not (is_counter (counter_of (fate_of fresh_settings true ru.Idle (replicate 60 0) v)))
+uncounted v = not (is_some (counter_of (fate_of fresh_settings true ru.Idle (replicate 60 0) v)))
 
 pub idle_counts_nothing : T (uncounted 0 && uncounted 1 && uncounted 2)
 unfolding length_of judged fate_of verdict_of

@@ -1,6 +1,6 @@
 -- What becomes of an arriving frame: 01, "Arrival and storing", in its order. Memory, holding area and unit follow from the fate.
 -- Assumes nothing.
-use Rattle.std.specs.Prelude.{Bool, true, false, List, ℕ, ◌+◌, min, ltb, length}
+use Rattle.std.specs.Prelude.{Bool, true, false, List, ℕ, ◌+◌, min, ltb, length, Option, Some, None}
 use Rattle.std.proofs.lemmas.List.Edits.{sets}
 use Rattle.memory.specs.Memory.{Write}
 use Rattle.device.specs.Answers.{counter_of, counts, is_held}
@@ -37,23 +37,23 @@ judged s f v =
     }
 
 -- Short: no counter whatever the verdict. Misaligned verdict: ALNERRS. CRC verdict: CRCERRS
-abbrev pub counter_by : (short : Bool) → Verdict → Counter
-counter_by true v = counter.Uncounted
-counter_by false verdict.Good = counter.Uncounted
-counter_by false verdict.Crc = counter.Crc
-counter_by false verdict.Misaligned = counter.Alignment
+abbrev pub counter_by : (short : Bool) → Verdict → Option Counter
+counter_by true v = None
+counter_by false verdict.Good = None
+counter_by false verdict.Crc = Some counter.Crc
+counter_by false verdict.Misaligned = Some counter.Alignment
 
-abbrev pub counter_for : Frame → Counter
+abbrev pub counter_for : Frame → Option Counter
 counter_for f = counter_by f.short f.verdict
 
 -- in Ready: a good frame is held, a bad one with save-bad set
-abbrev pub in_ready : (good saved : Bool) → Counter → Fate
+abbrev pub in_ready : (good saved : Bool) → Option Counter → Fate
 in_ready true saved c = fate.Held c
 in_ready false true c = fate.Held c
 in_ready false false c = fate.Bad c
 
 -- in No Resources: a good frame adds to RSCERRS, a bad one is not held
-abbrev pub in_no_resources : (good : Bool) → Counter → Fate
+abbrev pub in_no_resources : (good : Bool) → Option Counter → Fate
 in_no_resources true c = fate.NoResources
 in_no_resources false c = fate.Bad c
 

@@ -1,5 +1,5 @@
 -- End of a held frame: 01, "Arrival and storing". What is written follows from the frame's fate. Assumes nothing.
-use Rattle.std.specs.Prelude.{Bool, true, false, not, cond, ◌||◌, List, [], ◌∷◌, ◌++◌, ℕ, ◌+◌, eqb, take, drop}
+use Rattle.std.specs.Prelude.{Bool, true, false, not, cond, ◌||◌, List, [], ◌∷◌, ◌++◌, ℕ, ◌+◌, eqb, take, drop, None}
 use Rattle.memory.specs.Memory.{Write, bytes_to, word_to, apply}
 use Rattle.memory.specs.Address.{place, offset_at, none}
 use Rattle.memory.specs.declared.Offset.{Offset}
@@ -8,7 +8,6 @@ use Rattle.device.specs.Answers.{counter_of, is_stored, counts}
 use Rattle.device.specs.Header.{unbuffered}
 use Rattle.device.specs.Limits.{held_from}
 use Rattle.device.specs.State.{is_good, ru_state, is_ready}
-use Rattle.device.specs.declared.Counter.TheVariants as counter
 use Rattle.device.specs.declared.Fate.{Fate}
 use Rattle.device.specs.declared.Fate.TheVariants as fate
 use Rattle.device.specs.declared.Frame.{Frame}
@@ -27,7 +26,7 @@ fate_by false saved good = fate.Stored
 fate_by true true true = fate.StoredCounted
 fate_by true true false = fate.Stored
 fate_by true false true = fate.Counted
-fate_by true false false = fate.Bad counter.Uncounted
+fate_by true false false = fate.Bad None
 
 abbrev pub fate_of : (lacking : Bool) → Frame → Fate
 fate_of lacking f = fate_by lacking f.savebad (is_good f)

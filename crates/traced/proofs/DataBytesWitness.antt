@@ -7,10 +7,10 @@ use Prim.Native.Nat.{ℕ, zero, suc, ◌+◌, ◌≤◌}
 use native.Mathlib.Omega.{arith}
 use lib.Dec.{lit≤}
 use lib.ListN.{length, replicate, length-replicate}
+use Rattle.std.specs.Prelude.{None}
 use Rattle.memory.proofs.Bytes.{Bytes, AllBytes, bytes_nil, bytes_cons, digits_bytes, all_append, apply_bytes}
 use Rattle.memory.proofs.Power.{allowed}
 use Rattle.device.specs.Limits.{holding_size, outgoing_size}
-use Rattle.device.specs.declared.Counter.TheVariants as counter
 use Rattle.phases.specs.Phases.{cu_word, ru_word}
 use Rattle.image.specs.Ranges.{Wide}
 use Rattle.image.proofs.Exact.{fresh_wide, image_bytes}
@@ -175,7 +175,7 @@ met third k got s =
       end = end;
       ends = ending;
       arrived =
-          arrived_on_bytes (lent third) (last third k) ready sixty 0 counter.Uncounted (calls third k) 0 (lent_fits third).bytes (lent_fits third).holds
+          arrived_on_bytes (lent third) (last third k) ready sixty 0 None (calls third k) 0 (lent_fits third).bytes (lent_fits third).holds
           fine_sixty.bytes z s.fate t.fair end ending;
       delivered =
           delivered_on_bytes (standing third) (last third k) w (record { 0 = 0x60 }) frame false (calls third k) 0 shows s.unit t.fair end ending;

@@ -7,6 +7,7 @@ use Prim.Native.Nat.{ℕ, zero, suc, ◌+◌}
 use native.Mathlib.Omega.{arith}
 use lib.Count.{ones}
 use lib.ListN.{length, replicate, take, drop, length-replicate}
+use Rattle.std.specs.Prelude.{None}
 use Rattle.memory.specs.Address.{place, beyond, none}
 use Rattle.memory.specs.Memory.{byte_at, put_byte, bytes_at, put_bytes, value, digits, field_at, Write, word_to, apply}
 use Rattle.memory.specs.Size.{size_allowed}
@@ -18,7 +19,6 @@ use Rattle.device.specs.Header.{unbuffered}
 use Rattle.device.specs.Limits.{holding_size, outgoing_size}
 use Rattle.device.specs.Numbers.{verdict_of}
 use Rattle.device.specs.State.{fresh, fresh_form, held_in}
-use Rattle.device.specs.declared.Counter.TheVariants as counter
 use Rattle.device.specs.declared.Cu.TheVariants as cu
 use Rattle.device.specs.declared.Device.{Device}
 use Rattle.device.specs.declared.Fate.TheVariants as fate
@@ -112,7 +112,7 @@ lengths third = record { size = sized (words third); area = length-replicate {A 
 
 -- what the arrival and the trace meet, and what the buffers get: so many of the 46 bytes of data
 pub record Seen (third : ℕ) (trace : List Event) (got : ℕ) : Type 0 where
-  pub fate : (arrivals.arrival_of (before third) sixty 0).outcome.fates ≡ fate.Held counter.Uncounted ∷ []
+  pub fate : (arrivals.arrival_of (before third) sixty 0).outcome.fates ≡ fate.Held None ∷ []
   pub unit : unit_of (step (call (arrive sixty 0)) (before third)) ≡ ru.Held (record { 0 = 0x60 }) frame false
   pub may : AllMay Staying step trace (step (call (arrive sixty 0)) (before third))
   pub ends : ends (turn 0) (run step trace (step (call (arrive sixty 0)) (before third))) ≡ true
@@ -130,7 +130,7 @@ too_few_lem = record { fate = refl; unit = refl; may = ((refl, refl), ((refl, re
 
 -- so both are delivered as said
 pub is_said : (third : ℕ) (trace : List Event) (got : ℕ) → Seen third trace got → ArrivedDelivered sixty trace (step (call (arrive sixty 0)) (before third)) 0
-is_said third trace got s = arrived (before third) sixty 0 counter.Uncounted trace 0 (lengths third) in_range_lem s.fate s.may s.ends
+is_said third trace got s = arrived (before third) sixty 0 None trace 0 (lengths third) in_range_lem s.fate s.may s.ends
 
 -- ---- the facts at exit
 

@@ -6,6 +6,7 @@ use mathlib.Core.List.{List, [], ◌∷◌}
 use Prim.Native.Nat.{ℕ}
 use native.Mathlib.Omega.{arith}
 use lib.ListN.{replicate, take}
+use Rattle.std.specs.Prelude.{None}
 use Rattle.memory.specs.Address.{place}
 use Rattle.memory.specs.Memory.{byte_at, put_byte, bytes_at, put_bytes, value, digits, field_at, Write, word_to, apply}
 use Rattle.scb.specs.Words.{bits_at, joined, any_of, event_bits, status_word}
@@ -15,7 +16,6 @@ use Rattle.device.specs.Limits.{longest_address, holding_size, outgoing_size}
 use Rattle.device.specs.Numbers.{verdict_of}
 use Rattle.device.specs.declared.Action.TheVariants as action
 use Rattle.device.specs.declared.Begun.{Begun}
-use Rattle.device.specs.declared.Counter.TheVariants as counter
 use Rattle.device.specs.declared.Cu.TheVariants as cu
 use Rattle.device.specs.declared.Fate.TheVariants as fate
 use Rattle.filter.specs.Match.{agree, all_ones, is_group, matches}
@@ -59,7 +59,7 @@ pub record Seen : Type 0 where
   pub group : is_group (to 0x7F) ≡ true
   pub falls : FallsIn world begun (hash (take longest_address (to 0x7F)))
   pub ours : is_ours (left_by world 0) (to 0x7F) ≡ true
-  pub held : (arrivals.arrival_of (left_by world 0) (to 0x7F) 0).outcome.fates ≡ fate.Held counter.Uncounted ∷ []
+  pub held : (arrivals.arrival_of (left_by world 0) (to 0x7F) 0).outcome.fates ≡ fate.Held None ∷ []
   pub another : (arrivals.arrival_of (left_by world 0) (to 0x01) 0).outcome.fates ≡ fate.NoMatch ∷ []
 
 pub seen : Seen

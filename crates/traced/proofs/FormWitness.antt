@@ -7,6 +7,7 @@ use mathlib.Core.List.{List, [], ◌∷◌, ◌++◌}
 use Prim.Native.Nat.{ℕ}
 use native.Mathlib.Omega.{arith}
 use lib.ListN.{length, replicate, take, drop, length-replicate}
+use Rattle.std.specs.Prelude.{None}
 use Rattle.memory.specs.Address.{place, beyond, none}
 use Rattle.memory.specs.Memory.{byte_at, put_byte, bytes_at, put_bytes, value, digits, field_at, Write, bytes_to, word_to, apply}
 use Rattle.memory.specs.Size.{size_allowed}
@@ -18,7 +19,6 @@ use Rattle.device.specs.Numbers.{verdict_of}
 use Rattle.device.specs.State.{fresh, fresh_form, held_in}
 use Rattle.device.specs.declared.Action.TheVariants as action
 use Rattle.device.specs.declared.Begun.{Begun}
-use Rattle.device.specs.declared.Counter.TheVariants as counter
 use Rattle.device.specs.declared.Cu.TheVariants as cu
 use Rattle.device.specs.declared.Device.{Device}
 use Rattle.device.specs.declared.Fate.TheVariants as fate
@@ -108,7 +108,7 @@ last form third = (ran (turn 0) (run step trace (arrived_at form third))).memory
 -- it is held; then another form is in force, and the end is next; 14 bytes from +8 of the descriptor on, and 20 of the buffer, as that end leaves them
 pub record Stored (form : Form) (third : ℕ) (now : Form) (in_descriptor in_buffer : List ℕ) : Type 0 where
   pub range : in_range (under form) ≡ true
-  pub fate : (arrivals.arrival_of (before form third) twenty 0).outcome.fates ≡ fate.Held counter.Uncounted ∷ []
+  pub fate : (arrivals.arrival_of (before form third) twenty 0).outcome.fates ≡ fate.Held None ∷ []
   pub may : AllMay Staying step trace (arrived_at form third)
   pub ends : ends (turn 0) (run step trace (arrived_at form third)) ≡ true
   pub configured : (settings_of (run step trace (arrived_at form third))).form ≡ now
@@ -149,7 +149,7 @@ lengths form third = record { size = sized (words third); area = length-replicat
 
 pub is_said : (form : Form) (third : ℕ) (now : Form) (in_descriptor in_buffer : List ℕ) → Stored form third now in_descriptor in_buffer → ArrivedDelivered twenty trace (arrived_at form third) 0
 is_said form third now in_descriptor in_buffer s =
-    arrived (before form third) twenty 0 counter.Uncounted trace 0 (lengths form third) s.range s.fate s.may s.ends
+    arrived (before form third) twenty 0 None trace 0 (lengths form third) s.range s.fate s.may s.ends
 
 -- ---- with location 1, before the end of the second: descriptor, SCB and +6 of the next frame descriptor lie apart, so the statement that the descriptor stays
 -- from +8 on speaks of it

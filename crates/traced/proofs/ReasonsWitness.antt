@@ -5,6 +5,7 @@ use mathlib.Core.List.{List, []}
 use Prim.Native.Nat.{ℕ, ◌≤◌}
 use lib.Dec.{lit≤}
 use lib.ListN.{length, replicate}
+use Rattle.std.specs.Prelude.{Option, Some, None}
 use Rattle.memory.proofs.Bytes.{Bytes, bytes_nil}
 use Rattle.scb.specs.Words.{bits_at}
 use Rattle.device.specs.declared.Counter.TheVariants as counter
@@ -86,7 +87,7 @@ not_for_us unit = refl
 
 -- ---- one arrival each
 
-told : (why : Reason) (unit : Ru) (f : List ℕ) (v : ℕ) → Holds (image_of (before unit)) (before unit) → Bytes f → length f ≤ 2048
+told : (why : Option Reason) (unit : Ru) (f : List ℕ) (v : ℕ) → Holds (image_of (before unit)) (before unit) → Bytes f → length f ≤ 2048
     → Reached why (world_in (before unit) (lent_of (before unit))) f v → Told why
 told why unit f v h b l r =
     let e = accepted (before unit) h (arrive f v) (record { bytes = b; right = l }) in
@@ -100,14 +101,14 @@ told why unit f v h b l r =
       given = (exactly_on_bytes (lent_of (before unit)) (before unit) f v (lent_bytes (before unit) h) h e why).1 r;
     }
 
-pub each_reason : (why : Reason) → Told why
-each_reason reason.TooFew = told reason.TooFew ready [] 0 ready_holds bytes_nil (lit≤ tt) (lit≤ tt)
-each_reason reason.NoMatch =
-    told reason.NoMatch ready others 0 ready_holds (replicate_bytes 14 0 (lit≤ tt)) (lit≤ tt) (lit≤ tt, not_for_us ready)
-each_reason reason.UnitIdle = told reason.UnitIdle ru.Idle bare 0 idle_holds bare_bytes (lit≤ tt) (for_us ru.Idle, refl)
-each_reason reason.UnitSuspended =
-    told reason.UnitSuspended suspended bare 0 suspended_holds bare_bytes (lit≤ tt) (for_us suspended, (record { 0 = 0 }, refl))
-each_reason reason.Bad =
-    told reason.Bad ready bare 1 ready_holds bare_bytes (lit≤ tt) (for_us ready, (unset (record { 0 = 0 }) refl refl, (counter.Crc, crc (lit≤ tt) refl)))
-each_reason reason.NotDropped =
-    told reason.NotDropped ready bare 0 ready_holds bare_bytes (lit≤ tt) (for_us ready, held (record { 0 = 0 }) refl (record { long = lit≤ tt; verdict = refl }))
+pub each_reason : (why : Option Reason) → Told why
+each_reason (Some reason.TooFew) = told (Some reason.TooFew) ready [] 0 ready_holds bytes_nil (lit≤ tt) (lit≤ tt)
+each_reason (Some reason.NoMatch) =
+    told (Some reason.NoMatch) ready others 0 ready_holds (replicate_bytes 14 0 (lit≤ tt)) (lit≤ tt) (lit≤ tt, not_for_us ready)
+each_reason (Some reason.UnitIdle) = told (Some reason.UnitIdle) ru.Idle bare 0 idle_holds bare_bytes (lit≤ tt) (for_us ru.Idle, refl)
+each_reason (Some reason.UnitSuspended) =
+    told (Some reason.UnitSuspended) suspended bare 0 suspended_holds bare_bytes (lit≤ tt) (for_us suspended, (record { 0 = 0 }, refl))
+each_reason (Some reason.Bad) =
+    told (Some reason.Bad) ready bare 1 ready_holds bare_bytes (lit≤ tt) (for_us ready, (unset (record { 0 = 0 }) refl refl, (Some counter.Crc, crc (lit≤ tt) refl)))
+each_reason None =
+    told None ready bare 0 ready_holds bare_bytes (lit≤ tt) (for_us ready, held (record { 0 = 0 }) refl (record { long = lit≤ tt; verdict = refl }))

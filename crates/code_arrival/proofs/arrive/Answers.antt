@@ -25,7 +25,7 @@ returns-then-is_held c u s h hs e g =
     rw (le-ltb _ (header u.settings.form.length) (rw e at g))
     (record {
       units = rw q (c.with_ru.ensures u (holding u.ru j) h (held_unit u.ru _ _ _ j r wide q _ (λ o w. c.held.ensures o j n (judged_below _ _ _) w)));
-      memory = rw (← real_same _ u.base (c.base.ensures ∙ base_is u k h), ← offset_same _ u.scb (c.scb.ensures ∙ scb_is u k h)) (c.count.ensures _ p);
+      memory = rw (← real_same _ u.base (c.base.ensures ∙ base_is u k h), ← offset_same _ u.scb (c.scb.ensures ∙ scb_is u k h), ← p) c.count.ensures;
       reason = rw b at (c.reason_for-reason.ensures u.ru t);
       holding = rw q c.put_run.ensures;
     })
@@ -46,6 +46,6 @@ returns c u s h hs e g =
     (record {
       units = rw q h;
       reason = rw b at (c.reason_for-reason.ensures u.ru t);
-      memory = rw (← real_same _ u.base (c.base.ensures ∙ base_is u k h), ← offset_same _ u.scb (c.scb.ensures ∙ scb_is u k h)) (c.count.ensures _ p);
+      memory = rw (← real_same _ u.base (c.base.ensures ∙ base_is u k h), ← offset_same _ u.scb (c.scb.ensures ∙ scb_is u k h), ← p) c.count.ensures;
       holding = rw q;
     })

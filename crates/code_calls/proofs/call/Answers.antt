@@ -1,5 +1,6 @@
 -- `code_calls::call` meets its contract: each refusal in its order, then what is asked. Assumes nothing.
-use Rattle.std.proofs.Common.{refl, sym, ◌∙◌}
+use Rattle.std.proofs.Common.{refl, sym, ap, ◌∙◌}
+use Rattle.std.specs.Result.{result_err}
 use Rattle.image.specs.Image.{decode_of}
 use Rattle.image.proofs.Lent.{found_units, found_foreign}
 use Rattle.calls.specs.Calls.{areas_of}
@@ -8,39 +9,40 @@ use Rattle.code_calls.proofs.Laws.{asked_early, asked_foreign, asked_accepted}
 use Rattle.code_calls.proofs.Asks.{as_said}
 use Rattle.code_calls.proofs.call.Goals as goal
 
-pub returns-then-refusal_number-ne0 : goal.returns-then-refusal_number-ne0
-returns-then-refusal_number-ne0 c =
-    as_said (asked_early c.args.asked.now (areas_of c.args.memory.now c.args.holding.now c.args.outgoing.now c.args.kept.now) c.refusal-r.result c.refusal-r.ensures (λ z. c.if-refusal_number-ne0.true (c.refusal_number.ensures ∙ z)))
+pub returns-in-Err : goal.returns-in-Err
+returns-in-Err c =
+    let a = areas_of c.args.memory.now c.args.holding.now c.args.outgoing.now c.args.kept.now in
+    as_said (asked_early c.args.asked.now a _ (sym c.right_lengths-lengths.ensures ∙ ap result_err c.in-Err.is))
     (record { answer = c.refuse.ensures; memory = refl; holding = refl; outgoing = refl; kept = refl })
 
-pub returns-in_default : goal.returns-in_default
-returns-in_default c =
+pub returns-in_default-decode : goal.returns-in_default-decode
+returns-in_default-decode c =
     let a = areas_of c.args.memory.now c.args.holding.now c.args.outgoing.now c.args.kept.now in
-    let n = sym c.refusal_number.ensures ∙ c.if-refusal_number-ne0.false in
-    let d = found_foreign (decode_of a.kept) (sym c.decode.ensures ∙ c.in_default.is) in
-    as_said (asked_foreign c.args.asked.now a c.refusal-r.result c.refusal-r.ensures n d)
-    (record { answer = c.refuse-in_default.ensures; memory = refl; holding = refl; outgoing = refl; kept = refl })
+    let n = sym c.right_lengths-lengths.ensures ∙ ap result_err c.in_default.is in
+    let d = found_foreign (decode_of a.kept) (sym c.decode.ensures ∙ c.in_default-decode.is) in
+    as_said (asked_foreign c.args.asked.now a n d)
+    (record { answer = c.refuse-in_default-decode.ensures; memory = refl; holding = refl; outgoing = refl; kept = refl })
 
 pub returns-in-Attention : goal.returns-in-Attention
 returns-in-Attention c =
     let a = areas_of c.args.memory.now c.args.holding.now c.args.outgoing.now c.args.kept.now in
-    let n = sym c.refusal_number.ensures ∙ c.if-refusal_number-ne0.false in
+    let n = sym c.right_lengths-lengths.ensures ∙ ap result_err c.in_default.is in
     let f = found_units (decode_of a.kept) _ (sym c.in-Units.ensures) in
     let e : Finds a.kept c.in-Units.k f.units = record { found = f.found; numbers = f.numbers } in
-    as_said (asked_accepted c.args.asked.now a c.refusal-r.result c.refusal-r.ensures n f.units f.found) (rw c.in-Attention.is (c.attention_on.ensures _ _ f.units e))
+    as_said (asked_accepted c.args.asked.now a n f.units f.found) (rw c.in-Attention.is (c.attention_on.ensures _ _ f.units e))
 
 pub returns-in-Arrival : goal.returns-in-Arrival
 returns-in-Arrival c =
     let a = areas_of c.args.memory.now c.args.holding.now c.args.outgoing.now c.args.kept.now in
-    let n = sym c.refusal_number.ensures ∙ c.if-refusal_number-ne0.false in
+    let n = sym c.right_lengths-lengths.ensures ∙ ap result_err c.in_default.is in
     let f = found_units (decode_of a.kept) _ (sym c.in-Units.ensures) in
     let e : Finds a.kept c.in-Units.k f.units = record { found = f.found; numbers = f.numbers } in
-    as_said (asked_accepted c.args.asked.now a c.refusal-r.result c.refusal-r.ensures n f.units f.found) (rw c.in-Arrival.is (c.arrival_on.ensures _ f.units e))
+    as_said (asked_accepted c.args.asked.now a n f.units f.found) (rw c.in-Arrival.is (c.arrival_on.ensures _ f.units e))
 
 pub returns-in-Turns : goal.returns-in-Turns
 returns-in-Turns c =
     let a = areas_of c.args.memory.now c.args.holding.now c.args.outgoing.now c.args.kept.now in
-    let n = sym c.refusal_number.ensures ∙ c.if-refusal_number-ne0.false in
+    let n = sym c.right_lengths-lengths.ensures ∙ ap result_err c.in_default.is in
     let f = found_units (decode_of a.kept) _ (sym c.in-Units.ensures) in
     let e : Finds a.kept c.in-Units.k f.units = record { found = f.found; numbers = f.numbers } in
-    as_said (asked_accepted c.args.asked.now a c.refusal-r.result c.refusal-r.ensures n f.units f.found) (rw c.in-Turns.is (c.turns_on.ensures f.units e))
+    as_said (asked_accepted c.args.asked.now a n f.units f.found) (rw c.in-Turns.is (c.turns_on.ensures f.units e))

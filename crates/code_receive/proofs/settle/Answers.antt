@@ -14,4 +14,4 @@ returns c =
     let l = c.args.lacking in
     let f = frame_in c.args.n in
     let e : (not l || c.save_bad.result) ≡ is_stored (fate_of l f) = rw c.save_bad.ensures (stored_is l f.savebad (is_good f)) in
-    (e, λ unit. rw (apply_append, ← e, ← c.describe.ensures c.args.scb unit) (c.count.ensures _ c.lost.ensures))
+    (e, λ unit. rw (apply_append, ← e, ← c.describe.ensures c.args.scb unit, ← c.lost.ensures) c.count.ensures)
