@@ -3,9 +3,8 @@
 
 #![tactic(auto)]
 
-ghost use Rattle.std.specs.Prelude.{◌≡◌, ◌+◌, ◌*◌, ◌^◌, ◌<◌, ◌≤◌, length, None};
+ghost use Rattle.std.specs.Prelude.{◌≡◌, List, ℕ, ◌+◌, ◌*◌, ◌^◌, length, None};
 ghost use Rattle.std.specs.Result.{result_err};
-ghost use Rattle.scb.specs.Words as words;
 ghost use Rattle.device.specs.Limits.{record_size};
 ghost use Rattle.device.specs.Numbers as numbers;
 ghost use Rattle.device.specs.declared.Units.{Units};
@@ -16,13 +15,37 @@ use device::{Answer, Reason, Refusal};
 use image::Decoded;
 use packed::{Packed, record};
 
-// ---- the answer as one number
+// ---- what is asked
 
-fn one(b: bool) -> u64
-    ensures { (result ≡ words.one b) × (result < 2) }
-{
-    if b { 1 } else { 0 }
+// What is asked of the chip: an attention, a frame with the line side's verdict, or turns with a line report. `counted`: the answer says how many
+// were taken.
+#[derive(Clone, Copy)]
+pub enum Asked<'a> {
+    Attention,
+    Arrival {
+        frame: &'a [u8],
+        verdict: u32,
+    },
+    Turns {
+        report: u16,
+        budget: u16,
+        counted: bool,
+    },
 }
+
+impl Asked<'_> {
+    // How long the frame is that arrives: 0 where none does.
+    fn frame_length(&self) -> usize
+        ensures { result ≡ length (inner.frame_of self.now) }
+    {
+        match *self {
+            Asked::Arrival { frame, .. } => frame.len(),
+            Asked::Attention | Asked::Turns { .. } => 0,
+        }
+    }
+}
+
+// ---- the answer as one number
 
 // The number of a refusal, 0 if a call is not refused; of a reason, 0 if no frame was dropped.
 fn refusal_or_0(refusal: Option<Refusal>) -> u16
@@ -43,26 +66,24 @@ fn reason_or_0(reason: Option<Reason>) -> u8
     }
 }
 
-// What the length, the edge and the reason count in an answer: bits 16, 32 and 40.
+// What the length, the edge, the reason and the turns of a run count in an answer: bits 16, 32, 40 and 48.
 const LENGTH: u64 = 1 << 16;
 
 const EDGE: u64 = 1 << 32;
 
 const REASON: u64 = 1 << 40;
 
-// A report has 16 bits.
-const REPORTS: u32 = 1 << 16;
+const TURN: u64 = 1 << 48;
 
 // Number in bits 0 to 15, length in 16 to 31, edge in 32, reason in 40 to 47.
+#[tactic(auto, unfolding(calls::specs::Answer::answer_number))]
 fn answer_number(a: Answer) -> u64
     ensures { result ≡ calls.answer_number a }
 {
-    let refusal = a.refusal;
-    let reason = a.reason;
-    refusal_or_0(refusal) as u64
+    refusal_or_0(a.refusal) as u64
         + a.length as u64 * LENGTH
-        + one(a.edge) * EDGE
-        + reason_or_0(reason) as u64 * REASON
+        + u64::from(a.edge) * EDGE
+        + reason_or_0(a.reason) as u64 * REASON
 }
 
 // The answer of a refused call: its number, length 0, no edge, no reason.
@@ -90,9 +111,9 @@ fn right_lengths(
     holding: usize,
     outgoing: usize,
     kept: usize,
-    frame: usize,
+    asked: &Asked<'_>,
 ) -> Result<(), Refusal>
-    ensures { result_err result ≡ inner.by_lengths memory holding outgoing kept frame }
+    ensures { result_err result ≡ inner.by_lengths memory holding outgoing kept (inner.frame_of asked.now) }
 {
     if !memory::size_allowed(memory) {
         return Err(Refusal::Memory);
@@ -106,7 +127,7 @@ fn right_lengths(
     if outgoing != OUTGOING {
         return Err(Refusal::Outgoing);
     }
-    if frame > LONGEST {
+    if asked.frame_length() > LONGEST {
         return Err(Refusal::Overlong);
     }
     Ok(())
@@ -119,17 +140,21 @@ fn answer_of(edge: bool, reason: Option<Reason>) -> u64
     answer_number(Answer {
         refusal: None,
         length: 0,
-        edge: edge,
-        reason: reason,
+        edge,
+        reason,
     })
 }
 
 // ---- the calls on a record that is an image: the setup is lent as it stands there, the units' numbers go back at the end
 
+// The areas stand beside each other and not in a struct: with one a turn takes 27 instructions more (docs/bench.md), and an inner function takes
+// those alone that it uses.
+
 // An attention to the device of the numbers k.
 fn attention_on(memory: &mut [u8], kept: &mut [u8], k: Packed) -> u64
     requires { length kept.old ≡ record_size }
-    ensures { (u : Units) → inner.Finds kept.old k u → inner.AttendsOn u memory.old kept.old result memory.new kept.new }
+    ensures { (h out : List ℕ) → inner.OnImage k inner.attends
+        (calls.areas_of memory.old h out kept.old) result memory.new h out kept.new }
 {
     let a = code_attention::attend(memory, &mut kept[record::SETUP..record::SIZE], k);
     let after = a.packed;
@@ -147,9 +172,8 @@ fn arrival_on(
     verdict: u32,
 ) -> u64
     requires { length kept.old ≡ record_size }
-    ensures { (u : Units) → inner.Finds kept.old k u → inner.ArrivesOn u
-        memory.old holding.old kept.old frame.now verdict result
-        memory.new holding.new kept.new }
+    ensures { (out : List ℕ) → inner.OnImage k (inner.arrives frame.now verdict)
+        (calls.areas_of memory.old holding.old out kept.old) result memory.new holding.new out kept.new }
 {
     let a = code_chip::arrival(
         memory,
@@ -165,15 +189,15 @@ fn arrival_on(
     answer_of(false, reason)
 }
 
-// The answer of turns: what the last one told, its length and the edge above it; and as many units as turns.
-fn answer_told(told: u32, taken: u16, unit: u64) -> u64
-    requires { unit ≤ 2 ^ 48 }
-    ensures { result ≡ told * 2 ^ 16 + taken * unit }
+// The answer of turns: what the last one told, its length and the edge above it; and how many were taken, if they are counted.
+fn answer_told(told: u32, taken: u16, counted: bool) -> u64
+    ensures { result ≡ told * 2 ^ 16 + inner.turns_told counted taken * 2 ^ 48 }
 {
-    told as u64 * LENGTH + taken as u64 * unit
+    let turns = if counted { taken } else { 0 };
+    told as u64 * LENGTH + turns as u64 * TURN
 }
 
-// Turns of the device of the numbers k. Each adds `unit` to the answer.
+// Turns of the device of the numbers k.
 fn turns_on(
     memory: &mut [u8],
     holding: &[u8],
@@ -182,12 +206,11 @@ fn turns_on(
     k: Packed,
     report: u16,
     budget: u16,
-    unit: u64,
+    counted: bool,
 ) -> u64
-    requires { (length kept.old ≡ record_size) × (unit ≤ 2 ^ 48) }
-    ensures { (u : Units) → inner.Finds kept.old k u → inner.RunsOn u
-        memory.old holding.now outgoing.old kept.old report budget unit result
-        memory.new outgoing.new kept.new }
+    requires { length kept.old ≡ record_size }
+    ensures { inner.OnImage k (inner.turns report budget counted)
+        (calls.areas_of memory.old holding.now outgoing.old kept.old) result memory.new holding.now outgoing.new kept.new }
 {
     let t = code_chip::run(
         memory,
@@ -200,7 +223,7 @@ fn turns_on(
     );
     let after = t.packed;
     image::store(kept, after);
-    answer_told(t.told, t.taken, unit)
+    answer_told(t.told, t.taken, counted)
 }
 
 // ---- the calls
@@ -216,30 +239,15 @@ pub fn reset(kept: &mut [u8]) -> u64
     refuse(Refusal::Record)
 }
 
-// What is asked of the chip.
-#[derive(Clone, Copy)]
-pub enum Asked {
-    Attention,
-    Arrival,
-    Turns,
-}
-
-// Every call but reset: refusals first, then what is asked. `line` is what the line side tells, an arrival's verdict or the report of turns;
-// `frame` is an arrival's, else empty; `budget` and `unit` are those of turns.
+// Every call but reset: refusals first, then what is asked, of which each part is read where it is used.
 pub fn call(
     memory: &mut [u8],
     holding: &mut [u8],
     outgoing: &mut [u8],
     kept: &mut [u8],
-    asked: Asked,
-    frame: &[u8],
-    line: u32,
-    budget: u16,
-    unit: u64,
+    asked: &Asked<'_>,
 ) -> u64
-    requires { unit ≤ 2 ^ 48 }
-    ensures { calls.Calls (inner.asked_call asked
-        (calls.areas_of memory.old holding.old outgoing.old kept.old) frame.now line budget unit)
+    ensures { calls.Calls (inner.asked_call asked.now (calls.areas_of memory.old holding.old outgoing.old kept.old))
         result memory.new holding.new outgoing.new kept.new }
 {
     let lengths = right_lengths(
@@ -247,7 +255,7 @@ pub fn call(
         holding.len(),
         outgoing.len(),
         kept.len(),
-        frame.len(),
+        asked,
     );
     if let Err(r) = lengths {
         return refuse(r);
@@ -255,12 +263,13 @@ pub fn call(
     let Decoded::Units(k) = image::decode(kept) else {
         return refuse(Refusal::Foreign);
     };
-    match asked {
+    match *asked {
         Asked::Attention => attention_on(memory, kept, k),
-        Asked::Arrival => arrival_on(memory, holding, kept, k, &frame[..], line),
-        Asked::Turns => {
-            let report = (line % REPORTS) as u16;
-            turns_on(memory, holding, outgoing, kept, k, report, budget, unit)
-        }
+        Asked::Arrival { frame, verdict } => arrival_on(memory, holding, kept, k, frame, verdict),
+        Asked::Turns {
+            report,
+            budget,
+            counted,
+        } => turns_on(memory, holding, outgoing, kept, k, report, budget, counted),
     }
 }

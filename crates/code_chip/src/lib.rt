@@ -155,25 +155,21 @@ pub fn run(
         result memory.new outgoing.new setup.new }
 {
     let mut state = k;
-    let mut told: u32 = 0;
-    let mut taken: u16 = 0;
-    while taken < budget {
+    for taken in 0..budget {
         let t = turn(memory, holding, outgoing, setup, state, report);
-        taken += 1;
-        told = t.told;
-        state = t.packed;
         if t.stops {
             return Turns {
-                packed: state,
-                told: told,
-                taken: taken,
+                packed: t.packed,
+                told: t.told,
+                taken: taken + 1,
             };
         }
+        state = t.packed;
     }
     Turns {
         packed: state,
-        told: told,
-        taken: taken,
+        told: 0,
+        taken: budget,
     }
 }
 
