@@ -3,25 +3,27 @@
 
 #![tactic(auto)]
 
+ghost use Rattle.std.specs.Prelude.{◌≡◌};
 ghost use Rattle.texts.specs.Texts.{Puts};
 ghost use Rattle.faults.specs.Faults as faults;
 
 use wording::{Fault, Wrong};
 
 // What was expected, in words.
-fn put_expected(out: &mut [u8], at: usize, what: Wrong) -> usize
-    ensures { Puts (faults.expected_text what) at out.old result out.new }
+#[tactic(auto, unfolding(crate::specs::Faults::expected_text))]
+fn expected(what: Wrong) -> &'static [u8]
+    ensures { result.now ≡ faults.expected_text what }
 {
     match what {
-        Wrong::First => texts::put_text(out, at, b"a line's first word"),
-        Wrong::Number => texts::put_text(out, at, b"a number"),
-        Wrong::Size => texts::put_text(out, at, b"a number up to 65536"),
-        Wrong::Short => texts::put_text(out, at, b"a number up to 65535"),
-        Wrong::Area => texts::put_text(out, at, b"an area"),
-        Wrong::Place => texts::put_text(out, at, b"a place in the area"),
-        Wrong::Bytes => texts::put_text(out, at, b"bytes"),
-        Wrong::Room => texts::put_text(out, at, b"room in the area"),
-        Wrong::End => texts::put_text(out, at, b"the end of the line"),
+        Wrong::First => b"a line's first word",
+        Wrong::Number => b"a number",
+        Wrong::Size => b"a number up to 65536",
+        Wrong::Short => b"a number up to 65535",
+        Wrong::Area => b"an area",
+        Wrong::Place => b"a place in the area",
+        Wrong::Bytes => b"bytes",
+        Wrong::Room => b"room in the area",
+        Wrong::End => b"the end of the line",
     }
 }
 
@@ -34,6 +36,6 @@ pub fn put_fault(out: &mut [u8], at: usize, line: u64, fault: Fault) -> usize
     let third = texts::put_text(out, second, b", column ");
     let fourth = texts::put_decimal(out, third, fault.column as u64);
     let fifth = texts::put_text(out, fourth, b": expected ");
-    let sixth = put_expected(out, fifth, fault.wrong);
+    let sixth = texts::put_text(out, fifth, expected(fault.wrong));
     texts::put_byte(out, sixth, b'\n')
 }
