@@ -7,7 +7,7 @@ use Rattle.lines.specs.Reader as lines
 use Rattle.scene.specs.declared.Play.{Play}
 use Rattle.scene.specs.Scene.{Scene, play_of, scene_of, Plays, obeyed}
 use Rattle.session.specs.declared.Session.{Session}
-use Rattle.session.specs.Run.{State, state_of, Runs, with_reader, next_line, stopped_by, line_obeyed, judged, ended_by, line_ended, read_by, fed, ran, read_on, ends_line}
+use Rattle.session.specs.Run.{State, state_of, Runs, with_reader, next_line, line_obeyed, judged, ended_by, line_ended, read_by, fed, ran, read_on, ends_line}
 
 -- ---- what was left is what is said
 
@@ -56,18 +56,6 @@ choose b x y e = ap (λ (k : Bool). cond k x y) e
 
 refuse : {A : Type 0} (b : Bool) (x y : A) → b ≡ false → cond b x y ≡ y
 refuse b x y e = ap (λ (k : Bool). cond k x y) e
-
--- a line that was judged: it was right and has been obeyed, or it was wrong and the session has stopped
-module _ (s : Session) (r : Reader) (m h og by out : List ℕ) (t : Session) (m' h' og' o' : List ℕ) (right : Bool) (is : right ≡ lines.is_right r) where
-  pub judged_right : right ≡ true → Runs (line_obeyed s r.line m h og by out) t m' h' og' by o' → Runs (judged s r m h og by out) t m' h' og' by o'
-  unfolding judged
-  judged_right y z =
-      subst (λ (k : State). Runs k t m' h' og' by o') (sym (choose (lines.is_right r) (line_obeyed s r.line m h og by out) (stopped_by s r m h og by out) (sym is ∙ y))) z
-
-  pub judged_wrong : right ≡ false → Runs (stopped_by s r m h og by out) t m' h' og' by o' → Runs (judged s r m h og by out) t m' h' og' by o'
-  unfolding judged
-  judged_wrong y z =
-      subst (λ (k : State). Runs k t m' h' og' by o') (sym (refuse (lines.is_right r) (line_obeyed s r.line m h og by out) (stopped_by s r m h og by out) (sym is ∙ y))) z
 
 -- a character ends a line and what was read is judged, or it is read
 module _ (s : Session) (m h og by out : List ℕ) where
