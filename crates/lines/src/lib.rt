@@ -67,27 +67,6 @@ fn past(r: Reader, part: Part) -> Reader
     }
 }
 
-#[tactic(auto, unfolding(crate::specs::Reader::with_word))]
-fn with_word(r: Reader, w: Word) -> Reader
-    ensures { result ≡ reader.with_word r w }
-{
-    Reader { word: w, ..r }
-}
-
-#[tactic(auto, unfolding(crate::specs::Reader::with_line))]
-fn with_line(r: Reader, line: Line) -> Reader
-    ensures { result ≡ reader.with_line r line }
-{
-    Reader { line, ..r }
-}
-
-#[tactic(auto, unfolding(crate::specs::Reader::with_fault))]
-fn with_fault(r: Reader, fault: Option<Fault>) -> Reader
-    ensures { result ≡ reader.with_fault r fault }
-{
-    Reader { fault, ..r }
-}
-
 // The reader behind a word, with what the word made of its line, or with what is wrong.
 #[tactic(auto, unfolding(crate::specs::Reader::with_taken))]
 fn with_taken(r: Reader, taken: Result<Line, Fault>) -> Reader
@@ -118,18 +97,16 @@ fn end_word(bytes: &mut [u8], r: Reader) -> Reader
 }
 
 // A word begins, where one may stand.
-#[tactic(auto, unfolding(crate::specs::Reader::begin_word))]
+#[tactic(auto, unfolding(crate::specs::Reader::begin_word, crate::specs::Reader::with_word))]
 fn begin_word(r: Reader, c: u8) -> Reader
     ensures { result ≡ reader.begin_word r c }
 {
-    past(
-        with_word(r, wording::more_word(wording::word_at(r.column), c)),
-        Part::Word,
-    )
+    let word = wording::more_word(wording::word_at(r.column), c);
+    past(Reader { word, ..r }, Part::Word)
 }
 
 // A character of a line's text.
-#[tactic(auto, unfolding(crate::specs::Reader::more_text))]
+#[tactic(auto, unfolding(crate::specs::Reader::more_text, crate::specs::Reader::with_line))]
 fn more_text(bytes: &mut [u8], r: Reader, c: u8) -> Reader
     ensures { reader.Reads (reader.more_text r c bytes.old) result bytes.new }
 {
@@ -138,17 +115,20 @@ fn more_text(bytes: &mut [u8], r: Reader, c: u8) -> Reader
         filled: wording::counted(r.line.filled, 1),
         ..r.line
     };
-    past(with_line(r, line), Part::Text)
+    past(Reader { line, ..r }, Part::Text)
 }
 
 // A character that is neither blank nor the start of a comment, with no word before it.
-#[tactic(auto, unfolding(crate::specs::Reader::first_of))]
+#[tactic(auto, unfolding(crate::specs::Reader::first_of, crate::specs::Reader::with_fault))]
 fn first_of(bytes: &mut [u8], r: Reader, c: u8, want: Want) -> Reader
     ensures { reader.Reads (reader.first_of want r c bytes.old) result bytes.new }
 {
     match want {
         Want::Text => more_text(bytes, r, c),
-        Want::End => with_fault(r, Some(wording::fault_at(Wrong::End, r.column))),
+        Want::End => Reader {
+            fault: Some(wording::fault_at(Wrong::End, r.column)),
+            ..r
+        },
         Want::First
         | Want::Size
         | Want::Short
@@ -175,12 +155,13 @@ fn between(bytes: &mut [u8], r: Reader, c: u8) -> Reader
 }
 
 // A further character of a word.
-#[tactic(auto, unfolding(crate::specs::Reader::further_of))]
+#[tactic(auto, unfolding(crate::specs::Reader::further_of, crate::specs::Reader::with_word))]
 fn further_of(bytes: &mut [u8], r: Reader, c: u8) -> Reader
     ensures { reader.Reads (reader.further_of r c bytes.old) result bytes.new }
 {
     wording::store(bytes, r.word.piece, r.line.filled, c);
-    past(with_word(r, wording::more_word(r.word, c)), Part::Word)
+    let word = wording::more_word(r.word, c);
+    past(Reader { word, ..r }, Part::Word)
 }
 
 // The word that was read is taken, and the reader goes past what ended it.
@@ -252,12 +233,13 @@ fn last_word(bytes: &mut [u8], r: Reader, part: Part) -> Reader
 }
 
 // The line is judged, if its words are right.
-#[tactic(auto, unfolding(crate::specs::Reader::judge))]
+#[tactic(auto, unfolding(crate::specs::Reader::judge, crate::specs::Reader::with_fault))]
 fn judge(r: Reader) -> Reader
     ensures { result ≡ reader.judge r }
 {
     if is_right(r) {
-        return with_fault(r, wants::judged(r.line, r.behind));
+        let fault = wants::judged(r.line, r.behind);
+        return Reader { fault, ..r };
     }
     r
 }

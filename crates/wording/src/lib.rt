@@ -183,25 +183,63 @@ fn more_letters(letters: u64, c: u8) -> u64
     }
 }
 
+// The number of a word, from its letters: five bits to each.
+macro_rules! spelled {
+    ($n:expr;) => { $n };
+    ($n:expr; $letter:literal $($rest:literal)*) => { spelled!($n * 32 + ($letter - b'a' + 1) as u64; $($rest)*) };
+}
+
+const SIZE: u64 = spelled!(0; b's' b'i' b'z' b'e');
+
+const RESET: u64 = spelled!(0; b'r' b'e' b's' b'e' b't');
+
+const ATTENTION: u64 = spelled!(0; b'a' b't' b't' b'e' b'n' b't' b'i' b'o' b'n');
+
+const ARRIVAL: u64 = spelled!(0; b'a' b'r' b'r' b'i' b'v' b'a' b'l');
+
+const TURN: u64 = spelled!(0; b't' b'u' b'r' b'n');
+
+const RUN: u64 = spelled!(0; b'r' b'u' b'n');
+
+const BYTES: u64 = spelled!(0; b'b' b'y' b't' b'e' b's');
+
+const WORDS: u64 = spelled!(0; b'w' b'o' b'r' b'd' b's');
+
+const SHOW: u64 = spelled!(0; b's' b'h' b'o' b'w');
+
+const LOOK: u64 = spelled!(0; b'l' b'o' b'o' b'k');
+
+const INTERRUPT: u64 = spelled!(0; b'i' b'n' b't' b'e' b'r' b'r' b'u' b'p' b't');
+
+const RECORD: u64 = spelled!(0; b'r' b'e' b'c' b'o' b'r' b'd');
+
+const SAY: u64 = spelled!(0; b's' b'a' b'y');
+
+const MEMORY: u64 = spelled!(0; b'm' b'e' b'm' b'o' b'r' b'y');
+
+const HOLDING: u64 = spelled!(0; b'h' b'o' b'l' b'd' b'i' b'n' b'g');
+
+const OUTGOING: u64 = spelled!(0; b'o' b'u' b't' b'g' b'o' b'i' b'n' b'g');
+
 // The verb that a first word names, if it names one.
 #[tactic(auto, unfolding(crate::specs::Names::verb_of))]
 pub fn verb_of(letters: u64) -> Option<Verb>
     ensures { result ≡ names.verb_of letters }
 {
     match letters {
-        0x9A745 => Some(Verb::Size),
-        0x122CCB4 => Some(Verb::Reset),
-        0x1A50AEA25EE => Some(Verb::Attention),
-        0x6524D82C => Some(Verb::Arrival),
-        0xA564E => Some(Verb::Turn),
-        0x4AAE => Some(Verb::Run),
-        0x2CD0B3 => Some(Verb::Bytes),
-        0x177C893 => Some(Verb::Words),
-        0x9A1F7 => Some(Verb::Show),
-        0x63DEB => Some(Verb::Look),
-        0x9750B295614 => Some(Verb::Interrupt),
-        0x2451BE44 => Some(Verb::Record),
-        0x4C39 => Some(Verb::Say),
+        SIZE => Some(Verb::Size),
+        RESET => Some(Verb::Reset),
+        ATTENTION => Some(Verb::Attention),
+        ARRIVAL => Some(Verb::Arrival),
+        TURN => Some(Verb::Turn),
+        RUN => Some(Verb::Run),
+        BYTES => Some(Verb::Bytes),
+        WORDS => Some(Verb::Words),
+        SHOW => Some(Verb::Show),
+        LOOK => Some(Verb::Look),
+        INTERRUPT => Some(Verb::Interrupt),
+        RECORD => Some(Verb::Record),
+        SAY => Some(Verb::Say),
         _ => None,
     }
 }
@@ -212,9 +250,9 @@ pub fn area_of(letters: u64) -> Option<Area>
     ensures { result ≡ names.area_of letters }
 {
     match letters {
-        0x1A56BE59 => Some(Area::Memory),
-        0x21EC225C7 => Some(Area::Holding),
-        0x7D6877A5C7 => Some(Area::Outgoing),
+        MEMORY => Some(Area::Memory),
+        HOLDING => Some(Area::Holding),
+        OUTGOING => Some(Area::Outgoing),
         _ => None,
     }
 }
@@ -254,12 +292,6 @@ fn more_of(base: u8, n: Option<u64>, d: u8) -> Option<u64>
     None
 }
 
-fn only_if(x: bool, n: Option<u64>) -> Option<u64>
-    ensures { result ≡ words.only_if x n }
-{
-    if x { n } else { None }
-}
-
 // A further character of a number.
 #[tactic(auto, unfolding(crate::specs::Spelling::more_digits))]
 fn more_digits(n: Digits, c: u8) -> Digits
@@ -270,7 +302,7 @@ fn more_digits(n: Digits, c: u8) -> Digits
         any: true,
         decimal: more_of(10, n.decimal, d),
         hex: more_of(16, n.hex, d),
-        closed: only_if(n.any && c == b'h', n.hex),
+        closed: n.hex.filter(|_| n.any && c == b'h'),
     }
 }
 
@@ -279,7 +311,9 @@ fn more_digits(n: Digits, c: u8) -> Digits
 pub fn number_of(n: Digits) -> Option<u64>
     ensures { result ≡ words.number_of n }
 {
-    n.closed.or(only_if(n.any, n.decimal)).filter(|n| *n < MANY)
+    n.closed
+        .or(n.decimal.filter(|_| n.any))
+        .filter(|n| *n < MANY)
 }
 
 // ---- a piece of bytes
@@ -296,7 +330,7 @@ fn joined(high: u8, low: u8) -> u8
 fn after_count(n: Digits, c: u8) -> Piece
     ensures { result ≡ words.after_count n c }
 {
-    match only_if(c == b'x' && n.any, n.decimal) {
+    match n.decimal.filter(|_| n.any && c == b'x') {
         Some(times) => Piece::TimesHigh(times),
         None => Piece::Bad,
     }
