@@ -78,9 +78,9 @@ fn calls(
     q
 }
 
-// A line that is right is obeyed; own: the bytes or the text that it brought.
+// A line that is right is obeyed, if it has a verb; own: the bytes or the text that it brought.
 pub fn obey(
-    verb: Verb,
+    verb: Option<Verb>,
     line: Line,
     p: Play,
     memory: &mut [u8],
@@ -92,8 +92,10 @@ pub fn obey(
     ensures { Plays (obeyed verb line own.now (scene_of p memory.old holding.old outgoing.old out.old))
         result memory.new holding.new outgoing.new out.new }
 {
-    let deed = scene::deed_of(verb);
-    match deed {
+    let Some(verb) = verb else {
+        return p;
+    };
+    match scene::deed_of(verb) {
         Deed::Call(which) => calls(
             scene::asked(which, line),
             p,

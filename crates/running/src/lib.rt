@@ -26,24 +26,23 @@ fn judge(
         memory.old holding.old outgoing.old bytes.now out.old)
         result memory.new holding.new outgoing.new bytes.now out.new }
 {
-    if lines::is_right(reader) {
-        let line = reader.line;
-        let verb = line.verb;
-        let b = s.board;
-        let n = session::own_length(line.filled, bytes.len());
-        let p = calling::obey(
-            verb,
-            line,
-            scene::play_of(b, s.at),
-            memory,
-            holding,
-            outgoing,
-            &bytes[..n],
-            out,
-        );
-        return session::next_line(s, p);
+    match reader.fault {
+        Some(fault) => session::stop(s, reader, fault, out),
+        None => {
+            let n = (reader.line.filled as usize).min(bytes.len());
+            let p = calling::obey(
+                reader.line.verb,
+                reader.line,
+                scene::play_of(s.board, s.at),
+                memory,
+                holding,
+                outgoing,
+                &bytes[..n],
+                out,
+            );
+            session::next_line(s, p)
+        }
     }
-    session::stop(s, reader, out)
 }
 
 // A character.

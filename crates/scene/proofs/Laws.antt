@@ -1,6 +1,7 @@
 -- What the proofs of the scene share: scenes that are what is said, calls one by one, the verbs as the code parts them. Assumes nothing.
 use mathlib.Core.Path.{◌≡◌, refl, ap, subst, ◌∙◌}
-use mathlib.Core.List.{List, []}
+use mathlib.Core.List.{List}
+use Rattle.std.specs.Prelude.{Some}
 use Prim.Native.Nat.{ℕ, zero, suc, ◌+◌, ◌%◌}
 use native.Mathlib.Omega.{arith}
 use Rattle.board.specs.declared.Said.{Said}
@@ -11,7 +12,7 @@ use Rattle.wording.specs.declared.Verb.TheVariants as verb
 use Rattle.texts.specs.Texts.{Puts}
 use Rattle.scene.specs.declared.Play.{Play}
 use Rattle.scene.specs.declared.Deed.{Deed}
-use Rattle.scene.specs.Scene.{Scene, play_of, scene_of, Plays, behind, printed, tell_by, called, turns_of, turn_count, obeyed, deed_of, calls_of, text_by, host_by, done_by}
+use Rattle.scene.specs.Scene.{Scene, play_of, scene_of, Plays, printed, tell_by, called, turns_of, turn_count, obeyed, deed_of, calls_of, text_by, host_by, done_by}
 
 -- ---- what was left is what is said
 
@@ -63,21 +64,14 @@ more_calls i x c p m h og o q m' h' og' o' e t =
 
 -- ---- the verbs, parted as the code parts them
 
--- where nothing is said nothing is printed
-nothing_printed : (s : Scene) → printed [] s ≡ s
-nothing_printed s =
-    let e : behind [] s.play.at s.out ≡ s.play.at = omega arith in
-    ap (λ (k : ℕ). scene_of (play_of s.play.board k) s.memory s.holding s.outgoing s.out) e
-
 -- turns are calls
 turns_made : (n report : ℕ) (s : Scene) → calls_of n (turn report) s ≡ turns_of n report s
 unfolding calls_of turns_of
 turns_made zero report s = refl
 turns_made (suc n) report s = ap (called (turn report)) (turns_made n report s)
 
-pub all_done : (v : Verb) (l : Line) (own : List ℕ) (s : Scene) → done_by (deed_of v) v l own s ≡ obeyed v l own s
+pub all_done : (v : Verb) (l : Line) (own : List ℕ) (s : Scene) → done_by (deed_of v) v l own s ≡ obeyed (Some v) l own s
 unfolding call_of calls_of host_by text_by obeyed
-all_done verb.Nothing l own s = nothing_printed s
 all_done verb.Size l own s = refl
 all_done verb.Reset l own s = refl
 all_done verb.Attention l own s = refl
@@ -94,6 +88,6 @@ all_done verb.Say l own s = refl
 
 -- what was done by a line's deed is what the line does
 pub obeys : (v : Verb) (l : Line) (own : List ℕ) (s : Scene) (d : Deed) (p : Play) (m h og o : List ℕ) → d ≡ deed_of v → Plays (done_by d v l own s) p m h og o
-    → Plays (obeyed v l own s) p m h og o
+    → Plays (obeyed (Some v) l own s) p m h og o
 obeys v l own s d p m h og o e t =
     subst (λ (x : Scene). Plays x p m h og o) (ap (λ (x : Deed). done_by x v l own s) e ∙ all_done v l own s) t

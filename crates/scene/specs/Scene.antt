@@ -1,5 +1,5 @@
 -- What a line does and prints: docs/replay.md, "Lines" and "Answers". Assumes nothing.
-use Rattle.std.specs.Prelude.{◌≡◌, cond, List, [], ◌∷◌, ◌++◌, ℕ, zero, suc, ◌+◌, ◌-◌, ◌%◌, min, eqb, length}
+use Rattle.std.specs.Prelude.{◌≡◌, cond, List, [], ◌∷◌, ◌++◌, ℕ, zero, suc, ◌+◌, ◌-◌, ◌%◌, min, eqb, length, Option, Some, None}
 use Rattle.std.proofs.lemmas.List.Edits.{sets}
 use Rattle.device.specs.Limits.{record_size}
 use Rattle.board.specs.declared.Board.{Board}
@@ -127,22 +127,22 @@ say_text own = own ++ (10 ∷ [])
 abbrev pub many : ℕ
 many = 4294967296
 
--- own: the bytes or the text that the line brought
-unfoldable pub obeyed : Verb → Line → List ℕ → Scene → Scene
-obeyed verb.Nothing l own s = s
-obeyed verb.Size l own s = scene_of (play_of (resized s.play.board l.first) s.play.at) s.memory s.holding s.outgoing s.out
-obeyed verb.Reset l own s = called reset s
-obeyed verb.Attention l own s = called attention s
-obeyed verb.Arrival l own s = called (arrive own (l.first % many)) s
-obeyed verb.Turn l own s = turns_of (turn_count l) (l.second % 65536) s
-obeyed verb.Run l own s = called (run (l.second % 65536) (turn_count l)) s
-obeyed verb.Bytes l own s = wrote l own s
-obeyed verb.Words l own s = wrote l own s
-obeyed verb.Show l own s = printed (shown l.area s.memory s.holding s.outgoing (l.first % many) (l.second % many)) s
-obeyed verb.Look l own s = printed (looked l.area s.memory s.holding s.outgoing (l.first % many) (l.second % many)) s
-obeyed verb.Interrupt l own s = printed (interrupt_text (is_high s.play.board)) s
-obeyed verb.Record l own s = printed (record_text s.play.board) s
-obeyed verb.Say l own s = printed (say_text own) s
+-- a line with no verb does nothing; own: the bytes or the text that the line brought
+unfoldable pub obeyed : Option Verb → Line → List ℕ → Scene → Scene
+obeyed None l own s = s
+obeyed (Some verb.Size) l own s = scene_of (play_of (resized s.play.board l.first) s.play.at) s.memory s.holding s.outgoing s.out
+obeyed (Some verb.Reset) l own s = called reset s
+obeyed (Some verb.Attention) l own s = called attention s
+obeyed (Some verb.Arrival) l own s = called (arrive own (l.first % many)) s
+obeyed (Some verb.Turn) l own s = turns_of (turn_count l) (l.second % 65536) s
+obeyed (Some verb.Run) l own s = called (run (l.second % 65536) (turn_count l)) s
+obeyed (Some verb.Bytes) l own s = wrote l own s
+obeyed (Some verb.Words) l own s = wrote l own s
+obeyed (Some verb.Show) l own s = printed (shown l.area s.memory s.holding s.outgoing (l.first % many) (l.second % many)) s
+obeyed (Some verb.Look) l own s = printed (looked l.area s.memory s.holding s.outgoing (l.first % many) (l.second % many)) s
+obeyed (Some verb.Interrupt) l own s = printed (interrupt_text (is_high s.play.board)) s
+obeyed (Some verb.Record) l own s = printed (record_text s.play.board) s
+obeyed (Some verb.Say) l own s = printed (say_text own) s
 
 -- ---- how the code parts the verbs: calls, and what is the host's alone: sizes, host writes, and what is only printed
 
@@ -159,7 +159,6 @@ asked_of w l =
     record { which = w; times = times_by w l; verdict = l.first % many; report = l.second % 65536; budget = turn_count l }
 
 abbrev pub deed_of : Verb → Deed
-deed_of verb.Nothing = deed.Host part.Print
 deed_of verb.Size = deed.Host part.Size
 deed_of verb.Reset = deed.Call which.Reset
 deed_of verb.Attention = deed.Call which.Attention
@@ -180,7 +179,6 @@ calls_of zero c s = s
 calls_of (suc n) c s = called c (calls_of n c s)
 
 unfoldable pub text_by : Verb → Area → Board → List ℕ → List ℕ → List ℕ → List ℕ → ℕ → ℕ → List ℕ
-text_by verb.Nothing a b m h og own place count = []
 text_by verb.Size a b m h og own place count = []
 text_by verb.Reset a b m h og own place count = []
 text_by verb.Attention a b m h og own place count = []

@@ -20,7 +20,7 @@ pub struct Play {
     pub at: usize,
 }
 
-// What a line is for that makes no call: another size of memory, a host write, or what it prints, which may be nothing.
+// What a line is for that makes no call: another size of memory, a host write, or what it prints.
 #[derive(Clone, Copy)]
 pub enum Part {
     Size,
@@ -169,7 +169,6 @@ pub fn deed_of(verb: Verb) -> Deed
     ensures { result ≡ scene.deed_of verb }
 {
     match verb {
-        Verb::Nothing => Deed::Host(Part::Print),
         Verb::Size => Deed::Host(Part::Size),
         Verb::Reset => Deed::Call(Which::Reset),
         Verb::Attention => Deed::Call(Which::Attention),
@@ -204,7 +203,6 @@ fn print(
         at out.old result out.new }
 {
     match verb {
-        Verb::Nothing => at,
         Verb::Size => at,
         Verb::Reset => at,
         Verb::Attention => at,

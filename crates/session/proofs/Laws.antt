@@ -1,6 +1,9 @@
 -- What the proofs of the session share: states that are what is said, a stretch character by character. Assumes nothing.
 use Rattle.std.proofs.Common.{◌≡◌, ℕ, zero, suc, ◌+◌, ◌<◌, min, Bool, true, false, cond, eqb, List, [], ◌∷◌, ◌++◌, length, get_or, take, sym, refl, ap, ◌∙◌, subst, arith}
+use Rattle.std.specs.Prelude.{Option, Some, None}
+use Rattle.std.specs.Option.{option_map_or}
 use Rattle.board.proofs.Laws.{take_least}
+use Rattle.wording.specs.declared.Fault.{Fault}
 use Rattle.wording.specs.declared.Line.{Line}
 use Rattle.lines.specs.declared.Reader.{Reader}
 use Rattle.lines.specs.Reader as lines
@@ -58,16 +61,18 @@ refuse : {A : Type 0} (b : Bool) (x y : A) → b ≡ false → cond b x y ≡ y
 refuse b x y e = ap (λ (k : Bool). cond k x y) e
 
 -- a line that was judged: it was right and has been obeyed, or it was wrong and the session has stopped
-module _ (s : Session) (r : Reader) (m h og by out : List ℕ) (t : Session) (m' h' og' o' : List ℕ) (right : Bool) (is : right ≡ lines.is_right r) where
-  pub judged_right : right ≡ true → Runs (line_obeyed s r.line m h og by out) t m' h' og' by o' → Runs (judged s r m h og by out) t m' h' og' by o'
-  unfolding judged
-  judged_right y z =
-      subst (λ (k : State). Runs k t m' h' og' by o') (sym (choose (lines.is_right r) (line_obeyed s r.line m h og by out) (stopped_by s r m h og by out) (sym is ∙ y))) z
+module _ (s : Session) (r : Reader) (m h og by out : List ℕ) (t : Session) (m' h' og' o' : List ℕ) where
+  abbrev Judged : Option Fault → Type 0
+  Judged o = Runs (option_map_or (λ f. stopped_by s r f m h og by out) o (line_obeyed s r.line m h og by out)) t m' h' og' by o'
 
-  pub judged_wrong : right ≡ false → Runs (stopped_by s r m h og by out) t m' h' og' by o' → Runs (judged s r m h og by out) t m' h' og' by o'
+  pub judged_right : r.fault ≡ None → Runs (line_obeyed s r.line m h og by out) t m' h' og' by o' → Runs (judged s r m h og by out) t m' h' og' by o'
   unfolding judged
-  judged_wrong y z =
-      subst (λ (k : State). Runs k t m' h' og' by o') (sym (refuse (lines.is_right r) (line_obeyed s r.line m h og by out) (stopped_by s r m h og by out) (sym is ∙ y))) z
+  judged_right e z = subst Judged (sym e) z
+
+  pub judged_wrong : (f : Fault) → r.fault ≡ Some f → Runs (stopped_by s r f m h og by out) t m' h' og' by o'
+      → Runs (judged s r m h og by out) t m' h' og' by o'
+  unfolding judged
+  judged_wrong f e z = subst Judged (sym e) z
 
 -- a character ends a line and what was read is judged, or it is read
 module _ (s : Session) (m h og by out : List ℕ) where

@@ -3,16 +3,15 @@
 
 #![tactic(auto)]
 
-ghost use Rattle.std.specs.Prelude.{◌≡◌, ℕ, min, List};
+ghost use Rattle.std.specs.Prelude.{◌≡◌, ℕ, List};
 ghost use Rattle.lines.specs.Reader as lines;
 ghost use Rattle.session.specs.Run.{Runs};
 ghost use Rattle.session.specs.Run as run;
 
 use board::Board;
-use faults::Expected;
 use lines::Reader;
 use scene::Play;
-use wording::Wrong;
+use wording::Fault;
 
 // The board; where the next text goes; the number of the line that is being read; its reader; whether it has stopped, as it does at a line that
 // is wrong.
@@ -50,33 +49,13 @@ pub fn with_reader(s: Session, reader: Reader) -> Session
     Session { reader, ..s }
 }
 
-// What was expected, as it is printed. Where nothing is wrong nothing is printed.
-fn expected(wrong: Wrong) -> Expected
-    ensures { result ≡ run.expected_of wrong }
-{
-    match wrong {
-        Wrong::Nothing => Expected::End,
-        Wrong::First => Expected::First,
-        Wrong::Number => Expected::Number,
-        Wrong::Size => Expected::Size,
-        Wrong::Short => Expected::Short,
-        Wrong::Area => Expected::Area,
-        Wrong::Place => Expected::Place,
-        Wrong::Bytes => Expected::Bytes,
-        Wrong::Room => Expected::Room,
-        Wrong::End => Expected::End,
-    }
-}
-
 // A wrong line: its fault is printed, and the session stops.
-pub fn stop(s: Session, reader: Reader, out: &mut [u8]) -> Session
-    ensures { (m h og by : List ℕ) → Runs (run.stopped_by s reader m h og by out.old) result m h og by out.new }
+pub fn stop(s: Session, reader: Reader, fault: Fault, out: &mut [u8]) -> Session
+    ensures { (m h og by : List ℕ) → Runs (run.stopped_by s reader fault m h og by out.old) result m h og by out.new }
 {
-    let fault = reader.fault;
-    let wrong = fault.wrong;
-    let next = faults::put_fault(out, s.at, s.line, fault.column as u64, expected(wrong));
+    let at = faults::put_fault(out, s.at, s.line, fault);
     Session {
-        at: next,
+        at,
         reader,
         stopped: true,
         ..s
@@ -94,25 +73,13 @@ pub fn halted(s: Session) -> Session
 pub fn next_line(s: Session, p: Play) -> Session
     ensures { result ≡ run.next_line s p }
 {
-    let board = p.board;
     Session {
-        board,
+        board: p.board,
         at: p.at,
-        line: std::num::wrapping_add_u64(s.line, 1),
+        line: s.line.wrapping_add(1),
         reader: lines::start(),
         stopped: s.stopped,
     }
-}
-
-// How many bytes a line has brought, of those that are there.
-pub fn own_length(filled: u32, most: usize) -> usize
-    ensures { result ≡ min filled most }
-{
-    let n = filled as usize;
-    if n < most {
-        return n;
-    }
-    most
 }
 
 // What a character makes of the reader: at a line's end what was read is ended; after bad input nothing more is read.
@@ -123,7 +90,7 @@ pub fn read_on(s: Session, bytes: &mut [u8], c: u8) -> Reader
     if s.stopped {
         return r;
     }
-    if c == 10 {
+    if c == b'\n' {
         return lines::end(bytes, r);
     }
     lines::read(bytes, r, c)
@@ -133,8 +100,5 @@ pub fn read_on(s: Session, bytes: &mut [u8], c: u8) -> Reader
 pub fn ends_line(s: Session, c: u8) -> bool
     ensures { result ≡ run.ends_line s c }
 {
-    if s.stopped {
-        return false;
-    }
-    c == 10
+    !s.stopped && c == b'\n'
 }

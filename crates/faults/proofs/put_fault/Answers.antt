@@ -13,5 +13,5 @@ returns c =
     (puts_cat (puts_cat c.put_text-first.ensures c.put_decimal-second.ensures) c.put_text-third.ensures)
     c.put_decimal-fourth.ensures)
     c.put_text-fifth.ensures)
-    c.put_expected-sixth.ensures)
+    (rw c.expected.ensures at c.put_text-sixth.ensures))
     c.put_byte.ensures

@@ -3,10 +3,6 @@ use Rattle.texts.proofs.Laws.{puts_none}
 use Rattle.scene.specs.Scene.{text_by}
 use Rattle.scene.proofs.print.Goals as goal
 
-pub returns-in-Nothing : goal.returns-in-Nothing
-unfolding text_by
-returns-in-Nothing c = rw c.in-Nothing.is (puts_none _ _)
-
 pub returns-in-Size : goal.returns-in-Size
 unfolding text_by
 returns-in-Size c = rw c.in-Size.is (puts_none _ _)
