@@ -26,8 +26,7 @@ use Rattle.calls.proofs.Laws.{no_image}
 use Rattle.board.specs.declared.Returned.{Returned}
 use Rattle.board.specs.Front.{areas_with, Fronted}
 use Rattle.board.specs.declared.Board.{Board}
-use Rattle.board.specs.declared.Said.{Said}
-use Rattle.board.specs.Board.{start, resized, is_high, attention, arrive, turn, run, said_of, lent, Left, left_as, left_by, on_board, Leaves, Call, reset, exported_of}
+use Rattle.board.specs.Board.{start, resized, is_high, attention, arrive, turn, run, said_of, lent, Left, Said, left_as, left_by, on_board, Leaves, Call, reset, exported_of}
 
 -- ---- what is lent
 
