@@ -6,7 +6,7 @@ use Rattle.faults.proofs.put_fault.Goals as goal
 pub returns : goal.returns
 unfolding fault_text
 returns c =
-    rw (← c.in_words.ensures)
+    rw (← c.expected.ensures)
     (prints_cat
     (prints_cat
     (prints_cat
