@@ -1,9 +1,7 @@
 -- What the proofs of the session share: one thing after another, a line, a character, a stretch character by character. Assumes nothing.
-use Rattle.std.proofs.Common.{◌≡◌, ℕ, zero, suc, ◌+◌, ◌%◌, ◌^◌, ◌<◌, min, Bool, true, false, cond, List, [], ◌∷◌, ◌++◌, length, get_or, take, sym, refl, ap, ◌∙◌, arith, Option, Some, None}
+use Rattle.std.proofs.Common.{◌≡◌, ℕ, zero, suc, ◌+◌, ◌%◌, ◌^◌, ◌<◌, min, Bool, true, false, cond, eqb, List, [], ◌∷◌, ◌++◌, length, get_or, take, sym, refl, ap, ◌∙◌, arith, Option, Some, None}
 use borrow.Author.Tests.{eq-eqb, ne_eqb}
 use Rattle.std.specs.Option.{option_map_or}
-use Rattle.std.specs.Prelude.{◌==◌}
-use Rattle.board.proofs.Laws.{take_least}
 use Rattle.wording.specs.declared.Fault.{Fault}
 use Rattle.wording.specs.declared.Line.{Line}
 use Rattle.lines.specs.declared.Reader.{Reader}
@@ -14,7 +12,7 @@ use Rattle.faults.specs.Faults.{fault_text}
 use Rattle.scene.specs.declared.Scene.{Scene as Staged}
 use Rattle.scene.specs.Scene.{Scene, scene_in, Plays, obeyed}
 use Rattle.session.specs.declared.Session.{Session as Held}
-use Rattle.session.specs.Run.{Session, State, state_of, halted_in, stopped_at, stopped_in, stopped_by, behind_line, line_obeyed, judged, judged_in, line_ended, fed, ran}
+use Rattle.session.specs.Run.{Session, State, state_of, halted_in, stopped_at, stopped_in, stopped_by, behind_line, line_obeyed, judged, judged_in, ended_by, line_ended, read_by, fed, ran}
 use Rattle.session.specs.Held.{session_in, state_in, Runs}
 
 -- ---- one thing after another
@@ -54,33 +52,71 @@ fault_told f h g k p q =
 abbrev obeyed_in : State → State
 obeyed_in t = line_obeyed t.session t.session.reader.line t.memory t.holding t.outgoing t.bytes t.out
 
--- it was obeyed, with as many bytes as it has brought of those that are there
-line_done : (h : Held) (n : ℕ) (c : Staged) → n ≡ min h.reader.line.filled (length h.bytes.now)
-    → Plays (obeyed h.reader.line.verb h.reader.line (take n h.bytes.now)) h.scene c
-    → Runs obeyed_in h (record { scene = c; bytes = h.bytes; line = (h.line + 1) % 2 ^ 64; reader = lines.start; stopped = h.stopped })
-unfolding line_obeyed
-line_done h n c e p =
-    let l = h.reader.line in
-    let brought : take n h.bytes.now ≡ take l.filled h.bytes.now = ap (λ (k : ℕ). take k h.bytes.now) e ∙ take_least l.filled h.bytes.now in
-    ((p.0, refl),
-    ap (behind_line (session_in h) h.bytes.now) (p.1 ∙ ap (λ (ys : List ℕ). obeyed l.verb l ys (scene_in h.scene)) brought))
+-- the session behind a line, whose scene is c
+abbrev pub behind : Held → Staged → Reader → Held
+behind h c r = record { scene = c; bytes = h.bytes; line = (h.line + 1) % 2 ^ 64; reader = r; stopped = h.stopped }
 
-pub judged_right : (h : Held) (n : ℕ) (c : Staged) → h.reader.fault ≡ None → n ≡ min h.reader.line.filled (length h.bytes.now)
-    → Plays (obeyed h.reader.line.verb h.reader.line (take n h.bytes.now)) h.scene c
-    → Runs judged_in h (record { scene = c; bytes = h.bytes; line = (h.line + 1) % 2 ^ 64; reader = lines.start; stopped = h.stopped })
+line_done : (h : Held) (c : Staged) → Plays (obeyed h.reader.line.verb h.reader.line (take h.reader.line.filled h.bytes.now)) h.scene c
+    → Runs obeyed_in h (behind h c lines.start)
+unfolding line_obeyed
+line_done h c p = ((p.0, refl), ap (behind_line (session_in h) h.bytes.now) p.1)
+
+pub judged_right : (h : Held) (c : Staged) (r : Reader) → h.reader.fault ≡ None → r ≡ lines.start
+    → Plays (obeyed h.reader.line.verb h.reader.line (take h.reader.line.filled h.bytes.now)) h.scene c
+    → Runs judged_in h (behind h c r)
 unfolding judged
-judged_right h n c w e p =
-    let k : Held = record { scene = c; bytes = h.bytes; line = (h.line + 1) % 2 ^ 64; reader = lines.start; stopped = h.stopped } in
+judged_right h c r w e p =
     let t = state_in h in
-    runs_is obeyed_in judged_in h k
-    (ap (λ (o : Option Fault). option_map_or (λ f. stopped_in f t) o (obeyed_in t)) (sym w))
-    (line_done h n c e p)
+    let done = line_done h c p in
+    (done.0,
+    ap (λ (x : Reader). state_in (behind h c x)) e
+    ∙ done.1
+    ∙ ap (λ (o : Option Fault). option_map_or (λ f. stopped_in f t) o (obeyed_in t)) (sym w))
 
 pub judged_wrong : (h k : Held) (f : Fault) → h.reader.fault ≡ Some f → Runs (stopped_in f) h k → Runs judged_in h k
 unfolding judged
 judged_wrong h k f w p =
     let t = state_in h in
     runs_is (stopped_in f) judged_in h k (ap (λ (o : Option Fault). option_map_or (λ g. stopped_in g t) o (obeyed_in t)) (sym w)) p
+
+-- ---- a character
+
+-- what was read of a line: r is the reader, ys are the bytes
+abbrev pub with_read : Held → Reader → List ℕ → Held
+with_read h r ys = record { scene = h.scene; bytes = record h.bytes { now = ys }; line = h.line; reader = r; stopped = h.stopped }
+
+fed_when : (t : State) (c : ℕ) (a b : Bool) → t.session.stopped ≡ a → eqb c 10 ≡ b
+    → fed t c ≡ cond a t (cond b (line_ended t) (read_by t (lines.read t.session.reader c t.bytes)))
+unfolding fed
+fed_when t c a b p q = λ i. cond (p i) t (cond (q i) (line_ended t) (read_by t (lines.read t.session.reader c t.bytes)))
+
+pub fed_stopped : (h : Held) (c : ℕ) → h.stopped ≡ true → Runs (λ t. fed t c) h h
+fed_stopped h c w = ((((refl, refl, refl), refl), refl), sym (fed_when (state_in h) c true (eqb c 10) w refl))
+
+-- a line is judged by its reader, whatever the session had
+judged_as : (t : State) (e : lines.Read) → judged_in (read_by t e) ≡ ended_by t e
+unfolding judged stopped_by line_obeyed
+judged_as t e = refl
+
+read_as : (h : Held) (r : Reader) (ys : List ℕ) (e : lines.Read) → lines.Reads e r ys → state_in (with_read h r ys) ≡ read_by (state_in h) e
+read_as h r ys e x = λ i. read_by (state_in h) (record { reader = x.reader i; bytes = x.bytes i })
+
+pub fed_end : (h : Held) (c : ℕ) (r : Reader) (ys : List ℕ) (k : Held) → h.stopped ≡ false → c ≡ 10
+    → lines.Reads (lines.end h.reader h.bytes.now) r ys
+    → Runs judged_in (with_read h r ys) k
+    → Runs (λ t. fed t c) h k
+unfolding line_ended
+fed_end h c r ys k w e x p =
+    let t = state_in h in
+    let end = lines.end h.reader h.bytes.now in
+    (p.0, p.1 ∙ ap judged_in (read_as h r ys end x) ∙ judged_as t end ∙ sym (fed_when t c false true w (eq-eqb c 10 e)))
+
+pub fed_on : (h : Held) (c : ℕ) (r : Reader) (ys : List ℕ) → h.stopped ≡ false → (c ≡ 10 → ⊥)
+    → lines.Reads (lines.read h.reader c h.bytes.now) r ys
+    → Runs (λ t. fed t c) h (with_read h r ys)
+fed_on h c r ys w e x =
+    let t = state_in h in
+    ((((refl, refl, refl), refl), refl), read_as h r ys (lines.read h.reader c h.bytes.now) x ∙ sym (fed_when t c false false w (ne_eqb c 10 e)))
 
 -- ---- a stretch
 
