@@ -51,7 +51,14 @@ fn on_board(asked: Asked, b: Board, areas: &mut Areas<'_>, frame: &[u8]) -> Retu
     ensures { Leaves (call_of asked frame.now) b areas.old result areas.new }
 {
     let n = b.size.min(areas.memory.len());
-    lent(asked, b.kept, &mut areas.memory[..n], areas.holding, areas.outgoing, frame)
+    lent(
+        asked,
+        b.kept,
+        &mut areas.memory[..n],
+        areas.holding,
+        areas.outgoing,
+        frame,
+    )
 }
 
 // A call, and its answer is printed; own: the bytes that the line brought.

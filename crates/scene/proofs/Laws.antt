@@ -30,9 +30,10 @@ use Rattle.scene.specs.Scene.{Scene, play_of, scene_of, scene_in, Plays, behind,
 -- a text that is printed
 pub prints : (text : List ℕ) (c : Held) (q : Page) → Prints text c.page q
     → Plays (printed text) c (record { board = c.board; areas = c.areas; page = q })
-prints text c q p =
-    (((refl, refl, refl), p.0),
-    (λ i. scene_of (play_of c.board (p.1.next i)) c.areas.memory.now c.areas.holding.now c.areas.outgoing.now (p.1.bytes i)))
+prints text c q p = (
+  ((refl, refl, refl), p.0),
+  (λ i. scene_of (play_of c.board (p.1.next i)) c.areas.memory.now c.areas.holding.now c.areas.outgoing.now (p.1.bytes i)),
+)
 
 -- a call that was made, and whose answer was printed
 pub call_told : (x : Call) (c : Held) (r : Returned) (q : Lent) (g : Page) → Leaves x c.board c.areas r q → Prints (answer_text r.answer) c.page g
@@ -41,7 +42,7 @@ unfolding called
 call_told x c r q g l t =
     let b : Board = record { kept = r.kept; size = c.board.size } in
     let told : scene_of (play_of b g.at) q.memory.now q.holding.now q.outgoing.now g.out.now
-        ≡ tell_by c.page.at c.page.out.now (left_as (said_of c.board r.kept r.answer) q.memory.now q.holding.now q.outgoing.now) =
+    ≡ tell_by c.page.at c.page.out.now (left_as (said_of c.board r.kept r.answer) q.memory.now q.holding.now q.outgoing.now) =
     λ i. scene_of (play_of b (t.1.next i)) q.memory.now q.holding.now q.outgoing.now (t.1.bytes i) in
     ((l.0, t.0), told ∙ ap (tell_by c.page.at c.page.out.now) l.1)
 

@@ -43,9 +43,10 @@ pub fault_told : (f : Fault) (h : Held) (g : Page) (k : Held) → Prints (fault_
     → Runs (stopped_in f) h k
 unfolding stopped_by
 fault_told f h g k p q =
-    let t = state_in h in
-    (((q.0.0.0, q.0.0.1 ∙ p.0), q.0.1),
-    q.1 ∙ (λ i. state_of (stopped_at t.session t.session.reader (p.1.next i)) t.memory t.holding t.outgoing t.bytes (p.1.bytes i)))
+    let t = state_in h in (
+      ((q.0.0.0, q.0.0.1 ∙ p.0), q.0.1),
+      q.1 ∙ (λ i. state_of (stopped_at t.session t.session.reader (p.1.next i)) t.memory t.holding t.outgoing t.bytes (p.1.bytes i)),
+    )
 
 -- ---- a line that has been read to its end
 
@@ -67,11 +68,12 @@ pub judged_right : (h : Held) (c : Staged) (r : Reader) → h.reader.fault ≡ N
 unfolding judged
 judged_right h c r w e p =
     let t = state_in h in
-    let done = line_done h c p in
-    (done.0,
-    ap (λ (x : Reader). state_in (behind h c x)) e
-    ∙ done.1
-    ∙ ap (λ (o : Option Fault). option_map_or (λ f. stopped_in f t) o (obeyed_in t)) (sym w))
+    let done = line_done h c p in (
+      done.0,
+      ap (λ (x : Reader). state_in (behind h c x)) e
+          ∙ done.1
+          ∙ ap (λ (o : Option Fault). option_map_or (λ f. stopped_in f t) o (obeyed_in t)) (sym w),
+    )
 
 pub judged_wrong : (h k : Held) (f : Fault) → h.reader.fault ≡ Some f → Runs (stopped_in f) h k → Runs judged_in h k
 unfolding judged
