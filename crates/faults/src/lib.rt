@@ -1,12 +1,13 @@
-// What the replay program says of a bad line (docs/replay.md, "Bad input"): where it went wrong and what was expected, put into a slice as texts
+// What the replay program says of a bad line (docs/replay.md, "Bad input"): where it went wrong and what was expected, put on a page as texts
 // puts its texts.
 
 #![tactic(auto)]
 
 ghost use Rattle.std.specs.Prelude.{◌≡◌};
-ghost use Rattle.texts.specs.Texts.{Puts};
+ghost use Rattle.texts.specs.Page.{Prints};
 ghost use Rattle.faults.specs.Faults as faults;
 
+use texts::Page;
 use wording::{Fault, Wrong};
 
 // What was expected, in words.
@@ -28,14 +29,14 @@ fn expected(what: Wrong) -> &'static [u8]
 }
 
 // The line of a fault.
-pub fn put_fault(out: &mut [u8], at: usize, line: u64, fault: Fault) -> usize
-    ensures { Puts (faults.fault_text line fault) at out.old result out.new }
+pub fn put_fault(page: &mut Page<'_>, line: u64, fault: Fault)
+    ensures { Prints (faults.fault_text line fault) page.old page.new }
 {
-    let first = texts::put_text(out, at, b"line ");
-    let second = texts::put_decimal(out, first, line);
-    let third = texts::put_text(out, second, b", column ");
-    let fourth = texts::put_decimal(out, third, fault.column as u64);
-    let fifth = texts::put_text(out, fourth, b": expected ");
-    let sixth = texts::put_text(out, fifth, expected(fault.wrong));
-    texts::put_byte(out, sixth, b'\n')
+    page.put_text(b"line ");
+    page.put_decimal(line);
+    page.put_text(b", column ");
+    page.put_decimal(fault.column as u64);
+    page.put_text(b": expected ");
+    page.put_text(expected(fault.wrong));
+    page.put_byte(b'\n');
 }

@@ -18,8 +18,7 @@ use Rattle.texts.proofs.Lengths.{puts_whole}
 use Rattle.scene.specs.Scene.{Scene, play_of, scene_of}
 use Rattle.printing.specs.Line.{line_text, quiet}
 use Rattle.printing.proofs.Line.{obeyed_puts, quiet_obeyed, text_quiet}
-use Rattle.session.specs.declared.Session.{Session}
-use Rattle.session.specs.Run.{State, state_of, behind_line, stopped_by, line_obeyed, judged, line_ended, fed, ran}
+use Rattle.session.specs.Run.{Session, State, state_of, behind_line, stopped_by, line_obeyed, judged, line_ended, fed, ran}
 use Rattle.printing.specs.Run.{judged_text, char_text, text_of, emptied_in, written, in_stretches, joined, Room, quietly}
 
 -- ---- a state puts a text: from one state to another

@@ -16,8 +16,7 @@ use Rattle.lines.specs.Reader as lines
 use Rattle.faults.specs.Faults.{fault_text}
 use Rattle.faults.proofs.Lengths.{length_fault}
 use Rattle.scene.specs.Scene.{play_of, scene_of}
-use Rattle.session.specs.declared.Session.{Session}
-use Rattle.session.specs.Run.{State, state_of, start, stopped_by, line_obeyed, judged, line_ended, fed, ran}
+use Rattle.session.specs.Run.{Session, State, state_of, start, stopped_by, line_obeyed, judged, line_ended, fed, ran}
 use Rattle.printing.specs.Line.{longest_line, program_room}
 use Rattle.printing.specs.Run.{judged_text, char_text, text_of, emptied_in, in_stretches, joined, Room, newlines, Cut}
 use Rattle.printing.specs.Sane.{Narrow, Sane}

@@ -6,8 +6,7 @@ use Rattle.lines.specs.Reader as lines
 use Rattle.faults.specs.Faults.{fault_text}
 use Rattle.scene.specs.Scene.{play_of, scene_of}
 use Rattle.printing.specs.Line.{line_text}
-use Rattle.session.specs.declared.Session.{Session}
-use Rattle.session.specs.Run.{State, state_of, emptied, fed, ran}
+use Rattle.session.specs.Run.{Session, State, state_of, emptied, fed, ran}
 
 -- ---- what is printed, where there is room for it
 

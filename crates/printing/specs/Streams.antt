@@ -7,8 +7,7 @@ use Rattle.faults.specs.Faults.{fault_text}
 use Rattle.scene.specs.Scene.{play_of, scene_of}
 use Rattle.printing.specs.Line.{line_text}
 use Rattle.printing.specs.Run.{emptied_in, written}
-use Rattle.session.specs.declared.Session.{Session}
-use Rattle.session.specs.Run.{State, fed, ran}
+use Rattle.session.specs.Run.{Session, State, fed, ran}
 
 -- standard output and the error stream
 pub data Stream : Type 0 where

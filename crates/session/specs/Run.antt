@@ -8,11 +8,18 @@ use Rattle.wording.specs.declared.Line.{Line}
 use Rattle.lines.specs.declared.Reader.{Reader}
 use Rattle.lines.specs.Reader as lines
 use Rattle.faults.specs.Faults.{fault_text}
-use Rattle.scene.specs.declared.Play.{Play}
-use Rattle.session.specs.declared.Session.{Session}
-use Rattle.scene.specs.Scene.{Scene, play_of, scene_of, behind, obeyed}
+use Rattle.board.specs.declared.Board.{Board}
+use Rattle.scene.specs.Scene.{Scene, Play, play_of, scene_of, behind, obeyed}
 
 -- ---- the state
+
+-- the board; where the next text goes; the number of the line that is being read; its reader; whether it has stopped
+pub record Session : Type 0 where
+  pub board : Board
+  pub at : ℕ
+  pub line : ℕ
+  pub reader : Reader
+  pub stopped : Bool
 
 -- the session, the areas, the bytes of the line that is being read, and the slice that texts are put into
 pub record State : Type 0 where
@@ -25,15 +32,6 @@ pub record State : Type 0 where
 
 abbrev pub state_of : Session → List ℕ → List ℕ → List ℕ → List ℕ → List ℕ → State
 state_of s m h og by out = record { session = s; memory = m; holding = h; outgoing = og; bytes = by; out = out }
-
--- what the code does
-pub record Runs (said : State) (s : Session) (m h og by o : List ℕ) : Type 0 where
-  pub session : s ≡ said.session
-  pub memory : m ≡ said.memory
-  pub holding : h ≡ said.holding
-  pub outgoing : og ≡ said.outgoing
-  pub bytes : by ≡ said.bytes
-  pub out : o ≡ said.out
 
 -- line 1, nothing read, nothing printed
 abbrev pub start : Session
@@ -54,10 +52,16 @@ stopped_at s r at = record { board = s.board; at = at; line = s.line; reader = r
 abbrev pub halted : Session → Session
 halted s = stopped_at s s.reader s.at
 
+abbrev pub halted_in : State → State
+halted_in st = state_of (halted st.session) st.memory st.holding st.outgoing st.bytes st.out
+
 -- "One line says where and what was expected, and the program stops"
 unfoldable pub stopped_by : Session → Reader → Fault → List ℕ → List ℕ → List ℕ → List ℕ → List ℕ → State
 stopped_by s r f m h og by out =
     state_of (stopped_at s r (behind (fault_text s.line f) s.at out)) m h og by (sets out s.at (fault_text s.line f))
+
+abbrev pub stopped_in : Fault → State → State
+stopped_in f st = stopped_by st.session st.session.reader f st.memory st.holding st.outgoing st.bytes st.out
 
 -- ---- a right line
 
@@ -79,6 +83,9 @@ line_obeyed s l m h og by out = behind_line s by (obeyed l.verb l (take l.filled
 unfoldable pub judged : Session → Reader → List ℕ → List ℕ → List ℕ → List ℕ → List ℕ → State
 judged s r m h og by out = option_map_or (λ f. stopped_by s r f m h og by out) r.fault (line_obeyed s r.line m h og by out)
 
+abbrev pub judged_in : State → State
+judged_in st = judged st.session st.session.reader st.memory st.holding st.outgoing st.bytes st.out
+
 abbrev pub ended_by : State → lines.Read → State
 ended_by st e = judged st.session e.reader st.memory st.holding st.outgoing e.bytes st.out
 
@@ -99,14 +106,3 @@ fed st c =
 unfoldable pub ran : State → List ℕ → State
 ran st [] = st
 ran st (c ∷ cs) = ran (fed st c) cs
-
--- ---- how the code takes a character: what it makes of the reader, and whether it ends a line
-
-abbrev pub read_on : Session → ℕ → List ℕ → lines.Read
-read_on s c by =
-    cond s.stopped (lines.left s.reader by)
-    (cond (c == 10) (lines.end s.reader by)
-    (lines.read s.reader c by))
-
-abbrev pub ends_line : Session → ℕ → Bool
-ends_line s c = cond s.stopped false (c == 10)
