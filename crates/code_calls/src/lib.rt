@@ -4,7 +4,6 @@
 #![tactic(auto)]
 
 ghost use Rattle.std.specs.Prelude.{◌≡◌, ◌+◌, ◌*◌, ◌^◌, ◌<◌, ◌≤◌, length};
-ghost use Rattle.scb.specs.Words as words;
 ghost use Rattle.device.specs.Limits.{record_size};
 ghost use Rattle.device.specs.declared.Refusal.TheVariants as refusals;
 ghost use Rattle.device.specs.declared.Units.{Units};
@@ -12,16 +11,9 @@ ghost use Rattle.calls.specs.Calls as calls;
 ghost use Rattle.code_calls.specs.Inner as inner;
 
 use device::{Answer, Reason, Refusal};
-use image::Decoded;
-use packed::{Packed, record};
+use packed::{Packed, record, setup};
 
 // ---- the answer as one number
-
-fn one(b: bool) -> u64
-    ensures { (result ≡ words.one b) × (result < 2) }
-{
-    if b { 1 } else { 0 }
-}
 
 // What the length, the edge and the reason count in an answer: bits 16, 32 and 40.
 const LENGTH: u64 = 1 << 16;
@@ -41,7 +33,7 @@ fn answer_number(a: Answer) -> u64
     let reason = a.reason;
     device::refusal_number(number) as u64
         + a.length as u64 * LENGTH
-        + one(a.edge) * EDGE
+        + u64::from(a.edge) * EDGE
         + device::reason_number(reason) as u64 * REASON
 }
 
@@ -105,7 +97,8 @@ fn attention_on(memory: &mut [u8], kept: &mut [u8], k: Packed) -> u64
     requires { length kept.old ≡ record_size }
     ensures { (u : Units) → inner.Finds kept.old k u → inner.AttendsOn u memory.old kept.old result memory.new kept.new }
 {
-    let a = code_attention::attend(memory, &mut kept[record::SETUP..record::SIZE], k);
+    let setup = kept.last_chunk_mut::<{ setup::SIZE }>().unwrap();
+    let a = code_attention::attend(memory, setup, k);
     let after = a.packed;
     image::store(kept, after);
     answer_of(a.edge, Reason::NotDropped)
@@ -125,14 +118,8 @@ fn arrival_on(
         memory.old holding.old kept.old frame.now verdict result
         memory.new holding.new kept.new }
 {
-    let a = code_chip::arrival(
-        memory,
-        holding,
-        &kept[record::SETUP..record::SIZE],
-        k,
-        frame,
-        verdict,
-    );
+    let setup = kept.last_chunk::<{ setup::SIZE }>().unwrap();
+    let a = code_chip::arrival(memory, holding, setup, k, frame, verdict);
     let after = a.packed;
     let reason = a.reason;
     image::store(kept, after);
@@ -163,15 +150,8 @@ fn turns_on(
         memory.old holding.now outgoing.old kept.old report budget unit result
         memory.new outgoing.new kept.new }
 {
-    let t = code_chip::run(
-        memory,
-        holding,
-        outgoing,
-        &mut kept[record::SETUP..record::SIZE],
-        k,
-        report,
-        budget,
-    );
+    let setup = kept.last_chunk_mut::<{ setup::SIZE }>().unwrap();
+    let t = code_chip::run(memory, holding, outgoing, setup, k, report, budget);
     let after = t.packed;
     image::store(kept, after);
     answer_told(t.told, t.taken, unit)
@@ -226,7 +206,7 @@ pub fn call(
     if device::refusal_number(r) != 0 {
         return refuse(r);
     }
-    let Decoded::Units(k) = image::decode(kept) else {
+    let Some(k) = image::decode(kept) else {
         return refuse(Refusal::Foreign);
     };
     match asked {

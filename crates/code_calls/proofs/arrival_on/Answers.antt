@@ -13,11 +13,12 @@ returns c u f =
     let r = c.args.kept.now in
     let fits : (i : ℕ) → Fits w8 (get_or r i 0) = search rules in
     let b : Bytes r = record { each = λ i. omega (arith, fits i) } in
-    let e = lent_device r c.args.k u c.requires b f in
+    let lent = rw c.unwrap-setup.ensures at c.last_chunk.ensures.cases in
+    let e = lent_device r c.args.k u c.requires b f _ lent.1.same in
     let a = c.arrival-a.ensures (device_at r u) in
     record {
       answer = λ out. c.answer_of.ensures ∙ ap answer_number (sym (a out e).answer);
       memory = λ out. (a out e).memory;
       holding = λ out. (a out e).holding;
-      kept = λ out. c.store.ensures ∙ put_numbers r c.args.k u c.requires b f _ _ (a out e).device;
+      kept = λ out. c.store.ensures ∙ put_numbers r c.args.k u c.requires b f _ _ _ lent.1.same (a out e).device;
     }

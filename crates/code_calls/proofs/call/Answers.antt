@@ -30,7 +30,7 @@ pub returns-in-Attention : goal.returns-in-Attention
 returns-in-Attention c =
     let s = c.args in
     let a = areas_of s.memory.now s.holding.now s.outgoing.now s.kept.now in
-    let f = found_units (decode_of s.kept.now) _ (sym c.in-Units.ensures) in
+    let f = found_units (decode_of s.kept.now) _ (sym c.in-Some.ensures) in
     let w = world_of (device_at s.kept.now f.units) s.memory.now s.holding.now s.outgoing.now in
     let e = c.attention_on.ensures f.units (record { found = f.found; numbers = f.numbers }) in
     as_said
@@ -42,7 +42,7 @@ pub returns-in-Arrival : goal.returns-in-Arrival
 returns-in-Arrival c =
     let s = c.args in
     let a = areas_of s.memory.now s.holding.now s.outgoing.now s.kept.now in
-    let f = found_units (decode_of s.kept.now) _ (sym c.in-Units.ensures) in
+    let f = found_units (decode_of s.kept.now) _ (sym c.in-Some.ensures) in
     let w = world_of (device_at s.kept.now f.units) s.memory.now s.holding.now s.outgoing.now in
     let e = c.arrival_on.ensures f.units (record { found = f.found; numbers = f.numbers }) in
     as_said
@@ -54,7 +54,7 @@ pub returns-in-Turns : goal.returns-in-Turns
 returns-in-Turns c =
     let s = c.args in
     let a = areas_of s.memory.now s.holding.now s.outgoing.now s.kept.now in
-    let f = found_units (decode_of s.kept.now) _ (sym c.in-Units.ensures) in
+    let f = found_units (decode_of s.kept.now) _ (sym c.in-Some.ensures) in
     let w = world_of (device_at s.kept.now f.units) s.memory.now s.holding.now s.outgoing.now in
     let e = c.turns_on.ensures f.units (record { found = f.found; numbers = f.numbers }) in
     as_said
