@@ -3,14 +3,14 @@
 
 #![tactic(auto)]
 
-ghost use Rattle.std.specs.Prelude.{◌≡◌, ◌≤◌, ◌<◌, ◌^◌, length};
+ghost use Rattle.std.specs.Prelude.{◌≡◌, ◌≤◌, ◌<◌, ◌^◌};
 ghost use Rattle.device.specs.Limits.{longest_address};
 ghost use Rattle.device.specs.Numbers.{action_of};
 ghost use Rattle.device.specs.declared.Settings.{Settings};
 ghost use Rattle.actions.specs.Setup.{Setup};
 ghost use Rattle.actions.specs.Actions as actions;
 ghost use Rattle.phases.specs.Forms.{form_number};
-ghost use Rattle.packed.specs.SetUp.{setup_size, settings_byte, SetIs};
+ghost use Rattle.packed.specs.SetUp.{settings_byte, SetIs};
 ghost use Rattle.code_actions.specs.Acts as acts;
 
 use memory::{Offset, RealAddress};
@@ -74,7 +74,8 @@ const FAILED: u16 = 0x8000;
 // The word that a TDR leaves.
 const TDR_WORD: u16 = 0x8000;
 
-// The commands by their numbers. 4 is a Transmit, which has no action of its own; 7, Diagnose, is what is left.
+// The commands by their numbers, as a unit's word has them: an enum between would list them twice. 4 is a Transmit, which has no action of its own;
+// 7, Diagnose, is what is left.
 const NOP: u64 = 0;
 
 const IA_SETUP: u64 = 1;
@@ -96,14 +97,11 @@ const FROM_5: u16 = 1 << 5;
 pub fn plainly(status: u16, length: u16) -> Done
     ensures { result ≡ acts.plain status length }
 {
-    Done {
-        status: status,
-        length: length,
-    }
+    Done { status, length }
 }
 
 // IA-Setup: six bytes at +6 become the own address.
-fn ia_setup(memory: &[u8], base: RealAddress, setup: &mut [u8], block: Offset) -> Done
+fn ia_setup(memory: &[u8], base: RealAddress, setup: &mut [u8; setup::SIZE], block: Offset) -> Done
     ensures { (s : Setup) → SetIs s setup.old → acts.Sets (actions.ia_setup base s block memory.now) result setup.new }
 {
     copies::copy_out(
@@ -120,14 +118,7 @@ fn ia_setup(memory: &[u8], base: RealAddress, setup: &mut [u8], block: Offset) -
 fn clamp(byte: u8) -> u16
     ensures { result ≡ actions.clamped byte }
 {
-    let count = scb::bits_at(byte as u16, 0, LOW_BITS);
-    if count < LEAST {
-        return LEAST;
-    }
-    if MOST < count {
-        return MOST;
-    }
-    count
+    scb::bits_at(byte as u16, 0, LOW_BITS).clamp(LEAST, MOST)
 }
 
 // Byte 3: the address length.
@@ -148,6 +139,7 @@ fn is_acceptable(byte: u8) -> bool
 }
 
 // The form that it says.
+#[tactic(auto, using(crate::proofs::Laws::bit_below, crate::proofs::Laws::bit_number))]
 fn form_in(byte: u8) -> u8
     requires { actions.length_in byte ≤ longest_address }
     ensures { (result < 2 ^ 4) × (result ≡ form_number (actions.form_in byte)) }
@@ -166,6 +158,7 @@ fn byte_of(memory: &[u8], base: RealAddress, block: Offset, k: u16) -> u8
 
 // The settings byte after a Configure: save bad is bit 7 of byte 2; the modes are bits 0 and 1 of byte 8 if that is taken, else what was kept; the
 // form is byte 3's.
+#[tactic(auto, using(crate::proofs::Laws::settings_taken))]
 fn settings_by(
     memory: &[u8],
     base: RealAddress,
@@ -186,6 +179,7 @@ fn settings_by(
 }
 
 // The minimum length after a Configure: byte 10 if that is taken, else what was kept.
+#[tactic(auto, unfolding(actions::specs::Actions::settings_by))]
 fn minimum_by(memory: &[u8], base: RealAddress, block: Offset, count: u16, kept: u8) -> u8
     ensures { (s : Settings) → kept ≡ s.minimum → result ≡ (actions.settings_by count (actions.byte_of base block memory.now) s).minimum }
 {
@@ -196,8 +190,7 @@ fn minimum_by(memory: &[u8], base: RealAddress, block: Offset, count: u16, kept:
 }
 
 // Configure: 8000h and nothing changed, if byte 3 is not acceptable.
-fn configure(memory: &[u8], base: RealAddress, setup: &mut [u8], block: Offset) -> Done
-    requires { length setup.old ≡ setup_size }
+fn configure(memory: &[u8], base: RealAddress, setup: &mut [u8; setup::SIZE], block: Offset) -> Done
     ensures { (s : Setup) → SetIs s setup.old → acts.Sets (actions.configure base s block memory.now) result setup.new }
 {
     let addressing = byte_of(memory, base, block, ADDRESSING);
@@ -256,8 +249,7 @@ fn filter_of(memory: &[u8], first: RealAddress, l: u64, count: u16) -> u64
 }
 
 // MC-Setup: the filter is that of its addresses, which have the length in force, and nothing of the old one stays.
-fn mc_setup(memory: &[u8], base: RealAddress, setup: &mut [u8], block: Offset) -> Done
-    requires { length setup.old ≡ setup_size }
+fn mc_setup(memory: &[u8], base: RealAddress, setup: &mut [u8; setup::SIZE], block: Offset) -> Done
     ensures { (s : Setup) → SetIs s setup.old → acts.Sets (actions.mc_setup base s block memory.now) result setup.new }
 {
     let first = memory::place(base, block, ADDRESSES);
@@ -276,8 +268,14 @@ fn tdr(memory: &mut [u8], base: RealAddress, block: Offset) -> Done
 }
 
 // The action of a begun command, by its number. No command before its end has 4, a Transmit's.
-pub fn act(memory: &mut [u8], base: RealAddress, setup: &mut [u8], kind: u64, block: Offset) -> Done
-    requires { length setup.old ≡ setup_size }
+#[tactic(auto, unfolding(actions::specs::Actions::act, device::specs::Numbers::action_of))]
+pub fn act(
+    memory: &mut [u8],
+    base: RealAddress,
+    setup: &mut [u8; setup::SIZE],
+    kind: u64,
+    block: Offset,
+) -> Done
     ensures { acts.ActsOn (action_of kind) base block memory.old setup.old result memory.new setup.new }
 {
     match kind {
@@ -292,6 +290,7 @@ pub fn act(memory: &mut [u8], base: RealAddress, setup: &mut [u8], kind: u64, bl
 }
 
 // The bits of the line report that are set in the status: 10, 9, 7, 6, 5, 3-0.
+#[tactic(auto, using(scb::proofs::Fields::bits_below), unfolding(actions::specs::Actions::reported))]
 fn reported(report: u16) -> u16
     ensures { (result ≡ actions.reported report) × (result < 2048) }
 {
@@ -301,6 +300,7 @@ fn reported(report: u16) -> u16
 }
 
 // Whether the line sent the frame: bits 10, 9 and 5 are clear.
+#[tactic(auto, unfolding(actions::specs::Actions::is_sent))]
 fn is_sent(report: u16) -> bool
     ensures { result ≡ actions.is_sent report }
 {
@@ -308,6 +308,7 @@ fn is_sent(report: u16) -> bool
 }
 
 // A whole Transmit, by the line report: C with the report's bits; OK and the length exactly if it was sent.
+#[tactic(auto, unfolding(actions::specs::Actions::sent))]
 pub fn send(filled: u16, report: u16) -> Done
     ensures { (s : Setup) → acts.Tells (actions.sent s filled report) result }
 {

@@ -4,7 +4,7 @@
 
 #![tactic(auto)]
 
-ghost use Rattle.std.specs.Prelude.{◌≡◌, ◌<◌, ◌≤◌, ◌^◌, length};
+ghost use Rattle.std.specs.Prelude.{◌≡◌, ◌<◌, ◌≤◌, ◌^◌};
 ghost use Rattle.memory.specs.Memory.{apply};
 ghost use Rattle.device.specs.Answers.{counter_of, counts, is_held, reason_of};
 ghost use Rattle.device.specs.Numbers.{verdict_number, verdict_of};
@@ -13,7 +13,7 @@ ghost use Rattle.device.specs.declared.Ru.{Ru};
 ghost use Rattle.actions.specs.Setup.{Setup};
 ghost use Rattle.receive.specs.Arrival as arrivals;
 ghost use Rattle.phases.specs.Phases.{ru_tag, frame_number};
-ghost use Rattle.packed.specs.SetUp.{setup_size, SetIs};
+ghost use Rattle.packed.specs.SetUp.{SetIs};
 ghost use Rattle.code_arrival.specs.Arrives.{frame_in, ArrivesAt};
 
 use device::{Counter, Reason};
@@ -29,25 +29,26 @@ const FCS: u64 = 4;
 const HELD_FROM: usize = 0;
 
 // The length of a frame. One that exceeds 2,048 bytes is refused before anything here is asked.
+#[tactic(auto, unfolding(receive::specs::Arrival::length_of))]
 fn length_of(frame: &[u8]) -> u64
     ensures { (result ≡ arrivals.length_of frame.now) × (result ≤ 2048) }
 {
-    if frame.len() > LONGEST {
-        return LONGEST as u64;
-    }
-    frame.len() as u64
+    frame.len().min(LONGEST) as u64
 }
 
-// The line side's verdict: 0 good, 1 CRC, any other value misaligned.
+// The line side's verdict: 0 good, 1 CRC, any other value misaligned, which is 2.
+const MISALIGNED: u32 = 2;
+
+// Its number.
+#[tactic(auto, unfolding(device::specs::Numbers::verdict_of))]
 fn verdict_number(v: u32) -> u64
     ensures { (result ≡ verdict_number (verdict_of v)) × (result < 3) }
 {
-    if v < 2 { v as u64 } else { 2 }
+    v.min(MISALIGNED) as u64
 }
 
 // Short, bad and good are judged once, by the settings at arrival. Short: bytes plus 4 below the minimum.
-fn judge(setup: &[u8], frame: &[u8], verdict: u32) -> u64
-    requires { length setup.now ≡ setup_size }
+fn judge(setup: &[u8; setup::SIZE], frame: &[u8], verdict: u32) -> u64
     ensures { (result < 2 ^ 48) × ((s : Setup) → SetIs s setup.now → result ≡ frame_number (arrivals.judged s.settings frame.now verdict)) }
 {
     let length = length_of(frame);
@@ -62,6 +63,7 @@ fn judge(setup: &[u8], frame: &[u8], verdict: u32) -> u64
 }
 
 // Neither short nor with a bad verdict.
+#[tactic(auto, using(crate::proofs::Laws::good_is), unfolding(phases::specs::Phases::word_of))]
 pub fn is_good(f: u64) -> bool
     ensures { result ≡ is_good (frame_in f) }
 {
@@ -152,12 +154,11 @@ pub struct Arrived {
 pub fn arrive(
     memory: &mut [u8],
     holding: &mut [u8],
-    setup: &[u8],
+    setup: &[u8; setup::SIZE],
     k: Packed,
     frame: &[u8],
     verdict: u32,
 ) -> Arrived
-    requires { length setup.now ≡ setup_size }
     ensures { ArrivesAt k setup.now frame.now verdict memory.old holding.old result memory.new holding.new }
 {
     let f = judge(setup, frame, verdict);
@@ -166,13 +167,15 @@ pub fn arrive(
     count(memory, packed::base(k), packed::scb(k), counter_for(tag, f));
     if is_held(tag, f) {
         memory::put_run(holding, HELD_FROM, frame);
+        let unit = ru::Unit {
+            tag: ru::HELD,
+            word: ru::held(f, k.ru),
+            rest: 0,
+        };
         return Arrived {
-            packed: packed::with_ru(k, ru::HELD, ru::held(f, k.ru), 0),
-            reason: reason,
+            packed: packed::with_ru(k, unit),
+            reason,
         };
     }
-    Arrived {
-        packed: k,
-        reason: reason,
-    }
+    Arrived { packed: k, reason }
 }

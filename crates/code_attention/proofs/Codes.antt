@@ -18,13 +18,13 @@ use Rattle.device.specs.declared.Ru.{Ru}
 use Rattle.device.specs.declared.Ru.TheVariants as ru
 use Rattle.device.specs.declared.Units.{Units}
 use Rattle.phases.specs.Phases.{cu_tag, ru_tag}
-use Rattle.packed.specs.Packed.{CuIs, RuIs, PackedIs, both_with}
+use Rattle.packed.specs.Packed.{CuUnitIs, RuUnitIs, PackedIs, both_with}
 use Rattle.packed.specs.declared.Packed.{Packed}
 use Rattle.control.specs.Obey.{obey_cuc, obey_ruc}
 use Rattle.attention.specs.Attention.{leaving}
 use Rattle.code_control.specs.Obeys.{CuObeys, RuObeys}
-use Rattle.code_control.specs.declared.CuObeyed.{CuObeyed}
-use Rattle.code_control.specs.declared.RuObeyed.{RuObeyed}
+use Rattle.packed.specs.declared.cu.Unit as command_unit
+use Rattle.packed.specs.declared.ru.Unit as receive_unit
 use Rattle.code_attention.specs.Attends.{left_active, left_ready, codes, Obeys}
 
 -- ---- codes of 0
@@ -108,9 +108,9 @@ ready_is (ru.Lacking s) h = refl
 
 -- ---- both codes obeyed, one behind the other
 
-pub codes_are : (u : Units) (command : ℕ) (m m1 m2 : List ℕ) (c : CuObeyed) (r : RuObeyed) (x : Packed)
+pub codes_are : (u : Units) (command : ℕ) (m m1 m2 : List ℕ) (c : command_unit.Unit) (r : receive_unit.Unit) (x : Packed)
     → CuObeys (obey_cuc u command m) m c m1 → RuObeys (obey_ruc u command m1) m1 r m2
-    → ((a : Cu) (v : Ru) → CuIs a c.tag c.word → RuIs v r.tag r.word r.rest
+    → ((a : Cu) (v : Ru) → CuUnitIs a c → RuUnitIs v r
     → PackedIs (both_with (with_events u (acknowledged u.events command)) a v (leaving (left_active u.cu a) (left_ready u.ru v))) x)
     → Obeys (codes u command m) m x m2
 unfolding codes obey_cuc obey_ruc

@@ -1,12 +1,10 @@
 -- Numbers of states: the status word, the events of an initialisation, a reset, and the setup after it. Assumes nothing.
 use mathlib.Core.Path.{◌≡◌, refl, ap, ◌∙◌}
-use mathlib.Core.List.{List, [], ◌∷◌, ◌++◌, append-nil}
-use Prim.Native.Nat.{ℕ, ◌+◌, ◌*◌, ◌%◌, ◌<◌, ◌≤◌}
-use native.Mathlib.Nat.{zero-add}
+use mathlib.Core.List.{List}
+use Prim.Native.Nat.{ℕ, ◌*◌, ◌%◌, ◌<◌, ◌≤◌}
 use native.Mathlib.Omega.{arith}
 use lib.Bits.{bit_or}
-use lib.ListN.{length, take, drop, length-append}
-use lib.Seq.{sets, sets-eq, drop-length}
+use lib.ListN.{length, length-append}
 use Rattle.memory.specs.Memory.{digits}
 use Rattle.memory.proofs.Fields.{length_digits}
 use Rattle.scb.specs.Words.{joined, event_bits, ru_number}
@@ -83,16 +81,6 @@ pub setup_length : (s : Setup) (b : List ℕ) → SetIs s b → length b ≡ 16
 unfolding setup_bytes
 setup_length s b h =
     ap length h.bytes_are ∙ rw (length-append s.own (digits 8 s.filter), h.own_wide, length_digits 8 s.filter)
-
-take_zero : (l : List ℕ) → take 0 l ≡ []
-take_zero [] = refl
-take_zero (x ∷ l) = refl
-
--- a run over all of a list leaves the run
-pub run_over : (vs l : List ℕ) → length l ≡ length vs → sets l 0 vs ≡ vs
-run_over vs l e =
-    let d : drop (0 + length vs) l ≡ [] = rw (zero-add (length vs), ← e) (drop-length l) in
-    sets-eq vs l 0 (omega arith) ∙ ap (λ (x : List ℕ). x ++ vs ++ drop (0 + length vs) l) (take_zero l) ∙ ap (λ (x : List ℕ). vs ++ x) d ∙ append-nil vs
 
 pub setup_fresh : (b : List ℕ) → b ≡ setup_bytes (setup_of fresh) → SetIs (setup_of fresh) b
 setup_fresh b e = record { bytes_are = e; minimum_wide = omega arith; form_wide = omega arith; own_wide = refl; filter_wide = omega arith }

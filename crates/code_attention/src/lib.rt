@@ -3,7 +3,7 @@
 
 #![tactic(auto)]
 
-ghost use Rattle.std.specs.Prelude.{◌≡◌, false, [], ◌∷◌, ◌*◌, ◌<◌, length};
+ghost use Rattle.std.specs.Prelude.{◌≡◌, false, [], ◌∷◌, ◌*◌, ◌<◌};
 ghost use Rattle.memory.specs.Address as addresses;
 ghost use Rattle.memory.specs.Memory as bytes;
 ghost use Rattle.scb.specs.Words as words;
@@ -14,7 +14,6 @@ ghost use Rattle.device.specs.declared.Device.{Device};
 ghost use Rattle.device.specs.declared.Ru.{Ru};
 ghost use Rattle.device.specs.declared.Units.{Units};
 ghost use Rattle.actions.specs.Setup.{setup_of};
-ghost use Rattle.phases.specs.Fields.{odd};
 ghost use Rattle.phases.specs.Phases.{cu_tag, ru_tag};
 ghost use Rattle.packed.specs.Packed as packs;
 ghost use Rattle.packed.specs.SetUp as setups;
@@ -86,6 +85,7 @@ fn ru_number(tag: u64) -> u16
 }
 
 // The status word of its fields. The bits that are no field's are zero.
+#[tactic(auto, using(crate::proofs::States::status_joined))]
 fn status_word(events: u16, cus: u16, rus: u16) -> u16
     requires { (events < 16) × (cus < 8) × (rus < 8) }
     ensures { result ≡ words.joined (words.joined (words.joined 0 4 rus) 8 cus) 12 events }
@@ -119,6 +119,7 @@ fn initial_writes(memory: &mut [u8], iscp: RealAddress, base: RealAddress, scb: 
 }
 
 // The ISCP: the real address at FFFFFCh, which is the SCP's pointer.
+#[tactic(auto, unfolding(attention::specs::Attention::iscp_of))]
 fn iscp_of(memory: &[u8]) -> RealAddress
     ensures { result ≡ attentions.iscp_of memory.now }
 {
@@ -185,16 +186,16 @@ fn obey_codes(memory: &mut [u8], k: Packed, command: u16) -> Packed
 {
     let base = packed::base(k);
     let scb = packed::scb(k);
-    let cu = packed::cu_tag(k);
-    let ru = packed::ru_tag(k);
-    let c = code_control::obey_cuc(memory, base, scb, cu, k.cu, command);
-    let r = code_control::obey_ruc(memory, base, scb, ru, k.ru, k.rest, command);
-    let raised = left_active(cu, c.tag) + left_ready(ru, r.tag);
-    let acknowledged = acknowledge(k, command);
-    packed::after_codes(acknowledged, c.tag, c.word, r.tag, r.word, r.rest, raised)
+    let cu = packed::cu_unit(k);
+    let ru = packed::ru_unit(k);
+    let c = code_control::obey_cuc(memory, base, scb, cu, command);
+    let r = code_control::obey_ruc(memory, base, scb, ru, command);
+    let raised = left_active(cu.tag, c.tag) + left_ready(ru.tag, r.tag);
+    packed::after_codes(acknowledge(k, command), c, r, raised)
 }
 
 // The units after a command. Where both codes are 0, as in most commands, a unit stays as it is.
+#[tactic(auto, using(crate::proofs::Codes::codes_none))]
 fn obeyed(memory: &mut [u8], k: Packed, command: u16) -> Packed
     ensures { (u : Units) → packs.PackedIs u k → attends.Obeys (attends.codes u command memory.old) memory.old result memory.new }
 {
@@ -207,6 +208,7 @@ fn obeyed(memory: &mut [u8], k: Packed, command: u16) -> Packed
 // ---- every other attention
 
 // Command 0 is written.
+#[tactic(auto, using(packed::proofs::Laws::base_is, packed::proofs::Laws::scb_is), unfolding(memory::specs::Address::place))]
 fn clear_command(memory: &mut [u8], k: Packed)
     ensures { (u : Units) → packs.PackedIs u k → memory.new ≡ bytes.apply (attends.command_to u ∷ []) memory.old }
 {
@@ -229,6 +231,7 @@ fn obey(memory: &mut [u8], k: Packed, command: u16) -> Packed
 }
 
 // The command word of the SCB.
+#[tactic(auto, using(packed::proofs::Laws::base_is, packed::proofs::Laws::scb_is), unfolding(memory::specs::Address::place))]
 fn command_of(memory: &[u8], k: Packed) -> u16
     ensures { (u : Units) → packs.PackedIs u k → result ≡ bytes.word_at memory.now (obeys.of_scb u 2) }
 {
@@ -239,6 +242,7 @@ fn command_of(memory: &[u8], k: Packed) -> u16
 }
 
 // The units after reset.
+#[tactic(auto, using(crate::proofs::States::fresh_is))]
 fn fresh() -> Packed
     ensures { packs.PackedIs states.fresh_units result }
 {
@@ -251,25 +255,12 @@ fn fresh() -> Packed
 }
 
 // The setup after reset: minimum length 64, six FFh for the address, all else zero.
-fn renew(setup: &mut [u8])
-    ensures { length setup.old ≡ setups.setup_size → setup.new ≡ setups.setup_bytes (setup_of states.fresh) }
+fn renew(setup: &mut [u8; setup::SIZE])
+    ensures { setup.new ≡ setups.setup_bytes (setup_of states.fresh) }
 {
-    let mut fresh: [u8; setup::SIZE] = [0; setup::SIZE];
-    fresh[setup::MINIMUM] = MINIMUM;
-    fresh[setup::OWN] = OWN;
-    fresh[setup::OWN + 1] = OWN;
-    fresh[setup::OWN + 2] = OWN;
-    fresh[setup::OWN + 3] = OWN;
-    fresh[setup::OWN + 4] = OWN;
-    fresh[setup::OWN + 5] = OWN;
-    memory::put_run(setup, 0, &fresh);
-}
-
-// Whether the first attention was.
-fn initialised(k: Packed) -> bool
-    ensures { result ≡ odd (packs.marks_in k) }
-{
-    packed::initialised(k)
+    *setup = [0; setup::SIZE];
+    setup[setup::MINIMUM] = MINIMUM;
+    setup[setup::OWN..setup::FILTER].fill(OWN);
 }
 
 // ---- an attention
@@ -282,7 +273,7 @@ pub struct Attended {
 }
 
 // An attention to an initialised chip: the command word is read once.
-fn attend_initialised(memory: &mut [u8], setup: &mut [u8], k: Packed) -> Attended
+fn attend_initialised(memory: &mut [u8], setup: &mut [u8; setup::SIZE], k: Packed) -> Attended
     ensures { (d : Device) → packs.PackedIs d.units k → setups.SetIs (setup_of d) setup.old
         → attends.Attends (attentions.attend d memory.old) memory.old result memory.new setup.new }
 {
@@ -303,11 +294,11 @@ fn attend_initialised(memory: &mut [u8], setup: &mut [u8], k: Packed) -> Attende
 }
 
 // A channel attention: the first after reset initialises; every other is attended to.
-pub fn attend(memory: &mut [u8], setup: &mut [u8], k: Packed) -> Attended
+pub fn attend(memory: &mut [u8], setup: &mut [u8; setup::SIZE], k: Packed) -> Attended
     ensures { (d : Device) → packs.PackedIs d.units k → setups.SetIs (setup_of d) setup.old
         → attends.Attends (attentions.attention d memory.old) memory.old result memory.new setup.new }
 {
-    if initialised(k) {
+    if packed::initialised(k) {
         return attend_initialised(memory, setup, k);
     }
     Attended {

@@ -32,8 +32,9 @@ use Rattle.packed.proofs.Laws.{cu_of_lem}
 use Rattle.code_actions.specs.Acts.{Acts}
 use Rattle.code_actions.specs.declared.Done.{Done}
 use Rattle.code_command.specs.declared.Commanded.{Commanded}
-use Rattle.code_command.specs.Serves.{Serves}
-use Rattle.code_command.specs.Inner.{acted_by, Ends}
+use Rattle.packed.specs.SetUp.{SetIs}
+use Rattle.code_command.specs.Serves.{part_by, Serves}
+use Rattle.code_command.specs.Inner.{quiet, acted_by, Ends}
 
 -- ---- a begun command
 
@@ -90,6 +91,18 @@ raised_is b cx e next cna f = rw (← e, f) (omega arith)
 pub phased : (p : Part) (tag n : ℕ) (m : List ℕ) (report : ℕ) → CuIs p.unit tag n → service p m report ≡ service_by (cu_of tag (word_of n)) p m report
 unfolding service
 phased p tag n m report h = rw (cu_of_lem p.unit tag n h)
+
+-- Idle and Suspended have no work
+pub rests : (base : RealAddress) (c : Cu) (s : Setup) (out set m : List ℕ) (report tag n : ℕ) → CuIs c tag n → SetIs s set → tag < 2
+    → Serves (service (part_by base c s out) m report) m (quiet tag n) m out set
+unfolding service joined event_bits
+rests base cu.Idle s out set m report tag n h g l = record { unit = h; raised = refl; length = refl; memory = refl; outgoing = refl; setup = g }
+rests base (cu.Suspended o) s out set m report tag n h g l = record { unit = h; raised = refl; length = refl; memory = refl; outgoing = refl; setup = g }
+rests base (cu.Waiting o) s out set m report tag n h g l = absurd (omega (arith, h.tag_is))
+rests base (cu.Acting b a) s out set m report tag n h g l = absurd (omega (arith, h.tag_is))
+rests base (cu.Sending b w) s out set m report tag n h g l = absurd (omega (arith, h.tag_is))
+rests base (cu.Ending b k) s out set m report tag n h g l = absurd (omega (arith, h.tag_is))
+rests base (cu.Failing b) s out set m report tag n h g l = absurd (omega (arith, h.tag_is))
 
 -- a phase that is no Acting and no Ending has the action of a failed Transmit
 pub acted_rest : (c : Cu) (tag : ℕ) → tag ≡ cu_tag c → (tag ≡ 3 → ⊥) → (tag ≡ 5 → ⊥)

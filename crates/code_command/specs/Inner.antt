@@ -16,8 +16,9 @@ use Rattle.command.specs.Begin.{cmd, begun_by, to_begun, begin}
 use Rattle.command.specs.Buffer.{buffer}
 use Rattle.command.specs.End.{after_end, raised_by, status_to, next_after}
 use Rattle.phases.specs.Phases.{word_of, begun_of, sending_of}
-use Rattle.packed.specs.Packed.{BegunIs, CuIs}
+use Rattle.packed.specs.Packed.{BegunIs, CuUnitIs}
 use Rattle.packed.specs.SetUp.{SetIs}
+use Rattle.packed.specs.declared.cu.Unit.{Unit}
 use Rattle.code_actions.specs.Acts.{Acts}
 use Rattle.code_actions.specs.declared.Done.{Done}
 use Rattle.code_command.specs.declared.Commanded.{Commanded}
@@ -28,10 +29,10 @@ walk next used filled = record { next = next; used = used; filled = filled }
 
 -- a service that raises nothing and sends nothing
 abbrev pub quiet : ℕ → ℕ → Commanded
-quiet tag word = record { tag = tag; word = word; raised = 0; length = 0 }
+quiet tag word = record { unit = record { tag = tag; word = word }; raised = 0; length = 0 }
 
 pub record Quiet (c : Cu) (r : Commanded) : Type 0 where
-  pub unit : CuIs c r.tag r.word
+  pub unit : CuUnitIs c r.unit
   pub raised : r.raised ≡ 0
   pub length : r.length ≡ 0
 
@@ -52,7 +53,7 @@ acted_by (cu.Failing b) base s m report = not_sent s
 
 -- a command was ended, and the unit is the next
 pub record Left (b : Begun) (next : Cu) (length : ℕ) (r : Commanded) : Type 0 where
-  pub unit : CuIs next r.tag r.word
+  pub unit : CuUnitIs next r.unit
   pub raised : r.raised ≡ event_bits (raised_by b next)
   pub sent : r.length ≡ length
 
@@ -85,5 +86,5 @@ abbrev pub Buffers : RealAddress → (n : ℕ) → (m out : List ℕ) → Comman
 Buffers base n m out r out' = (c : Cu) (s : Setup) → Goes (buffer (part_by base c s out) (begun_of (word_of n)) (sending_of (word_of n)) m).part r out'
 
 -- the action of a command whose end is next
-abbrev pub ActsBy : RealAddress → (tag n report : ℕ) → (m set : List ℕ) → Done → (m' set' : List ℕ) → Type 0
-ActsBy base tag n report m set r m' set' = (c : Cu) (s : Setup) → CuIs c tag n → SetIs s set → Acts (acted_by c base s m report) m r m' set'
+abbrev pub ActsBy : RealAddress → Unit → (report : ℕ) → (m set : List ℕ) → Done → (m' set' : List ℕ) → Type 0
+ActsBy base unit report m set r m' set' = (c : Cu) (s : Setup) → CuUnitIs c unit → SetIs s set → Acts (acted_by c base s m report) m r m' set'

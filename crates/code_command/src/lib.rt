@@ -1,9 +1,9 @@
 // The command unit over its numbers: one service, which begins a command, takes a buffer of a Transmit, or ends a command.
-// It takes every memory, every tag and word, and a setup's bytes; the definitions are those of the crate `command`, in the same order as here.
+// It takes every memory, every unit's numbers, and a setup's bytes; the definitions are those of the crate `command`, in the same order as here.
 
 #![tactic(auto)]
 
-ghost use Rattle.std.specs.Prelude.{◌≡◌, true, false, ◌+◌, ◌≤◌, ◌<◌, ◌^◌, length};
+ghost use Rattle.std.specs.Prelude.{◌≡◌, true, false, ◌+◌, ◌≤◌, ◌<◌, ◌^◌};
 ghost use Rattle.std.proofs.lemmas.List.Edits.{sets};
 ghost use Rattle.memory.specs.Address as address;
 ghost use Rattle.device.specs.Limits.{longest_address};
@@ -14,7 +14,7 @@ ghost use Rattle.command.specs.Buffer as buffers;
 ghost use Rattle.phases.specs.Forms.{form_of};
 ghost use Rattle.phases.specs.Phases.{word_of, begun_of};
 ghost use Rattle.packed.specs.Packed.{BegunIs};
-ghost use Rattle.packed.specs.SetUp.{setup_size, SetIs};
+ghost use Rattle.packed.specs.SetUp.{SetIs};
 ghost use Rattle.code_command.specs.Serves as serves;
 ghost use Rattle.code_command.specs.Inner as inner;
 
@@ -22,11 +22,10 @@ use code_actions::Done;
 use memory::{Offset, RealAddress};
 use packed::{cu, form, setup};
 
-// What a service comes to besides the lent bytes: the unit's tag and word, the events as a number below 16, the length sent.
+// What a service comes to besides the lent bytes: the unit, the events as a number below 16, the length sent.
 #[derive(Clone, Copy)]
 pub struct Commanded {
-    pub tag: u64,
-    pub word: u64,
+    pub unit: cu::Unit,
     pub raised: u64,
     pub length: u16,
 }
@@ -83,8 +82,7 @@ fn quiet(tag: u64, word: u64) -> Commanded
     ensures { result ≡ inner.quiet tag word }
 {
     Commanded {
-        tag: tag,
-        word: word,
+        unit: cu::Unit { tag, word },
         raised: 0,
         length: 0,
     }
@@ -93,6 +91,7 @@ fn quiet(tag: u64, word: u64) -> Commanded
 // ---- begin
 
 // What the command word holds to the end: bits 13 to 15 are I, S, EL. No SUSPEND waits yet.
+#[tactic(auto, using(crate::proofs::Laws::begun_by_is))]
 fn begun_by(block: Offset, word: u16) -> u64
     ensures { (result < 2 ^ 20) × BegunIs (begins.begun_by block word) result }
 {
@@ -114,12 +113,12 @@ fn to_first(none: bool, filled: u64, b: u64, first: Offset) -> Commanded
 fn put_header(
     memory: &[u8],
     outgoing: &mut [u8],
-    setup: &[u8],
+    setup: &[u8; setup::SIZE],
     l: usize,
     base: RealAddress,
     block: Offset,
 )
-    requires { (length setup.now ≡ setup_size) × (l ≤ longest_address) }
+    requires { l ≤ longest_address }
     ensures { (s : Setup) → SetIs s setup.now → outgoing.new ≡ sets outgoing.old 0 (begins.header_by false l base s.own block memory.now) }
 {
     copies::few_out(
@@ -140,15 +139,15 @@ fn put_header(
 }
 
 // With location 1 the buffers have the header, and the outgoing area stays.
+#[tactic(auto, unfolding(command::specs::Begin::header_of))]
 fn place_header(
     memory: &[u8],
     outgoing: &mut [u8],
-    setup: &[u8],
+    setup: &[u8; setup::SIZE],
     f: u64,
     base: RealAddress,
     block: Offset,
 )
-    requires { length setup.now ≡ setup_size }
     ensures { (s : Setup) → SetIs s setup.now → outgoing.new ≡ sets outgoing.old 0 (begins.header_of base (form_of f) s.own block memory.now) }
 {
     if !form::location(f) {
@@ -167,12 +166,12 @@ fn place_header(
 fn begin_transmit(
     memory: &[u8],
     outgoing: &mut [u8],
-    setup: &[u8],
+    setup: &[u8; setup::SIZE],
     base: RealAddress,
     block: Offset,
     b: u64,
 ) -> Commanded
-    requires { (length setup.now ≡ setup_size) × (b < 2 ^ 20) }
+    requires { b < 2 ^ 20 }
     ensures { inner.Transmits base block b memory.now outgoing.old setup.now result outgoing.new }
 {
     let first = memory::offset_at(memory, memory::place(base, block, ARGUMENT));
@@ -185,12 +184,11 @@ fn begin_transmit(
 fn to_begun(
     memory: &[u8],
     outgoing: &mut [u8],
-    setup: &[u8],
+    setup: &[u8; setup::SIZE],
     base: RealAddress,
     block: Offset,
     word: u16,
 ) -> Commanded
-    requires { length setup.now ≡ setup_size }
     ensures { inner.Begins base block word memory.now outgoing.old setup.now result outgoing.new }
 {
     let number = word % COMMANDS;
@@ -202,14 +200,14 @@ fn to_begun(
 }
 
 // Begin: the command word is read, and the status 4000h written.
+#[tactic(auto, using(crate::proofs::Laws::begin_setup), unfolding(command::specs::Begin::begin, scb::specs::Words::joined, scb::specs::Words::event_bits))]
 fn begin(
     memory: &mut [u8],
     outgoing: &mut [u8],
-    setup: &[u8],
+    setup: &[u8; setup::SIZE],
     base: RealAddress,
     block: Offset,
 ) -> Commanded
-    requires { length setup.now ≡ setup_size }
     ensures { inner.Opens base block memory.old outgoing.old setup.now result memory.new outgoing.new }
 {
     let word = memory::word_at(memory, memory::place(base, block, COMMAND));
@@ -265,29 +263,36 @@ fn after_end(b: u64, link: Offset, length: u16) -> Commanded
     let cx = cu::interrupt(b) * CX;
     if cu::el(b) {
         return Commanded {
-            tag: cu::IDLE,
-            word: 0,
+            unit: cu::Unit {
+                tag: cu::IDLE,
+                word: 0,
+            },
             raised: cx + CNA,
-            length: length,
+            length,
         };
     }
     if cu::suspend(b) | cu::pausing(b) {
         return Commanded {
-            tag: cu::SUSPENDED,
-            word: packed::plain(link),
+            unit: cu::Unit {
+                tag: cu::SUSPENDED,
+                word: packed::plain(link),
+            },
             raised: cx + CNA,
-            length: length,
+            length,
         };
     }
     Commanded {
-        tag: cu::WAITING,
-        word: packed::plain(link),
+        unit: cu::Unit {
+            tag: cu::WAITING,
+            word: packed::plain(link),
+        },
         raised: cx,
-        length: length,
+        length,
     }
 }
 
 // The end of a command after its action: the status is written, then the link read.
+#[tactic(auto, unfolding(command::specs::End::next_after, phases::specs::Phases::word_of))]
 fn end(memory: &mut [u8], base: RealAddress, a: Done, b: u64) -> Commanded
     ensures { inner.Ends base a (begun_of (word_of b)) memory.old result memory.new }
 {
@@ -300,16 +305,15 @@ fn end(memory: &mut [u8], base: RealAddress, a: Done, b: u64) -> Commanded
 // The action of a command whose end is next: its own, a Transmit's report, or 8100h.
 fn done_by(
     memory: &mut [u8],
-    setup: &mut [u8],
+    setup: &mut [u8; setup::SIZE],
     base: RealAddress,
-    tag: u64,
-    n: u64,
+    unit: cu::Unit,
     report: u16,
 ) -> Done
-    requires { length setup.old ≡ setup_size }
-    ensures { inner.ActsBy base tag n report memory.old setup.old result memory.new setup.new }
+    ensures { inner.ActsBy base unit report memory.old setup.old result memory.new setup.new }
 {
-    match tag {
+    let n = unit.word;
+    match unit.tag {
         cu::ACTING => code_actions::act(memory, base, setup, packed::kind_of(n), packed::at_of(n)),
         cu::ENDING => code_actions::send(packed::size_of(n) as u16, report),
         _ => code_actions::plainly(UNSENT, 0),
@@ -323,22 +327,20 @@ fn done_by(
 pub fn serve(
     memory: &mut [u8],
     outgoing: &mut [u8],
-    setup: &mut [u8],
+    setup: &mut [u8; setup::SIZE],
     base: RealAddress,
-    tag: u64,
-    n: u64,
+    unit: cu::Unit,
     report: u16,
 ) -> Commanded
-    requires { length setup.old ≡ setup_size }
-    ensures { serves.Served base tag n report memory.old outgoing.old setup.old result memory.new outgoing.new setup.new }
+    ensures { serves.Served base unit report memory.old outgoing.old setup.old result memory.new outgoing.new setup.new }
 {
-    match tag {
-        cu::IDLE => quiet(tag, n),
-        cu::SUSPENDED => quiet(tag, n),
+    let n = unit.word;
+    match unit.tag {
+        cu::IDLE | cu::SUSPENDED => quiet(unit.tag, n),
         cu::WAITING => begin(memory, outgoing, setup, base, packed::at_of(n)),
         cu::SENDING => buffer(memory, outgoing, base, n),
         _ => {
-            let done = done_by(memory, setup, base, tag, n, report);
+            let done = done_by(memory, setup, base, unit, report);
             end(memory, base, done, n)
         }
     }

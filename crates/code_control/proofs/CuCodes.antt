@@ -22,7 +22,7 @@ use Rattle.packed.specs.Packed.{WordIs, CuIs, begun_pausing}
 use Rattle.control.specs.Control.{cu_start, cu_suspend, cu_by, aborted_cu, cu_writes}
 use Rattle.control.specs.Obey.{of_scb, obey_cuc}
 use Rattle.code_control.specs.Obeys.{of_word, aborted, first_of, CuObeys}
-use Rattle.code_control.specs.declared.CuObeyed.{CuObeyed}
+use Rattle.packed.specs.declared.cu.Unit.{Unit}
 use Rattle.code_control.proofs.Flags.{at_is, plain_wide, offset_of_lem, real_of_lem, from}
 
 -- ---- the command unit: a law for each arm of the code
@@ -225,7 +225,7 @@ module _ (u : Units) (base : RealAddress) (command tag n : ℕ) (m : List ℕ) (
   next = cu_next code (cu_state u.cu)
 
   -- what CUC comes to, if the table leads to s
-  obeys : (s : CuState) (r : CuObeyed) (left : List ℕ) → next ≡ s → CuIs (way s u.base (first_for code cbl u.cu) u.cu).0 r.tag r.word
+  obeys : (s : CuState) (r : Unit) (left : List ℕ) → next ≡ s → CuIs (way s u.base (first_for code cbl u.cu) u.cu).0 r.tag r.word
       → left ≡ apply (way s u.base (first_for code cbl u.cu) u.cu).1 m → CuObeys (obey_cuc u command m) m r left
   unfolding obey_cuc
   obeys s r left e f w =
@@ -242,10 +242,10 @@ module _ (u : Units) (base : RealAddress) (command tag n : ℕ) (m : List ℕ) (
       let w : aborted base (ltb 2 tag) n 0x9000 ≡ aborted_cu u.base u.cu = rw (real_of_lem base u.base b) (aborts_cu u.base u.cu tag n h) in
       obeys cus.Idle (record { tag = 0; word = 0 }) left (to_idle next e) cu_idle_is (f ∙ ap (λ (ws : List Write). apply ws m) w)
 
-  pub cuc_suspended : (r : CuObeyed) → 1 ≡ cu_number next → CuIs (cu_suspend u.cu) r.tag r.word → CuObeys (obey_cuc u command m) m r m
+  pub cuc_suspended : (r : Unit) → 1 ≡ cu_number next → CuIs (cu_suspend u.cu) r.tag r.word → CuObeys (obey_cuc u command m) m r m
   cuc_suspended r e f = obeys cus.Suspended r m (to_suspended next e) f refl
 
-  pub cuc_active : (r : CuObeyed) (scb first : Offset) → scb.0 ≡ u.scb.0 → (cu_number next ≡ 0 → ⊥) → (cu_number next ≡ 1 → ⊥)
+  pub cuc_active : (r : Unit) (scb first : Offset) → scb.0 ≡ u.scb.0 → (cu_number next ≡ 0 → ⊥) → (cu_number next ≡ 1 → ⊥)
       → first.0 ≡ first_of base scb (eqb (cuc command) 1) 4 n m → CuIs (cu_start first u.cu) r.tag r.word
       → CuObeys (obey_cuc u command m) m r m
   unfolding code_of

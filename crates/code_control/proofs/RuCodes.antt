@@ -23,7 +23,7 @@ use Rattle.packed.specs.Packed.{WordIs, RuIs, held_pausing}
 use Rattle.control.specs.Control.{ru_start, ru_suspend, ru_by, aborted_ru, ru_writes}
 use Rattle.control.specs.Obey.{of_scb, obey_ruc}
 use Rattle.code_control.specs.Obeys.{of_word, aborted, first_of, RuObeys}
-use Rattle.code_control.specs.declared.RuObeyed.{RuObeyed}
+use Rattle.packed.specs.declared.ru.Unit.{Unit}
 use Rattle.code_control.proofs.Flags.{at_is, plain_wide, offset_of_lem, real_of_lem, from}
 
 -- ---- the receive unit
@@ -252,7 +252,7 @@ module _ (u : Units) (base : RealAddress) (command tag n rest : ℕ) (m : List �
   next = ru_next code (ru_state u.ru)
 
   -- what RUC comes to, if the table leads to s
-  obeys : (s : RuState) (r : RuObeyed) (left : List ℕ) → next ≡ s
+  obeys : (s : RuState) (r : Unit) (left : List ℕ) → next ≡ s
       → RuIs (way s u.base (first_for code rfa u.ru) u.ru).0 r.tag r.word r.rest
       → left ≡ apply (way s u.base (first_for code rfa u.ru) u.ru).1 m → RuObeys (obey_ruc u command m) m r left
   unfolding obey_ruc
@@ -270,14 +270,14 @@ module _ (u : Units) (base : RealAddress) (command tag n rest : ℕ) (m : List �
       let w : aborted base (ltb 4 tag) n 0 ≡ aborted_ru u.base u.ru = rw (real_of_lem base u.base b) (aborts_ru u.base u.ru tag n rest h) in
       obeys rus.Idle (record { tag = 0; word = 0; rest = 0 }) left (ru_to_idle next e) ru_idle_is (f ∙ ap (λ (ws : List Write). apply ws m) w)
 
-  pub ruc_suspended : (r : RuObeyed) → 1 ≡ ru_column next → RuIs (ru_suspend u.ru) r.tag r.word r.rest
+  pub ruc_suspended : (r : Unit) → 1 ≡ ru_column next → RuIs (ru_suspend u.ru) r.tag r.word r.rest
       → RuObeys (obey_ruc u command m) m r m
   ruc_suspended r e f = obeys rus.Suspended r m (ru_to_suspended next e) f refl
 
   pub ruc_none : 2 ≡ ru_column next → RuObeys (obey_ruc u command m) m (record { tag = tag; word = n; rest = rest }) m
   ruc_none e = obeys rus.NoResources (record { tag = tag; word = n; rest = rest }) m (ru_to_none next e) h refl
 
-  pub ruc_ready : (r : RuObeyed) (scb first : Offset) → scb.0 ≡ u.scb.0 → (ru_column next ≡ 0 → ⊥) → (ru_column next ≡ 1 → ⊥)
+  pub ruc_ready : (r : Unit) (scb first : Offset) → scb.0 ≡ u.scb.0 → (ru_column next ≡ 0 → ⊥) → (ru_column next ≡ 1 → ⊥)
       → (ru_column next ≡ 2 → ⊥)
       → first.0 ≡ first_of base scb (eqb (ruc command) 1) 6 n m → RuIs (ru_start first u.ru) r.tag r.word r.rest
       → RuObeys (obey_ruc u command m) m r m

@@ -7,10 +7,10 @@ use Rattle.memory.specs.declared.RealAddress.{RealAddress}
 use Rattle.device.specs.declared.Cu.{Cu}
 use Rattle.device.specs.declared.Ru.{Ru}
 use Rattle.phases.specs.Fields.{offset_in}
-use Rattle.packed.specs.Packed.{CuIs, RuIs}
+use Rattle.packed.specs.Packed.{CuUnitIs, RuUnitIs}
+use Rattle.packed.specs.declared.cu.Unit as cu
+use Rattle.packed.specs.declared.ru.Unit as ru
 use Rattle.control.specs.Obey.{Obeyed}
-use Rattle.code_control.specs.declared.CuObeyed.{CuObeyed}
-use Rattle.code_control.specs.declared.RuObeyed.{RuObeyed}
 
 -- the offset that a unit's word has
 abbrev pub of_word : ℕ → Offset
@@ -25,10 +25,10 @@ abbrev pub first_of : RealAddress → Offset → (start : Bool) → (field word 
 first_of base scb start field n m = cond start (word_at m (place base scb field)) (offset_in n)
 
 -- the command unit obeyed; the receive unit obeyed
-pub record CuObeys (said : Obeyed Cu) (before : List ℕ) (r : CuObeyed) (m : List ℕ) : Type 0 where
-  pub unit : CuIs said.unit r.tag r.word
+pub record CuObeys (said : Obeyed Cu) (before : List ℕ) (r : cu.Unit) (m : List ℕ) : Type 0 where
+  pub unit : CuUnitIs said.unit r
   pub memory : m ≡ apply said.writes before
 
-pub record RuObeys (said : Obeyed Ru) (before : List ℕ) (r : RuObeyed) (m : List ℕ) : Type 0 where
-  pub unit : RuIs said.unit r.tag r.word r.rest
+pub record RuObeys (said : Obeyed Ru) (before : List ℕ) (r : ru.Unit) (m : List ℕ) : Type 0 where
+  pub unit : RuUnitIs said.unit r
   pub memory : m ≡ apply said.writes before

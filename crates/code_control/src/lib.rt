@@ -70,13 +70,6 @@ fn first_of(
 
 // ---- the command unit
 
-// The command unit after a control code.
-#[derive(Clone, Copy)]
-pub struct CuObeyed {
-    pub tag: u64,
-    pub word: u64,
-}
-
 // The number of its state, as CUS has it: what is past Waiting is Active too.
 pub fn cu_number(tag: u64) -> u8
     ensures { (result < 4) × ((c : Cu) → tag ≡ cu_tag c → result ≡ words.cu_number (states.cu_state c)) }
@@ -88,41 +81,35 @@ pub fn cu_number(tag: u64) -> u8
 }
 
 // SUSPEND: at the end of a begun command, else at once; a unit that is not Active stays as it is.
-fn cu_suspended(tag: u64, word: u64) -> CuObeyed
-    ensures { (c : Cu) → packs.CuIs c tag word → packs.CuIs (control.cu_suspend c) result.tag result.word }
+fn cu_suspended(unit: cu::Unit) -> cu::Unit
+    ensures { (c : Cu) → packs.CuUnitIs c unit → packs.CuUnitIs (control.cu_suspend c) result }
 {
-    if tag < cu::WAITING {
-        return CuObeyed {
-            tag: tag,
-            word: word,
-        };
+    if unit.tag < cu::WAITING {
+        return unit;
     }
-    if tag == cu::WAITING {
-        return CuObeyed {
+    if unit.tag == cu::WAITING {
+        return cu::Unit {
             tag: cu::SUSPENDED,
-            word: word,
+            ..unit
         };
     }
-    CuObeyed {
-        tag: tag,
-        word: cu::pause(word),
+    cu::Unit {
+        word: cu::pause(unit.word),
+        ..unit
     }
 }
 
 // To Active, at the block said; an Active unit goes on as it is.
-fn cu_active(first: Offset, tag: u64, word: u64) -> CuObeyed
-    ensures { (c : Cu) → packs.CuIs c tag word → packs.CuIs (control.cu_start first c) result.tag result.word }
+fn cu_active(first: Offset, unit: cu::Unit) -> cu::Unit
+    ensures { (c : Cu) → packs.CuUnitIs c unit → packs.CuUnitIs (control.cu_start first c) result }
 {
-    if tag < cu::WAITING {
-        return CuObeyed {
+    if unit.tag < cu::WAITING {
+        return cu::Unit {
             tag: cu::WAITING,
             word: packed::plain(first),
         };
     }
-    CuObeyed {
-        tag: tag,
-        word: word,
-    }
+    unit
 }
 
 // CUC is obeyed: the command unit goes where the table says.
@@ -130,39 +117,31 @@ pub fn obey_cuc(
     memory: &mut [u8],
     base: RealAddress,
     scb: Offset,
-    tag: u64,
-    word: u64,
+    unit: cu::Unit,
     command: u16,
-) -> CuObeyed
-    ensures { (u : Units) → base.0 ≡ u.base.0 → scb.0 ≡ u.scb.0 → packs.CuIs u.cu tag word
+) -> cu::Unit
+    ensures { (u : Units) → base.0 ≡ u.base.0 → scb.0 ≡ u.scb.0 → packs.CuUnitIs u.cu unit
         → CuObeys (obeys.obey_cuc u command memory.old) memory.old result memory.new }
 {
-    match scb::cu_goes(command, cu_number(tag)) {
+    match scb::cu_goes(command, cu_number(unit.tag)) {
         scb::IDLE => {
-            abort(memory, base, cu::WAITING < tag, word, ABORTED_BLOCK);
-            CuObeyed {
+            let begun = cu::WAITING < unit.tag;
+            abort(memory, base, begun, unit.word, ABORTED_BLOCK);
+            cu::Unit {
                 tag: cu::IDLE,
                 word: 0,
             }
         }
-        scb::SUSPENDED => cu_suspended(tag, word),
+        scb::SUSPENDED => cu_suspended(unit),
         _ => {
             let start = scb::cu_control(command) == START;
-            let first = first_of(memory, base, scb, start, CBL, word);
-            cu_active(first, tag, word)
+            let first = first_of(memory, base, scb, start, CBL, unit.word);
+            cu_active(first, unit)
         }
     }
 }
 
 // ---- the receive unit
-
-// The receive unit after a control code.
-#[derive(Clone, Copy)]
-pub struct RuObeyed {
-    pub tag: u64,
-    pub word: u64,
-    pub rest: u64,
-}
 
 // The column of its state in the control table: what is past Ready is Ready too.
 fn ru_column(tag: u64) -> u8
@@ -175,46 +154,36 @@ fn ru_column(tag: u64) -> u8
 }
 
 // SUSPEND: at the end of a held frame, else at once; a unit that is not Ready stays as it is.
-fn ru_suspended(tag: u64, word: u64, rest: u64) -> RuObeyed
-    ensures { (v : Ru) → packs.RuIs v tag word rest → packs.RuIs (control.ru_suspend v) result.tag result.word result.rest }
+fn ru_suspended(unit: ru::Unit) -> ru::Unit
+    ensures { (v : Ru) → packs.RuUnitIs v unit → packs.RuUnitIs (control.ru_suspend v) result }
 {
-    if tag < ru::READY {
-        return RuObeyed {
-            tag: tag,
-            word: word,
-            rest: rest,
-        };
+    if unit.tag < ru::READY {
+        return unit;
     }
-    if tag == ru::READY {
-        return RuObeyed {
+    if unit.tag == ru::READY {
+        return ru::Unit {
             tag: ru::SUSPENDED,
-            word: word,
-            rest: rest,
+            ..unit
         };
     }
-    RuObeyed {
-        tag: tag,
-        word: ru::pause(word),
-        rest: rest,
+    ru::Unit {
+        word: ru::pause(unit.word),
+        ..unit
     }
 }
 
 // To Ready, at the frame descriptor said; a Ready unit goes on as it is.
-fn ru_ready(first: Offset, tag: u64, word: u64, rest: u64) -> RuObeyed
-    ensures { (v : Ru) → packs.RuIs v tag word rest → packs.RuIs (control.ru_start first v) result.tag result.word result.rest }
+fn ru_ready(first: Offset, unit: ru::Unit) -> ru::Unit
+    ensures { (v : Ru) → packs.RuUnitIs v unit → packs.RuUnitIs (control.ru_start first v) result }
 {
-    if tag < ru::READY {
-        return RuObeyed {
+    if unit.tag < ru::READY {
+        return ru::Unit {
             tag: ru::READY,
             word: packed::plain(first),
             rest: 0,
         };
     }
-    RuObeyed {
-        tag: tag,
-        word: word,
-        rest: rest,
-    }
+    unit
 }
 
 // RUC is obeyed: the receive unit goes where the table says. It leads to No Resources only what is there already.
@@ -222,33 +191,28 @@ pub fn obey_ruc(
     memory: &mut [u8],
     base: RealAddress,
     scb: Offset,
-    tag: u64,
-    word: u64,
-    rest: u64,
+    unit: ru::Unit,
     command: u16,
-) -> RuObeyed
-    ensures { (u : Units) → base.0 ≡ u.base.0 → scb.0 ≡ u.scb.0 → packs.RuIs u.ru tag word rest
+) -> ru::Unit
+    ensures { (u : Units) → base.0 ≡ u.base.0 → scb.0 ≡ u.scb.0 → packs.RuUnitIs u.ru unit
         → RuObeys (obeys.obey_ruc u command memory.old) memory.old result memory.new }
 {
-    match scb::ru_goes(command, ru_column(tag)) {
+    match scb::ru_goes(command, ru_column(unit.tag)) {
         scb::IDLE => {
-            abort(memory, base, ru::HELD < tag, word, ABORTED_DESCRIPTOR);
-            RuObeyed {
+            let begun = ru::HELD < unit.tag;
+            abort(memory, base, begun, unit.word, ABORTED_DESCRIPTOR);
+            ru::Unit {
                 tag: ru::IDLE,
                 word: 0,
                 rest: 0,
             }
         }
-        scb::SUSPENDED => ru_suspended(tag, word, rest),
-        scb::NO_RESOURCES => RuObeyed {
-            tag: tag,
-            word: word,
-            rest: rest,
-        },
+        scb::SUSPENDED => ru_suspended(unit),
+        scb::NO_RESOURCES => unit,
         _ => {
             let start = scb::ru_control(command) == START;
-            let first = first_of(memory, base, scb, start, RFA, word);
-            ru_ready(first, tag, word, rest)
+            let first = first_of(memory, base, scb, start, RFA, unit.word);
+            ru_ready(first, unit)
         }
     }
 }

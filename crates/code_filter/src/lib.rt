@@ -8,7 +8,7 @@ ghost use Rattle.hash.specs.Hash.{hash};
 ghost use Rattle.device.specs.Limits.{longest_address, filter_bits};
 ghost use Rattle.filter.specs.Match as match;
 ghost use Rattle.actions.specs.Setup.{Setup};
-ghost use Rattle.packed.specs.SetUp.{own_at, setup_size, SetIs};
+ghost use Rattle.packed.specs.SetUp.{own_at, SetIs};
 
 use packed::setup;
 
@@ -43,8 +43,8 @@ fn is_broadcast(l: usize, frame: &[u8]) -> bool
 }
 
 // Whether it is the own address, of which the first l bytes count.
-fn is_own(setup: &[u8], l: usize, frame: &[u8]) -> bool
-    requires { (length setup.now ≡ setup_size) × (l ≤ longest_address) × (l ≤ length frame.now) }
+fn is_own(setup: &[u8; setup::SIZE], l: usize, frame: &[u8]) -> bool
+    requires { (l ≤ longest_address) × (l ≤ length frame.now) }
     ensures { result ≡ match.agree setup.now own_at frame.now l }
 {
     if AT_ONCE <= l {
@@ -79,8 +79,8 @@ fn hash_of(l: usize, frame: &[u8]) -> u64
 }
 
 // Whether its bit is set in the filter.
-fn is_filtered(setup: &[u8], l: usize, frame: &[u8]) -> bool
-    requires { (length setup.now ≡ setup_size) × (l ≤ length frame.now) }
+fn is_filtered(setup: &[u8; setup::SIZE], l: usize, frame: &[u8]) -> bool
+    requires { l ≤ length frame.now }
     ensures { (s : Setup) → SetIs s setup.now → result ≡ match.is_filtered l s.filter frame.now }
 {
     setup::filter(setup) >> hash_of(l, frame) & 1 == 1
@@ -96,8 +96,8 @@ fn is_group(frame: &[u8]) -> bool
 
 // Match, by the address length in force: promiscuous; or all FFh with broadcast enabled; or not all FFh and either own address or, with the low bit
 // of the first byte set, a set bit of the filter. An empty address is nobody's.
-pub fn matches(setup: &[u8], l: usize, frame: &[u8]) -> bool
-    requires { (length setup.now ≡ setup_size) × (l ≤ longest_address) × (l ≤ length frame.now) }
+pub fn matches(setup: &[u8; setup::SIZE], l: usize, frame: &[u8]) -> bool
+    requires { (l ≤ longest_address) × (l ≤ length frame.now) }
     ensures { (s : Setup) → SetIs s setup.now → l ≡ s.settings.form.length
         → result ≡ match.matches s.settings s.own s.filter frame.now }
 {

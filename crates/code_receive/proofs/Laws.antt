@@ -6,6 +6,7 @@ use mathlib.Core.Logic.{⊎_elim}
 use Prim.Native.Nat.{ℕ, ◌+◌, ◌*◌, ◌/◌, ◌%◌, ◌<◌, ◌≤◌, ◌^◌}
 use native.Mathlib.Nat.{div-one}
 use native.Mathlib.Omega.{arith}
+use mir.Val.{bool_byte}
 use borrow.Author.Tests.{leb-false, le-leb, lt-leb, eq-eqb, ne_eqb}
 use lib.Dec.{eqb, leb}
 use Rattle.std.specs.Prelude.{Some, None}
@@ -103,6 +104,15 @@ module _ (s : Storing) (w : Walk) where
   filling_by false false false e = refl
 
 -- ---- the status
+
+-- a bit that is set if it applies
+pub set_if : (k : ℕ) (applies : Bool) → k * bool_byte applies ≡ cond applies k 0
+set_if k true = omega arith
+set_if k false = omega arith
+
+pub set_at_most : (applies : Bool) → bool_byte applies ≤ 1
+set_at_most true = omega arith
+set_at_most false = omega arith
 
 -- a frame has no error bit exactly if it is good and buffers sufficed
 no_error : (lacking short : Bool) (v : Verdict) → (not lacking && good_by short v) ≡ true → eqb (verdict_bit v + cond lacking 0x0200 0 + cond short 0x0080 0) 0 ≡ true

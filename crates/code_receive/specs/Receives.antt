@@ -17,7 +17,7 @@ use Rattle.receive.specs.Begin.{begun_by, begin}
 use Rattle.receive.specs.Buffer.{after_buffer, buffer}
 use Rattle.receive.specs.End.{descriptor_by, fate_of, settles, proceeds}
 use Rattle.receive.specs.Part.{Part, Service}
-use Rattle.packed.specs.Packed.{WordIs, RuIs}
+use Rattle.packed.specs.Packed.{WordIs, RuUnitIs}
 use Rattle.code_arrival.specs.Arrives.{frame_in}
 use Rattle.code_receive.specs.declared.Received.{Received}
 
@@ -44,9 +44,13 @@ part_at base holding = part_by base (record { 0 = 0 }) ru.Idle holding
 
 -- a service, in memory as it was before
 pub record Serves (said : Service) (before : List ℕ) (r : Received) (m : List ℕ) : Type 0 where
-  pub unit : RuIs said.unit r.tag r.word r.rest
+  pub unit : RuUnitIs said.unit r.unit
   pub raised : r.raised ≡ event_bits said.raised
   pub memory : m ≡ apply said.writes before
+
+-- a service that raises nothing
+abbrev pub quiet : (tag word rest : ℕ) → Received
+quiet tag word rest = record { unit = record { tag = tag; word = word; rest = rest }; raised = 0 }
 
 -- ---- the shapes of the inner functions' contracts, by the unit's word: a number that is a held frame's, or one's that is being filled
 
@@ -59,7 +63,7 @@ FillingIn n = WordIs (storing_word (storing_in n) (next_in n) false) n
 -- a unit comes of a word that is as is said, and nothing is raised
 pub record Quietly (Given : Type 0) (next : Ru) (r : Received) : Type 0 where
   pub raised : r.raised ≡ 0
-  pub unit : Given → RuIs next r.tag r.word r.rest
+  pub unit : Given → RuUnitIs next r.unit
 
 -- a frame that is begun, by the descriptor's word +2
 abbrev pub begun_in : ℕ → (control : ℕ) → Storing

@@ -3,7 +3,7 @@
 
 #![tactic(auto)]
 
-ghost use Rattle.std.specs.Prelude.{◌≡◌, cond, ◌-◌, ◌%◌, ◌<◌, ◌≤◌, ◌^◌, min};
+ghost use Rattle.std.specs.Prelude.{◌≡◌, ◌-◌, ◌%◌, ◌<◌, ◌≤◌, ◌^◌, min};
 ghost use Rattle.memory.specs.Address.{is_none, place};
 ghost use Rattle.memory.specs.Memory.{apply};
 ghost use Rattle.device.specs.Answers.{counter_of, is_stored};
@@ -16,7 +16,7 @@ ghost use Rattle.receive.specs.Begin as begins;
 ghost use Rattle.receive.specs.Buffer as buffers;
 ghost use Rattle.receive.specs.End as ends;
 ghost use Rattle.receive.specs.Service.{service};
-ghost use Rattle.packed.specs.Packed.{RuIs};
+ghost use Rattle.packed.specs.Packed.{RuUnitIs};
 ghost use Rattle.code_arrival.specs.Arrives.{frame_in};
 ghost use Rattle.code_receive.specs.Receives as receives;
 ghost use Rattle.code_receive.specs.Receives.{part_by, Quietly, Serves};
@@ -25,13 +25,21 @@ use device::Counter;
 use memory::{Offset, RealAddress};
 use packed::{form, ru};
 
-// What a service comes to, besides the lent bytes: the unit as its tag and words, and the events that came up.
+// What a service comes to, besides the lent bytes: the unit, and the events that came up.
 #[derive(Clone, Copy)]
 pub struct Received {
-    pub tag: u64,
-    pub word: u64,
-    pub rest: u64,
+    pub unit: ru::Unit,
     pub raised: u64,
+}
+
+// A service that raises nothing.
+fn quiet(tag: u64, word: u64, rest: u64) -> Received
+    ensures { result ≡ receives.quiet tag word rest }
+{
+    Received {
+        unit: ru::Unit { tag, word, rest },
+        raised: 0,
+    }
 }
 
 // The events FR and RNR.
@@ -99,6 +107,7 @@ const MOST_BUFFERS: u64 = 64;
 // ---- begin
 
 // How many of the frame's first bytes do not go through buffers, by the form that it arrived under.
+#[tactic(auto, unfolding(phases::specs::Phases::word_of))]
 fn unbuffered(n: u64) -> u64
     ensures { (result ≡ rule.unbuffered (frame_in n).form) × (result ≤ 14) }
 {
@@ -118,27 +127,13 @@ fn to_first(n: u64, control: u16, first: Offset) -> Received
 {
     let s = ru::begun(n, control / CONTROL_BITS);
     if is_bare(n) {
-        return Received {
-            tag: ru::CLOSING,
-            word: ru::with_next(s, first),
-            rest: 0,
-            raised: 0,
-        };
+        return quiet(ru::CLOSING, ru::with_next(s, first), 0);
     }
     if memory::is_none(first) {
-        return Received {
-            tag: ru::LACKING,
-            word: s,
-            rest: 0,
-            raised: 0,
-        };
+        return quiet(ru::LACKING, s, 0);
     }
-    Received {
-        tag: ru::FILLING,
-        word: ru::with_next(s, first),
-        rest: ru::rest_of(unbuffered(n), 0),
-        raised: 0,
-    }
+    let rest = ru::rest_of(unbuffered(n), 0);
+    quiet(ru::FILLING, ru::with_next(s, first), rest)
 }
 
 // Begin: read +2 and +6, write 4000h. It asks nothing of the holding area.
@@ -158,13 +153,7 @@ fn begin(memory: &mut [u8], base: RealAddress, n: u64) -> Received
 fn count_into(length: u64, filled: u64, size: u64) -> u64
     ensures { result ≡ min size (length - filled) }
 {
-    if length <= filled {
-        return 0;
-    }
-    if size < length - filled {
-        return size;
-    }
-    length - filled
+    size.min(length.saturating_sub(filled))
 }
 
 // F, count, and EOF if the data ends there. A count has 14 bits.
@@ -183,27 +172,14 @@ fn after_buffer(n: u64, next: Offset, el: bool, used: u64, filled: u64) -> Recei
     ensures { Quietly (receives.FillingIn n) (receives.after_in n next el used filled) result }
 {
     if packed::size_of(n) <= filled {
-        return Received {
-            tag: ru::CLOSING,
-            word: ru::with_next(ru::filled_up(n, el), next),
-            rest: 0,
-            raised: 0,
-        };
+        let word = ru::with_next(ru::filled_up(n, el), next);
+        return quiet(ru::CLOSING, word, 0);
     }
     if el | memory::is_none(next) | (MOST_BUFFERS <= used + 1) {
-        return Received {
-            tag: ru::LACKING,
-            word: ru::filled_up(n, false),
-            rest: 0,
-            raised: 0,
-        };
+        return quiet(ru::LACKING, ru::filled_up(n, false), 0);
     }
-    Received {
-        tag: ru::FILLING,
-        word: ru::with_next(ru::filled_up(n, false), next),
-        rest: ru::rest_of(filled, used + 1),
-        raised: 0,
-    }
+    let word = ru::with_next(ru::filled_up(n, false), next);
+    quiet(ru::FILLING, word, ru::rest_of(filled, used + 1))
 }
 
 // A buffer: one descriptor is read whole, its buffer filled at its real address, then F, count and EOF are written.
@@ -231,6 +207,7 @@ fn buffer(memory: &mut [u8], holding: &[u8], base: RealAddress, n: u64, rest: u6
 // ---- end
 
 // The status bit for a verdict: 10 alignment excludes 11 CRC.
+#[tactic(auto, unfolding(device::specs::Numbers::verdict_of))]
 fn verdict_bit(kind: u64) -> u16
     ensures { (result ≡ ends.verdict_bit (verdict_of kind)) × (result ≤ 0x0800) }
 {
@@ -241,21 +218,17 @@ fn verdict_bit(kind: u64) -> u16
     }
 }
 
-// A bit if it applies.
-fn bit_if(applies: bool, bit: u16) -> u16
-    ensures { (result ≡ cond applies bit 0) × (result ≤ bit) }
-{
-    if applies { bit } else { 0 }
-}
-
 // All error bits that apply.
 fn error_bits(lacking: bool, n: u64) -> u16
     ensures { (result ≡ ends.error_bits lacking (frame_in n)) × (result ≤ 0x0A80) }
 {
-    verdict_bit(ru::verdict(n)) + bit_if(lacking, LACKING_BIT) + bit_if(ru::short(n), SHORT_BIT)
+    verdict_bit(ru::verdict(n))
+        + LACKING_BIT * u16::from(lacking)
+        + SHORT_BIT * u16::from(ru::short(n))
 }
 
 // The descriptor's status: C, with all error bits that apply, and OK only with no error bit.
+#[tactic(auto, using(crate::proofs::Laws::status_good, crate::proofs::Laws::status_bad))]
 fn frame_status(lacking: bool, n: u64) -> u16
     ensures { result ≡ ends.frame_status lacking (frame_in n) }
 {
@@ -338,12 +311,14 @@ fn settle(
 fn goes_on(memory: &mut [u8], base: RealAddress, n: u64, exhausted: bool, stored: bool) -> Received
     ensures { (f : Fate) → stored ≡ is_stored f → Serves (receives.proceeds_in exhausted base n f memory.old) memory.old result memory.new }
 {
-    let fr = FR * packed::bit(stored);
+    let fr = FR * u64::from(stored);
     if exhausted {
         return Received {
-            tag: ru::NO_RESOURCES,
-            word: 0,
-            rest: 0,
+            unit: ru::Unit {
+                tag: ru::NO_RESOURCES,
+                word: 0,
+                rest: 0,
+            },
             raised: fr + RNR,
         };
     }
@@ -352,16 +327,20 @@ fn goes_on(memory: &mut [u8], base: RealAddress, n: u64, exhausted: bool, stored
     memory::put_word(memory, memory::place(base, link, FIRST), free.0);
     if ru::suspend(n) | ru::pausing(n) {
         return Received {
-            tag: ru::SUSPENDED,
-            word: packed::plain(link),
-            rest: 0,
+            unit: ru::Unit {
+                tag: ru::SUSPENDED,
+                word: packed::plain(link),
+                rest: 0,
+            },
             raised: fr + RNR,
         };
     }
     Received {
-        tag: ru::READY,
-        word: packed::plain(link),
-        rest: 0,
+        unit: ru::Unit {
+            tag: ru::READY,
+            word: packed::plain(link),
+            rest: 0,
+        },
         raised: fr,
     }
 }
@@ -389,25 +368,17 @@ pub fn serve(
     holding: &[u8],
     base: RealAddress,
     scb: Offset,
-    tag: u64,
-    word: u64,
-    rest: u64,
+    unit: ru::Unit,
 ) -> Received
-    ensures { (u : Ru) → RuIs u tag word rest → Serves (service (part_by base scb u holding.now) memory.old) memory.old result memory.new }
+    ensures { (u : Ru) → RuUnitIs u unit → Serves (service (part_by base scb u holding.now) memory.old) memory.old result memory.new }
 {
-    if tag < ru::HELD {
-        return Received {
-            tag: tag,
-            word: word,
-            rest: rest,
-            raised: 0,
-        };
+    if unit.tag < ru::HELD {
+        return Received { unit, raised: 0 };
     }
-    if tag == ru::HELD {
-        return begin(memory, base, word);
+    let n = unit.word;
+    match unit.tag {
+        ru::HELD => begin(memory, base, n),
+        ru::FILLING => buffer(memory, holding, base, n, unit.rest),
+        _ => end(memory, holding, base, scb, unit.tag == ru::LACKING, n),
     }
-    if tag == ru::FILLING {
-        return buffer(memory, holding, base, word, rest);
-    }
-    end(memory, holding, base, scb, tag == ru::LACKING, word)
 }

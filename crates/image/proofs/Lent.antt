@@ -19,8 +19,7 @@ use Rattle.image.specs.Ranges.{Wide}
 use Rattle.image.specs.Found.{Found}
 use Rattle.image.specs.Found as is
 use Rattle.image.specs.Image.{front, unit_bytes, image_of, device_from, device_at, decode_of, decoded_by, put_packed}
-use Rattle.image.specs.declared.Decoded.{Decoded}
-use Rattle.image.specs.declared.Decoded.TheVariants as code
+use Rattle.std.proofs.Common.{Option, Some, None}
 use Rattle.image.proofs.Exact.{Image, exact, wide_units, fits, fit_form}
 
 -- ---- what is decoded
@@ -31,19 +30,19 @@ pub record FoundAs (f : Found) (k : Packed) : Type 0 where
   pub found : f ≡ is.Units units
   pub numbers : k ≡ packed_of units
 
-abbrev numbers_in : Decoded → Packed → Packed
-numbers_in (code.Units k) other = k
-numbers_in code.Foreign other = other
+abbrev numbers_in : Option Packed → Packed → Packed
+numbers_in (Some k) other = k
+numbers_in None other = other
 
-abbrev is_foreign : Decoded → ℕ
-is_foreign (code.Units k) = 0
-is_foreign code.Foreign = 1
+abbrev is_foreign : Option Packed → ℕ
+is_foreign (Some k) = 0
+is_foreign None = 1
 
-pub found_units : (f : Found) (k : Packed) → decoded_by f ≡ code.Units k → FoundAs f k
-found_units (is.Units u) k e = record { units = u; found = refl; numbers = sym (ap (λ (x : Decoded). numbers_in x k) e) }
+pub found_units : (f : Found) (k : Packed) → decoded_by f ≡ Some k → FoundAs f k
+found_units (is.Units u) k e = record { units = u; found = refl; numbers = sym (ap (λ (x : Option Packed). numbers_in x k) e) }
 found_units is.Foreign k e = let z : ◌≡◌ {A = ℕ} 1 0 = ap is_foreign e in absurd (omega arith)
 
-pub found_foreign : (f : Found) → decoded_by f ≡ code.Foreign → f ≡ is.Foreign
+pub found_foreign : (f : Found) → decoded_by f ≡ None → f ≡ is.Foreign
 found_foreign (is.Units u) e = let z : ◌≡◌ {A = ℕ} 0 1 = ap is_foreign e in absurd (omega arith)
 found_foreign is.Foreign e = refl
 

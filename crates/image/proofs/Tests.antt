@@ -22,7 +22,7 @@ use Rattle.image.specs.Ranges.{cu_fits, ru_fits, units_fit, units_fresh, address
 use Rattle.image.specs.Found as is
 use Rattle.image.specs.Image.{packed_at, units_by, units_at, device_from, front_is, head_shaped, units_shaped, spare_zero, shaped, range_from, imaged, decode_full, decode_of, decoded_by}
 use Rattle.image.specs.Numbers.{form_is, cu_is, ru_is, words_are, fresh_at, tested}
-use Rattle.image.specs.declared.Decoded.TheVariants as code
+use Rattle.std.proofs.Common.{Some, None}
 use Rattle.image.proofs.Steps.{decode_full_lem, decode_other, full_taken}
 use Rattle.image.proofs.Units.{same}
 use Rattle.image.proofs.Exact.{settings_same, status_same, settings_test, kept_same, units_fresh_lem}
@@ -177,15 +177,15 @@ module _ (r : List ℕ) where
 
   -- ---- what is decoded
 
-  pub decoded_units : length r ≡ 256 → imaged r ≡ true → code.Units (packed_at r) ≡ decoded_by (decode_of r)
+  pub decoded_units : length r ≡ 256 → imaged r ≡ true → Some (packed_at r) ≡ decoded_by (decode_of r)
   decoded_units l e =
       let t = both (shaped r) (range_from r (units_at r)) e in
       let q : decode_of r ≡ is.Units (units_at r) = sym (decode_full_lem r l) ∙ sym (full_taken r t.0 t.1) in
       rw (q, kept_same r t.0)
 
-  pub decoded_foreign : length r ≡ 256 → imaged r ≡ false → code.Foreign ≡ decoded_by (decode_of r)
+  pub decoded_foreign : length r ≡ 256 → imaged r ≡ false → None ≡ decoded_by (decode_of r)
   unfolding decode_of decode_full
   decoded_foreign l e = rw (eq-eqb (length r) 256 l, e)
 
-  pub decoded_other : (length r ≡ 256 → ⊥) → code.Foreign ≡ decoded_by (decode_of r)
+  pub decoded_other : (length r ≡ 256 → ⊥) → None ≡ decoded_by (decode_of r)
   decoded_other h = rw (← decode_other r h)

@@ -1,5 +1,5 @@
 -- The record of 256 bytes: the image of a state, and the state that a record is the image of. Assumes nothing.
-use Rattle.std.specs.Prelude.{Bool, cond, ◌&&◌, List, [], ◌++◌, ℕ, ◌+◌, ◌/◌, ◌%◌, ◌^◌, eqb, length, replicate}
+use Rattle.std.specs.Prelude.{Bool, cond, ◌&&◌, List, [], ◌++◌, ℕ, ◌+◌, ◌/◌, ◌%◌, ◌^◌, eqb, length, replicate, Option, Some, None}
 use Rattle.std.proofs.lemmas.List.Edits.{sets}
 use Rattle.memory.specs.Memory.{digits}
 use Rattle.scb.specs.declared.Events.{Events}
@@ -21,8 +21,6 @@ use Rattle.packed.specs.declared.Packed.{Packed}
 use Rattle.image.specs.Ranges.{in_range}
 use Rattle.image.specs.Found.{Found}
 use Rattle.image.specs.Found as is
-use Rattle.image.specs.declared.Decoded.{Decoded}
-use Rattle.image.specs.declared.Decoded.TheVariants as code
 
 -- ---- the image of a state
 
@@ -128,10 +126,10 @@ decode_full r = cond (imaged r) (is.Units (units_at r)) is.Foreign
 unfoldable pub decode_of : List ℕ → Found
 decode_of r = cond (eqb (length r) record_size) (decode_full r) is.Foreign
 
--- what the code answers: the numbers of the state found
-abbrev pub decoded_by : Found → Decoded
-decoded_by (is.Units u) = code.Units (packed_of u)
-decoded_by is.Foreign = code.Foreign
+-- what the code answers: the numbers of the state found, or none
+abbrev pub decoded_by : Found → Option Packed
+decoded_by (is.Units u) = Some (packed_of u)
+decoded_by is.Foreign = None
 
 -- ---- writing back; a record of another length stays
 

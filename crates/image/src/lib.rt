@@ -1,10 +1,9 @@
 // The 256 bytes of the device record: which bytes are the image of a state in range, the numbers of that state, and writing them back.
-// Where everything stands is `packed`'s to say. `is_image` asks for 256 bytes; the others take a slice of every length.
+// Where everything stands is `packed`'s to say. `is_image` takes 256 bytes, the others a slice of every length.
 
 #![tactic(auto)]
 
-ghost use Rattle.std.specs.Prelude.{cond, ◌≡◌, leb, length};
-ghost use Rattle.device.specs.Limits.{record_size};
+ghost use Rattle.std.specs.Prelude.{cond, ◌≡◌, leb};
 ghost use Rattle.device.specs.State as device;
 ghost use Rattle.numerals.specs.Places.{field};
 ghost use Rattle.phases.specs.Fields.{kind_in, size_in, offset_most};
@@ -14,13 +13,6 @@ ghost use Rattle.image.specs.Image as image;
 ghost use Rattle.image.specs.Numbers as numbers;
 
 use packed::{Packed, cu, form, record, ru, setup};
-
-// What a record is found to be.
-#[derive(Clone, Copy)]
-pub enum Decoded {
-    Units(Packed),
-    Foreign,
-}
 
 // The own address is written in two halves. After reset it is all FFh, and the minimum length is 64.
 const OWN_BACK: usize = record::OWN + 3;
@@ -68,6 +60,7 @@ fn offset_most(none: bool) -> u64
 
 // ---- the command unit
 
+#[tactic(auto, unfolding(crate::specs::Numbers::acting_is))]
 fn acting_is(n: u64) -> bool
     ensures { result ≡ numbers.acting_is n }
 {
@@ -77,6 +70,7 @@ fn acting_is(n: u64) -> bool
 }
 
 // A Transmit has in the outgoing area what the buffers do not bring, by the form in force.
+#[tactic(auto, unfolding(crate::specs::Numbers::sending_is))]
 fn sending_is(f: u64, n: u64) -> bool
     ensures { result ≡ numbers.sending_is f n }
 {
@@ -86,6 +80,7 @@ fn sending_is(f: u64, n: u64) -> bool
     false
 }
 
+#[tactic(auto, unfolding(crate::specs::Numbers::ending_is))]
 fn ending_is(f: u64, n: u64) -> bool
     ensures { result ≡ numbers.ending_is f n }
 {
@@ -100,6 +95,7 @@ fn ending_is(f: u64, n: u64) -> bool
 }
 
 // A command that is begun: what its phase does not use is zero.
+#[tactic(auto, unfolding(crate::specs::Numbers::begun_is))]
 fn begun_is(f: u64, tag: u64, n: u64) -> bool
     ensures { result ≡ numbers.begun_is f tag n }
 {
@@ -113,6 +109,7 @@ fn begun_is(f: u64, tag: u64, n: u64) -> bool
 }
 
 // Whether a tag and a word are those of a command unit in range: most records have an offset alone, or nothing.
+#[tactic(auto, using(crate::proofs::Units::cu_low, crate::proofs::Units::cu_begun))]
 fn cu_is(f: u64, tag: u64, n: u64) -> bool
     ensures { result ≡ numbers.cu_is f tag n }
 {
@@ -125,6 +122,7 @@ fn cu_is(f: u64, tag: u64, n: u64) -> bool
 // ---- the receive unit
 
 // The number of a verdict and a form. Of the form after reset it is the verdict alone.
+#[tactic(auto, using(crate::proofs::Order::verdict_alone), unfolding(phases::specs::Forms::kind_shaped))]
 fn kind_is(n: u64) -> bool
     ensures { result ≡ kind_shaped (kind_in n) }
 {
@@ -135,6 +133,7 @@ fn kind_is(n: u64) -> bool
 }
 
 // A frame's word: it has its header, by its own form; a bad frame is held only to be saved.
+#[tactic(auto, unfolding(crate::specs::Numbers::frame_is))]
 fn frame_is(n: u64, most: u64) -> bool
     ensures { result ≡ numbers.frame_is n most }
 {
@@ -156,6 +155,7 @@ fn has_data(n: u64) -> bool
     form::has_data(ru::form(n), packed::size_of(n))
 }
 
+#[tactic(auto, unfolding(crate::specs::Numbers::held_is))]
 fn held_is(n: u64, rest: u64) -> bool
     ensures { result ≡ numbers.held_is n rest }
 {
@@ -166,6 +166,7 @@ fn held_is(n: u64, rest: u64) -> bool
 }
 
 // What is being filled has data left.
+#[tactic(auto, unfolding(crate::specs::Numbers::filling_is))]
 fn filling_is(n: u64, rest: u64) -> bool
     ensures { result ≡ numbers.filling_is n rest }
 {
@@ -180,6 +181,7 @@ fn filling_is(n: u64, rest: u64) -> bool
     false
 }
 
+#[tactic(auto, unfolding(crate::specs::Numbers::closing_is))]
 fn closing_is(n: u64, rest: u64) -> bool
     ensures { result ≡ numbers.closing_is n rest }
 {
@@ -191,6 +193,7 @@ fn closing_is(n: u64, rest: u64) -> bool
     false
 }
 
+#[tactic(auto, unfolding(crate::specs::Numbers::lacking_is))]
 fn lacking_is(n: u64, rest: u64) -> bool
     ensures { result ≡ numbers.lacking_is n rest }
 {
@@ -202,6 +205,7 @@ fn lacking_is(n: u64, rest: u64) -> bool
     false
 }
 
+#[tactic(auto, unfolding(crate::specs::Numbers::holding_is))]
 fn holding_is(tag: u64, n: u64, rest: u64) -> bool
     ensures { result ≡ numbers.holding_is tag n rest }
 {
@@ -215,6 +219,7 @@ fn holding_is(tag: u64, n: u64, rest: u64) -> bool
 }
 
 // Whether a tag and two words are those of a receive unit in range: with no frame held, an offset alone, or nothing.
+#[tactic(auto, using(crate::proofs::Units::ru_offset, crate::proofs::Units::ru_none, crate::proofs::Units::ru_holding))]
 fn ru_is(tag: u64, n: u64, rest: u64) -> bool
     ensures { result ≡ numbers.ru_is tag n rest }
 {
@@ -229,43 +234,38 @@ fn ru_is(tag: u64, n: u64, rest: u64) -> bool
 
 // ---- reading a record: each word by a function of its own, so that it becomes one load
 
-fn front_at(r: &[u8]) -> u64
-    requires { length r.now ≡ record_size }
+fn front_at(r: &[u8; record::SIZE]) -> u64
     ensures { result ≡ field r.now letters_at 8 }
 {
     numerals::read64(r, record::LETTERS)
 }
 
-fn status_at(r: &[u8]) -> u64
-    requires { length r.now ≡ record_size }
+fn status_at(r: &[u8; record::SIZE]) -> u64
     ensures { result ≡ field r.now status_at 8 }
 {
     numerals::read64(r, record::STATUS)
 }
 
-fn cu_at(r: &[u8]) -> u64
-    requires { length r.now ≡ record_size }
+fn cu_at(r: &[u8; record::SIZE]) -> u64
     ensures { result ≡ field r.now cu_at 8 }
 {
     numerals::read64(r, record::CU)
 }
 
-fn ru_at(r: &[u8]) -> u64
-    requires { length r.now ≡ record_size }
+fn ru_at(r: &[u8; record::SIZE]) -> u64
     ensures { result ≡ field r.now ru_at 8 }
 {
     numerals::read64(r, record::RU)
 }
 
-fn rest_at(r: &[u8]) -> u64
-    requires { length r.now ≡ record_size }
+fn rest_at(r: &[u8; record::SIZE]) -> u64
     ensures { result ≡ field r.now rest_at 8 }
 {
     numerals::read64(r, record::REST)
 }
 
-fn packed_at(r: &[u8]) -> Packed
-    requires { length r.now ≡ record_size }
+#[tactic(auto, unfolding(crate::specs::Image::packed_at))]
+fn packed_at(r: &[u8; record::SIZE]) -> Packed
     ensures { result ≡ image.packed_at r.now }
 {
     Packed {
@@ -277,8 +277,7 @@ fn packed_at(r: &[u8]) -> Packed
 }
 
 // The form in force.
-fn form_at(r: &[u8]) -> u64
-    requires { length r.now ≡ record_size }
+fn form_at(r: &[u8; record::SIZE]) -> u64
     ensures { result ≡ numbers.form_is r.now }
 {
     setup::form_of(numerals::read8(r, record::SETTINGS))
@@ -290,6 +289,7 @@ fn front_is(n: u64) -> bool
     n % record::FRONT_END == record::FRONT
 }
 
+#[tactic(auto, unfolding(crate::specs::Numbers::words_are))]
 fn words_are(front: u64, f: u64, k: Packed) -> bool
     ensures { result ≡ numbers.words_are front f k }
 {
@@ -301,16 +301,16 @@ fn words_are(front: u64, f: u64, k: Packed) -> bool
     false
 }
 
-fn spare_zero(r: &[u8]) -> bool
-    requires { length r.now ≡ record_size }
+#[tactic(auto, unfolding(crate::specs::Image::spare_zero))]
+fn spare_zero(r: &[u8; record::SIZE]) -> bool
     ensures { result ≡ image.spare_zero r.now }
 {
     (numerals::read24(r, record::GAP) == 0)
         & numerals::is_zero(r, record::SPARE, record::SPARE_WORDS)
 }
 
-fn is_fresh(r: &[u8]) -> bool
-    requires { length r.now ≡ record_size }
+#[tactic(auto, unfolding(crate::specs::Numbers::fresh_at))]
+fn is_fresh(r: &[u8; record::SIZE]) -> bool
     ensures { result ≡ numbers.fresh_at r.now }
 {
     (status_at(r) == 0)
@@ -321,8 +321,7 @@ fn is_fresh(r: &[u8]) -> bool
 }
 
 // Whether a record of 256 bytes is the image of a state in range. Before the first attention there is one such state.
-pub fn is_image(r: &[u8]) -> bool
-    requires { length r.now ≡ record_size }
+pub fn is_image(r: &[u8; record::SIZE]) -> bool
     ensures { result ≡ image.imaged r.now }
 {
     let k = packed_at(r);
@@ -338,34 +337,38 @@ pub fn is_image(r: &[u8]) -> bool
     false
 }
 
-// The units' state of a record that is the image of a state in range; any other record, of whatever length, is foreign.
-pub fn decode(r: &[u8]) -> Decoded
+// The units' state of a record that is the image of a state in range; any other record, of whatever length, is foreign and has none.
+#[tactic(auto, using(crate::proofs::Tests::decoded_units, crate::proofs::Tests::decoded_foreign, crate::proofs::Tests::decoded_other))]
+pub fn decode(r: &[u8]) -> Option<Packed>
     ensures { result ≡ image.decoded_by (image.decode_of r.now) }
 {
-    if r.len() == record::SIZE {
-        if is_image(r) {
-            return Decoded::Units(packed_at(r));
-        }
+    let Some(kept) = r.as_array::<{ record::SIZE }>() else {
+        return None;
+    };
+    if is_image(kept) {
+        return Some(packed_at(kept));
     }
-    Decoded::Foreign
+    None
 }
 
 // ---- writing a record
 
 // The units' state goes to a record, and no other byte changes; a record of another length stays as it is.
+#[tactic(auto, using(crate::proofs::Steps::units_stored, crate::proofs::Steps::units_other))]
 pub fn store(r: &mut [u8], k: Packed)
     ensures { r.new ≡ image.stored_units r.old k }
 {
-    if r.len() == record::SIZE {
-        numerals::put64(r, record::STATUS, k.status);
-        numerals::put64(r, record::CU, k.cu);
-        numerals::put64(r, record::RU, k.ru);
-        numerals::put64(r, record::REST, k.rest);
-    }
+    let Some(kept) = r.as_mut_array::<{ record::SIZE }>() else {
+        return;
+    };
+    numerals::put64(kept, record::STATUS, k.status);
+    numerals::put64(kept, record::CU, k.cu);
+    numerals::put64(kept, record::RU, k.ru);
+    numerals::put64(kept, record::REST, k.rest);
 }
 
-fn renew_full(r: &mut [u8])
-    requires { length r.old ≡ record_size }
+#[tactic(auto, using(crate::proofs::Steps::fresh_stores))]
+fn renew_full(r: &mut [u8; record::SIZE])
     ensures { r.new ≡ image.image_of device.fresh }
 {
     numerals::clear(r, 0, record::SIZE);
@@ -377,10 +380,12 @@ fn renew_full(r: &mut [u8])
 }
 
 // The image of the fresh state goes to a record, whatever stood there; one of another length stays as it is.
+#[tactic(auto, using(crate::proofs::Steps::stored_image, crate::proofs::Steps::stored_other))]
 pub fn renew(r: &mut [u8])
     ensures { r.new ≡ image.stored r.old device.fresh }
 {
-    if r.len() == record::SIZE {
-        renew_full(r);
-    }
+    let Some(kept) = r.as_mut_array::<{ record::SIZE }>() else {
+        return;
+    };
+    renew_full(kept);
 }

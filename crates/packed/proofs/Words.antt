@@ -4,6 +4,7 @@ use mathlib.Core.Bool.{Bool, true, false, not}
 use Prim.Native.Nat.{ℕ, zero, suc, ◌+◌, ◌*◌, ◌/◌, ◌%◌, ◌<◌, ◌^◌}
 use native.Mathlib.Omega.{arith}
 use lib.Dec.{eqb, eqb→eq}
+use mir.Val.{bool_byte}
 use Rattle.memory.specs.declared.Offset.{Offset}
 use Rattle.scb.specs.Words.{one}
 use Rattle.scb.proofs.Below.{below}
@@ -27,6 +28,11 @@ one_two : (k : ℕ) → k < 2 → one (eqb k 1) ≡ k
 one_two zero h = refl
 one_two (suc zero) h = refl
 one_two (suc (suc k)) h = absurd (omega arith)
+
+-- what `u64::from` makes of a flag
+pub from_flag : (b : Bool) → bool_byte b ≡ one b
+from_flag true = refl
+from_flag false = refl
 
 pub one_odd : (k : ℕ) → one (odd k) ≡ k % 2
 one_odd k = one_two (k % 2) (omega arith)

@@ -10,6 +10,8 @@ use Rattle.device.specs.declared.Units.{Units}
 use Rattle.phases.specs.Phases.{number_of, begun_word, cu_tag, cu_word, ru_tag, ru_word, ru_rest, WordWide, HoldingWide}
 use Rattle.phases.specs.declared.Word.{Word}
 use Rattle.packed.specs.declared.Packed.{Packed}
+use Rattle.packed.specs.declared.cu.Unit as cu
+use Rattle.packed.specs.declared.ru.Unit as ru
 
 -- ---- a state's numbers
 
@@ -64,6 +66,13 @@ cu_tag_in k = k.status / 2 ^ 8 % 2 ^ 3
 
 abbrev pub ru_tag_in : Packed → ℕ
 ru_tag_in k = k.status / 2 ^ 16 % 2 ^ 8
+
+-- each unit's numbers
+abbrev pub cu_unit_in : Packed → cu.Unit
+cu_unit_in k = record { tag = cu_tag_in k; word = k.cu }
+
+abbrev pub ru_unit_in : Packed → ru.Unit
+ru_unit_in k = record { tag = ru_tag_in k; word = k.ru; rest = k.rest }
 
 abbrev pub base_in : Packed → ℕ
 base_in k = k.status / 2 ^ 40
@@ -125,6 +134,13 @@ pub record RuIs (u : Ru) (tag n rest : ℕ) : Type 0 where
   pub rest_is : rest ≡ ru_rest u
   pub wide : WordWide (ru_word u)
   pub holding : HoldingWide u
+
+-- the same of a unit's numbers together
+abbrev pub CuUnitIs : Cu → cu.Unit → Type 0
+CuUnitIs c n = CuIs c n.tag n.word
+
+abbrev pub RuUnitIs : Ru → ru.Unit → Type 0
+RuUnitIs v n = RuIs v n.tag n.word n.rest
 
 pub record UnitsWide (u : Units) : Type 0 where
   pub scb_wide : u.scb.0 < 2 ^ 16

@@ -8,6 +8,13 @@ ghost use Rattle.packed.specs.Packed.{WordIs, BegunIs, begun_pausing};
 
 use memory::Offset;
 
+// The unit as numbers. Its tag is no enum: the record keeps it as a number, tags are compared by their order, and CuIs speaks of it beside the word.
+#[derive(Clone, Copy)]
+pub struct Unit {
+    pub tag: u64,
+    pub word: u64,
+}
+
 // The tags. From Waiting on the unit is Active, from Acting on a command is begun.
 pub const IDLE: u64 = 0;
 
@@ -44,6 +51,7 @@ pub const ACTING_MOST: u64 = (crate::KIND << 3) - 1;
 // ---- what is read of a begun command
 
 // I, as a number.
+#[tactic(auto, using(crate::proofs::Words::interrupt_in))]
 pub fn interrupt(n: u64) -> u64
     ensures { (result ≡ one (begun_of (word_of n)).interrupt) × (result < 2) }
 {
@@ -51,23 +59,26 @@ pub fn interrupt(n: u64) -> u64
 }
 
 // S.
+#[tactic(auto, using(crate::proofs::Words::second_in))]
 pub fn suspend(n: u64) -> bool
     ensures { result ≡ (begun_of (word_of n)).suspend }
 {
-    n / SUSPEND % 2 == 1
+    crate::has::<SUSPEND>(n)
 }
 
+#[tactic(auto, using(crate::proofs::Words::third_in))]
 pub fn el(n: u64) -> bool
     ensures { result ≡ (begun_of (word_of n)).el }
 {
-    n / EL % 2 == 1
+    crate::has::<EL>(n)
 }
 
 // Whether a SUSPEND waits for its end.
+#[tactic(auto, using(crate::proofs::Words::fourth_in))]
 pub fn pausing(n: u64) -> bool
     ensures { result ≡ (begun_of (word_of n)).pausing }
 {
-    n / PAUSING % 2 == 1
+    crate::has::<PAUSING>(n)
 }
 
 // The begun command alone.
@@ -80,6 +91,7 @@ pub fn begun_of(n: u64) -> u64
 // ---- a word put together
 
 // A command that is begun, with I, S, EL as they stand in bits 13 to 15 of its command word.
+#[tactic(auto, using(crate::proofs::Words::begun_with_lem))]
 pub fn begun(block: Offset, flags: u16) -> u64
     requires { flags < 2 ^ 3 }
     ensures { (result < 2 ^ 20) × BegunIs (begun_with block flags) result }
@@ -88,6 +100,7 @@ pub fn begun(block: Offset, flags: u16) -> u64
 }
 
 // A SUSPEND waits for the end of a begun command.
+#[tactic(auto, using(crate::proofs::Pausing::begun_pausing_lem))]
 pub fn pause(n: u64) -> u64
     ensures { (w : Word) → WordIs w n → WordIs (begun_pausing w) result }
 {
@@ -95,6 +108,7 @@ pub fn pause(n: u64) -> u64
 }
 
 // One whose end is next, by its number.
+#[tactic(auto, using(crate::proofs::Words::begun_kind))]
 pub fn acting(b: u64, number: u64) -> u64
     requires { (b < 2 ^ 20) × (number < 2 ^ 8) }
     ensures { (v : Begun) → BegunIs v b → WordIs (begun_word v number 0 0) result }
@@ -103,6 +117,7 @@ pub fn acting(b: u64, number: u64) -> u64
 }
 
 // A Transmit at its descriptors: those used, the bytes in the outgoing area, the next descriptor.
+#[tactic(auto, using(crate::proofs::Words::begun_and))]
 pub fn sending(b: u64, used: u64, filled: u64, next: Offset) -> u64
     requires { (b < 2 ^ 20) × (used < 2 ^ 8) × (filled < 2 ^ 16) }
     ensures { (v : Begun) → BegunIs v b → WordIs (begun_word v used filled next.0) result }
@@ -111,6 +126,7 @@ pub fn sending(b: u64, used: u64, filled: u64, next: Offset) -> u64
 }
 
 // One whose end is next: the bytes in the outgoing area.
+#[tactic(auto, using(crate::proofs::Words::begun_size))]
 pub fn ending(b: u64, filled: u64) -> u64
     requires { (b < 2 ^ 20) × (filled < 2 ^ 16) }
     ensures { (v : Begun) → BegunIs v b → WordIs (begun_word v 0 filled 0) result }

@@ -22,17 +22,15 @@ const LOCATION: u64 = 1 << 3;
 const FORMS: u64 = 1 << 4;
 
 // The address length.
+#[tactic(auto, unfolding(phases::specs::Forms::form_of))]
 pub fn length(form: u64) -> u64
     ensures { (result ≡ (form_of form).length) × (result ≤ 6) }
 {
-    let lacks = form % LACKS;
-    if lacks < LONGEST_ADDRESS {
-        return LONGEST_ADDRESS - lacks;
-    }
-    0
+    LONGEST_ADDRESS.saturating_sub(form % LACKS)
 }
 
 // Whether the address location is 1.
+#[tactic(auto, unfolding(phases::specs::Forms::form_of))]
 pub fn location(form: u64) -> bool
     ensures { result ≡ (form_of form).location }
 {
@@ -57,6 +55,7 @@ pub fn unbuffered(form: u64) -> u64
 }
 
 // Whether so many bytes have the header. Most frames have the longest, and need not be asked for their form.
+#[tactic(auto, using(crate::proofs::Forms::header_had))]
 pub fn has_header(form: u64, size: u64) -> bool
     ensures { result ≡ leb (rule.header (form_of form).length) size }
 {
@@ -77,6 +76,7 @@ pub fn has_unbuffered(form: u64, size: u64) -> bool
 }
 
 // Whether they have more than that.
+#[tactic(auto, using(crate::proofs::Forms::data_had))]
 pub fn has_data(form: u64, size: u64) -> bool
     ensures { result ≡ ltb (rule.unbuffered (form_of form)) size }
 {
@@ -87,6 +87,7 @@ pub fn has_data(form: u64, size: u64) -> bool
 }
 
 // Whether a number is a form's: there is nothing above its four bits, and no length is seven short of six. One test asks both.
+#[tactic(auto, using(crate::proofs::Forms::shaped))]
 pub fn is_form(form: u64) -> bool
     ensures { result ≡ form_shaped form }
 {
@@ -94,6 +95,7 @@ pub fn is_form(form: u64) -> bool
 }
 
 // The form of an address length and a location, as Configure has them.
+#[tactic(auto, unfolding(phases::specs::Forms::form_number))]
 pub fn of(length: u64, location: u64) -> u64
     requires { (length ≤ 6) × (location < 2) }
     ensures { (result < 2 ^ 4) × ((f : Form) → length ≡ f.length → location ≡ one f.location → result ≡ form_number f) }

@@ -101,14 +101,14 @@ pub fn events(k: Packed) -> u64
 pub fn initialised(k: Packed) -> bool
     ensures { result ≡ odd (packed.marks_in k) }
 {
-    marks(k) / INITIALISED % 2 == 1
+    has::<INITIALISED>(marks(k))
 }
 
 // Whether RU was served at the last working turn.
 pub fn ru_last(k: Packed) -> bool
     ensures { result ≡ odd (packed.marks_in k / 2) }
 {
-    marks(k) / RU_LAST % 2 == 1
+    has::<RU_LAST>(marks(k))
 }
 
 pub fn cu_tag(k: Packed) -> u64
@@ -121,6 +121,26 @@ pub fn ru_tag(k: Packed) -> u64
     ensures { result ≡ packed.ru_tag_in k }
 {
     k.status / RU % RU_TAGS
+}
+
+// Each unit: its tag, and its word or two.
+pub fn cu_unit(k: Packed) -> cu::Unit
+    ensures { result ≡ packed.cu_unit_in k }
+{
+    cu::Unit {
+        tag: cu_tag(k),
+        word: k.cu,
+    }
+}
+
+pub fn ru_unit(k: Packed) -> ru::Unit
+    ensures { result ≡ packed.ru_unit_in k }
+{
+    ru::Unit {
+        tag: ru_tag(k),
+        word: k.ru,
+        rest: k.rest,
+    }
 }
 
 // Where a bit and two bits stand that nothing uses: above the command unit's tag and above the marks.
@@ -158,11 +178,12 @@ pub const OFFSET_MOST: u64 = FLAGS - 1;
 
 pub const SIZED_MOST: u64 = NEXT - 1;
 
-// A flag as a number.
-pub fn bit(b: bool) -> u64
-    ensures { (result ≡ words.one b) × (result < 2) }
+// Whether a flag of a word, or of a byte, is set.
+fn has<const FLAG: u64>(n: u64) -> bool
+    requires { 0 < FLAG }
+    ensures { result ≡ odd (n / FLAG) }
 {
-    if b { 1 } else { 0 }
+    n / FLAG % 2 == 1
 }
 
 pub fn at_of(n: u64) -> Offset
@@ -203,6 +224,7 @@ pub fn next_of(n: u64) -> Offset
 }
 
 // The word of an offset alone.
+#[tactic(auto, using(crate::proofs::Words::plain_is))]
 pub fn plain(o: Offset) -> u64
     ensures { packed.WordIs (phases.plain o.0) result }
 {
@@ -212,6 +234,7 @@ pub fn plain(o: Offset) -> u64
 // ---- a state put together
 
 // The events that stand after others came up, as numbers below 16.
+#[tactic(auto, using(crate::proofs::Laws::or_below, crate::proofs::Laws::raise_or))]
 pub fn raise(events: u64, raised: u64) -> u64
     requires { (events < 16) × (raised < 16) }
     ensures { (result < 16) × ((e by : Events) → events ≡ words.event_bits e → raised ≡ words.event_bits by → result ≡ words.event_bits (words.raise e by)) }
@@ -231,68 +254,73 @@ fn status_of(scb: u64, marks: u64, cu: u64, ru: u64, base: u64) -> u64
         + BASE * (base % BASES)
 }
 
-// The command unit was served: it is what its tag and word say, and events came up.
-pub fn after_cu(k: Packed, tag: u64, word: u64, raised: u64) -> Packed
-    ensures { (u : Units) (c : Cu) (by : Events) → packed.PackedIs u k → packed.CuIs c tag word → raised ≡ words.event_bits by → packed.PackedIs (packed.cu_served u c by) result }
+// The command unit was served: it is what its numbers say, and events came up.
+pub fn after_cu(k: Packed, unit: cu::Unit, raised: u64) -> Packed
+    ensures { (u : Units) (c : Cu) (by : Events) → packed.PackedIs u k → packed.CuUnitIs c unit → raised ≡ words.event_bits by → packed.PackedIs (packed.cu_served u c by) result }
 {
     let marks = marks(k) % RU_LAST + EVENTS * raise(events(k), raised % EVENT_SETS);
     Packed {
-        status: status_of(k.status / SCB, marks, tag, ru_tag(k), k.status / BASE),
-        cu: word,
+        status: status_of(k.status / SCB, marks, unit.tag, ru_tag(k), k.status / BASE),
+        cu: unit.word,
         ru: k.ru,
         rest: k.rest,
     }
 }
 
-// The receive unit was served: it is what its tag and words say, and events came up.
-pub fn after_ru(k: Packed, tag: u64, word: u64, rest: u64, raised: u64) -> Packed
-    ensures { (u : Units) (v : Ru) (by : Events) → packed.PackedIs u k → packed.RuIs v tag word rest → raised ≡ words.event_bits by → packed.PackedIs (packed.ru_served u v by) result }
+// The receive unit was served: it is what its numbers say, and events came up.
+pub fn after_ru(k: Packed, unit: ru::Unit, raised: u64) -> Packed
+    ensures { (u : Units) (v : Ru) (by : Events) → packed.PackedIs u k → packed.RuUnitIs v unit → raised ≡ words.event_bits by → packed.PackedIs (packed.ru_served u v by) result }
 {
     let marks = marks(k) % RU_LAST + RU_LAST + EVENTS * raise(events(k), raised % EVENT_SETS);
     Packed {
-        status: status_of(k.status / SCB, marks, cu_tag(k), tag, k.status / BASE),
+        status: status_of(k.status / SCB, marks, cu_tag(k), unit.tag, k.status / BASE),
         cu: k.cu,
-        ru: word,
-        rest: rest,
+        ru: unit.word,
+        rest: unit.rest,
     }
 }
 
-// The receive unit is what its tag and words say, and nothing else changed.
-pub fn with_ru(k: Packed, tag: u64, word: u64, rest: u64) -> Packed
-    ensures { (u : Units) (v : Ru) → packed.PackedIs u k → packed.RuIs v tag word rest → packed.PackedIs (change.with_ru u v) result }
+// The receive unit is what its numbers say, and nothing else changed.
+pub fn with_ru(k: Packed, unit: ru::Unit) -> Packed
+    ensures { (u : Units) (v : Ru) → packed.PackedIs u k → packed.RuUnitIs v unit → packed.PackedIs (change.with_ru u v) result }
 {
     Packed {
-        status: status_of(k.status / SCB, marks(k), cu_tag(k), tag, k.status / BASE),
+        status: status_of(
+            k.status / SCB,
+            marks(k),
+            cu_tag(k),
+            unit.tag,
+            k.status / BASE,
+        ),
         cu: k.cu,
-        ru: word,
-        rest: rest,
+        ru: unit.word,
+        rest: unit.rest,
     }
 }
 
-// Both units obeyed their control codes: they are what their tags and words say, and events came up.
-pub fn after_codes(
-    k: Packed,
-    cu_tag: u64,
-    cu: u64,
-    ru_tag: u64,
-    ru: u64,
-    rest: u64,
-    raised: u64,
-) -> Packed
+// Both units obeyed their control codes: they are what their numbers say, and events came up.
+pub fn after_codes(k: Packed, command: cu::Unit, receive: ru::Unit, raised: u64) -> Packed
     requires { raised < 16 }
-    ensures { (u : Units) (c : Cu) (v : Ru) (by : Events) → packed.PackedIs u k → packed.CuIs c cu_tag cu → packed.RuIs v ru_tag ru rest
+    ensures { (u : Units) (c : Cu) (v : Ru) (by : Events) → packed.PackedIs u k → packed.CuUnitIs c command → packed.RuUnitIs v receive
         → raised ≡ words.event_bits by → packed.PackedIs (packed.both_with u c v by) result }
 {
     let marks = marks(k) % MARK_SETS + EVENTS * raise(events(k), raised);
     Packed {
-        status: status_of(k.status / SCB, marks, cu_tag, ru_tag, k.status / BASE),
-        cu: cu,
-        ru: ru,
-        rest: rest,
+        status: status_of(
+            k.status / SCB,
+            marks,
+            command.tag,
+            receive.tag,
+            k.status / BASE,
+        ),
+        cu: command.word,
+        ru: receive.word,
+        rest: receive.rest,
     }
 }
 
 // Events are cleared: those of a number that stand.
+#[tactic(auto, using(crate::proofs::States::clears))]
 pub fn without_events(k: Packed, cleared: u64) -> Packed
     ensures { (u : Units) (e : Events) → packed.PackedIs u k → bit_and (words.event_bits u.events) cleared + words.event_bits e ≡ words.event_bits u.events
         → packed.PackedIs (change.with_events u e) result }

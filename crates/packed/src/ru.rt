@@ -13,6 +13,14 @@ ghost use Rattle.packed.specs.Packed.{WordIs, held_pausing};
 
 use memory::Offset;
 
+// The unit as numbers. Its tag is no enum: the record keeps it as a number, tags are compared by their order, and RuIs speaks of it beside the words.
+#[derive(Clone, Copy)]
+pub struct Unit {
+    pub tag: u64,
+    pub word: u64,
+    pub rest: u64,
+}
+
 // The tags. From Ready on the unit is Ready, from Held on it holds a frame, from Filling on the frame is begun.
 pub const IDLE: u64 = 0;
 
@@ -73,22 +81,25 @@ pub fn has_offset(tag: u64) -> bool
 // ---- what is read of a frame's word
 
 // Whether a SUSPEND waits for the frame's end.
+#[tactic(auto, using(crate::proofs::Words::first_in))]
 pub fn pausing(n: u64) -> bool
     ensures { result ≡ (word_of n).first }
 {
-    n / PAUSING % 2 == 1
+    crate::has::<PAUSING>(n)
 }
 
+#[tactic(auto, using(crate::proofs::Words::second_in))]
 pub fn short(n: u64) -> bool
     ensures { result ≡ (frame_of (word_of n)).short }
 {
-    n / SHORT % 2 == 1
+    crate::has::<SHORT>(n)
 }
 
+#[tactic(auto, using(crate::proofs::Words::third_in))]
 pub fn save_bad(n: u64) -> bool
     ensures { result ≡ (frame_of (word_of n)).savebad }
 {
-    n / SAVE_BAD % 2 == 1
+    crate::has::<SAVE_BAD>(n)
 }
 
 // The line side's verdict.
@@ -106,24 +117,27 @@ pub fn form(n: u64) -> u64
 }
 
 // S of the descriptor.
+#[tactic(auto, using(crate::proofs::Words::fourth_in))]
 pub fn suspend(n: u64) -> bool
     ensures { result ≡ (storing_of (word_of n)).suspend }
 {
-    n / SUSPEND % 2 == 1
+    crate::has::<SUSPEND>(n)
 }
 
 // EL of the descriptor.
+#[tactic(auto, using(crate::proofs::Words::fifth_in))]
 pub fn el(n: u64) -> bool
     ensures { result ≡ (storing_of (word_of n)).el }
 {
-    n / EL % 2 == 1
+    crate::has::<EL>(n)
 }
 
 // EL of the last buffer used.
+#[tactic(auto, using(crate::proofs::Words::sixth_in))]
 pub fn full(n: u64) -> bool
     ensures { result ≡ (word_of n).sixth }
 {
-    n / FULL % 2 == 1
+    crate::has::<FULL>(n)
 }
 
 // ---- a word put together
@@ -134,8 +148,8 @@ pub fn frame(short: bool, save_bad: bool, verdict: u64, form: u64, length: u64) 
     ensures { (result < 2 ^ 48) × ((f : Form) → form ≡ form_number f
         → result ≡ frame_number (record { length = length; verdict = verdict_of verdict; short = short; savebad = save_bad; form = f })) }
 {
-    SHORT * crate::bit(short)
-        + SAVE_BAD * crate::bit(save_bad)
+    SHORT * u64::from(short)
+        + SAVE_BAD * u64::from(save_bad)
         + crate::KIND * (verdict + FORM * form)
         + crate::SIZE * length
 }
@@ -158,6 +172,7 @@ fn flagged(n: u64, flags: u64) -> u64
 }
 
 // A held frame is begun, with S and EL as they stand in bits 14 and 15 of the descriptor's word.
+#[tactic(auto, using(crate::proofs::Words::storing_with_lem))]
 pub fn begun(n: u64, flags: u16) -> u64
     requires { flags < 2 ^ 2 }
     ensures { (result < 2 ^ 48) × ((o : Offset) (f : Frame) (p : Bool) → WordIs (frame_word o f p) n → WordIs (storing_word (storing_with o f p flags) 0 false) result) }
@@ -166,6 +181,7 @@ pub fn begun(n: u64, flags: u16) -> u64
 }
 
 // A SUSPEND waits for the end of a held frame.
+#[tactic(auto, using(crate::proofs::Pausing::held_pausing_lem))]
 pub fn pause(n: u64) -> u64
     ensures { (w : Word) → WordIs w n → WordIs (held_pausing w) result }
 {
@@ -176,10 +192,11 @@ pub fn pause(n: u64) -> u64
 pub fn filled_up(n: u64, el: bool) -> u64
     ensures { (result < 2 ^ 48) × ((s : Storing) (next : ℕ) → WordIs (storing_word s next false) n → WordIs (storing_word s 0 el) result) }
 {
-    flagged(n, FULL * crate::bit(el))
+    flagged(n, FULL * u64::from(el))
 }
 
 // A word with the next offset.
+#[tactic(auto, using(crate::proofs::Words::storing_next))]
 pub fn with_next(n: u64, next: Offset) -> u64
     requires { n < 2 ^ 48 }
     ensures { (s : Storing) (full : Bool) → WordIs (storing_word s 0 full) n → WordIs (storing_word s next.0 full) result }

@@ -1,9 +1,9 @@
 // What the commands set up, as the record keeps it and a call is lent it: a byte of settings, one of the minimum length, the own address, the
 // filter. docs/record.md, bytes 240 to 255. It asks for all of them.
-ghost use Rattle.std.specs.Prelude.{◌≡◌, ◌<◌, ◌^◌, length};
+ghost use Rattle.std.specs.Prelude.{◌≡◌, ◌<◌, ◌^◌};
 ghost use Rattle.actions.specs.Setup.{Setup};
 ghost use Rattle.phases.specs.Forms.{form_number};
-ghost use Rattle.packed.specs.SetUp.{setup_size, joined_settings, modes_in, form_at, SetIs};
+ghost use Rattle.packed.specs.SetUp.{joined_settings, modes_in, form_at, SetIs};
 
 // Where each stands.
 pub const SETTINGS: usize = 0;
@@ -17,58 +17,58 @@ pub const FILTER: usize = 8;
 pub const SIZE: usize = 16;
 
 // The byte of settings: save bad; above it the modes, which are promiscuous and, above that, broadcast disabled; above them the form.
-const SAVES_BAD: u8 = 1 << 0;
+const SAVES_BAD: u64 = 1 << 0;
 
 const MODES: u8 = 1 << 1;
 
-const PROMISCUOUS: u8 = MODES;
+const PROMISCUOUS: u64 = MODES as u64;
 
-const NO_BROADCAST: u8 = MODES << 1;
+const NO_BROADCAST: u64 = PROMISCUOUS << 1;
 
 const MODE_SETS: u8 = 1 << 2;
 
 const FORM: u8 = 1 << 3;
 
-pub fn saves_bad(setup: &[u8]) -> bool
-    requires { length setup.now ≡ setup_size }
+#[tactic(auto, using(crate::proofs::SetUps::saves_is))]
+pub fn saves_bad(setup: &[u8; SIZE]) -> bool
     ensures { (s : Setup) → SetIs s setup.now → result ≡ s.settings.savebad }
 {
-    setup[SETTINGS] / SAVES_BAD % 2 == 1
+    crate::has::<SAVES_BAD>(setup[SETTINGS] as u64)
 }
 
-pub fn promiscuous(setup: &[u8]) -> bool
-    requires { length setup.now ≡ setup_size }
+#[tactic(auto, using(crate::proofs::SetUps::promiscuous_is))]
+pub fn promiscuous(setup: &[u8; SIZE]) -> bool
     ensures { (s : Setup) → SetIs s setup.now → result ≡ s.settings.promiscuous }
 {
-    setup[SETTINGS] / PROMISCUOUS % 2 == 1
+    crate::has::<PROMISCUOUS>(setup[SETTINGS] as u64)
 }
 
-pub fn no_broadcast(setup: &[u8]) -> bool
-    requires { length setup.now ≡ setup_size }
+#[tactic(auto, using(crate::proofs::SetUps::broadcast_is))]
+pub fn no_broadcast(setup: &[u8; SIZE]) -> bool
     ensures { (s : Setup) → SetIs s setup.now → result ≡ s.settings.nobroadcast }
 {
-    setup[SETTINGS] / NO_BROADCAST % 2 == 1
+    crate::has::<NO_BROADCAST>(setup[SETTINGS] as u64)
 }
 
 // The form of the frames that go and come now.
-pub fn form(setup: &[u8]) -> u64
-    requires { length setup.now ≡ setup_size }
+#[tactic(auto, using(crate::proofs::SetUps::form_is_lem))]
+pub fn form(setup: &[u8; SIZE]) -> u64
     ensures { (result < 2 ^ 5) × ((s : Setup) → SetIs s setup.now → result ≡ form_number s.settings.form) }
 {
     form_of(setup[SETTINGS])
 }
 
 // The minimum frame length.
-pub fn minimum(setup: &[u8]) -> u64
-    requires { length setup.now ≡ setup_size }
+#[tactic(auto, using(crate::proofs::SetUps::minimum_is))]
+pub fn minimum(setup: &[u8; SIZE]) -> u64
     ensures { (result < 2 ^ 8) × ((s : Setup) → SetIs s setup.now → result ≡ s.settings.minimum) }
 {
     setup[MINIMUM] as u64
 }
 
 // The filter.
-pub fn filter(setup: &[u8]) -> u64
-    requires { length setup.now ≡ setup_size }
+#[tactic(auto, using(crate::proofs::SetUps::filter_is))]
+pub fn filter(setup: &[u8; SIZE]) -> u64
     ensures { (s : Setup) → SetIs s setup.now → result ≡ s.filter }
 {
     numerals::read64(setup, FILTER)

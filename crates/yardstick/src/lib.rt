@@ -6,18 +6,12 @@ ghost use Rattle.std.specs.Prelude.{◌≡◌};
 ghost use Rattle.image.specs.Image as image;
 ghost use Rattle.yardstick.specs.Yardstick as yardstick;
 
-use image::Decoded;
-
 // 1 if a record is the image of a state in range, else 0.
 #[unsafe(no_mangle)]
 pub extern "C" fn lq_yardstick_decode(kept: &[u8]) -> u64
     ensures { result ≡ yardstick.taken (image.decode_of kept.now) }
 {
-    let d = image::decode(kept);
-    match d {
-        Decoded::Units(_) => 1,
-        Decoded::Foreign => 0,
-    }
+    u64::from(image::decode(kept).is_some())
 }
 
 // The same, and the record is written back as it was decoded.
@@ -25,8 +19,7 @@ pub extern "C" fn lq_yardstick_decode(kept: &[u8]) -> u64
 pub extern "C" fn lq_yardstick_both(kept: &mut [u8]) -> u64
     ensures { yardstick.Both kept.old result kept.new }
 {
-    let d = image::decode(kept);
-    let Decoded::Units(k) = d else {
+    let Some(k) = image::decode(kept) else {
         return 0;
     };
     image::store(kept, k);

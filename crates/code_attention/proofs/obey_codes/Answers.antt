@@ -2,7 +2,7 @@
 use Rattle.std.proofs.Common.{◌∙◌, sym}
 use Rattle.scb.specs.Words.{acknowledged}
 use Rattle.device.specs.Change.{with_events}
-use Rattle.packed.specs.Packed.{CuIs, RuIs}
+use Rattle.packed.specs.Packed.{CuUnitIs, RuUnitIs}
 use Rattle.packed.proofs.Laws.{base_is, scb_is, cu_is_lem, ru_is_lem}
 use Rattle.attention.specs.Attention.{leaving}
 use Rattle.code_attention.specs.Attends.{left_active, left_ready}
@@ -14,11 +14,11 @@ returns c u h =
     let k = c.args.k in
     let b = c.base-base.ensures ∙ base_is u k h in
     let s = c.scb-scb.ensures ∙ scb_is u k h in
-    let hc : CuIs u.cu c.cu_tag-cu.result k.cu = rw c.cu_tag-cu.ensures (cu_is_lem u k h) in
-    let hv : RuIs u.ru c.ru_tag-ru.result k.ru k.rest = rw c.ru_tag-ru.ensures (ru_is_lem u k h) in
+    let hc : CuUnitIs u.cu c.cu_unit-cu.result = rw c.cu_unit-cu.ensures (cu_is_lem u k h) in
+    let hv : RuUnitIs u.ru c.ru_unit-ru.result = rw c.ru_unit-ru.ensures (ru_is_lem u k h) in
     codes_are u c.args.command c.args.memory.now _ _ c.obey_cuc-c.result c.obey_ruc-r.result c.after_codes.result
     (c.obey_cuc-c.ensures u b s hc) (c.obey_ruc-r.ensures u b s hv)
     (λ a v ha hr. c.after_codes.ensures (with_events u (acknowledged u.events c.args.command)) a v
-    (leaving (left_active u.cu a) (left_ready u.ru v)) (c.acknowledge-acknowledged.ensures u h) ha hr
+    (leaving (left_active u.cu a) (left_ready u.ru v)) (c.acknowledge.ensures u h) ha hr
     (rw (c.left_active.ensures.1 u.cu a hc.tag_is ha.tag_is, c.left_ready.ensures.1 u.ru v hv.tag_is hr.tag_is)
     (sym (leaving_bits (left_active u.cu a) (left_ready u.ru v)))))

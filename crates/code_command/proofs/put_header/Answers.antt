@@ -15,12 +15,12 @@ returns c s h =
     let l = c.args.l in
     let to = bytes_at m (place c.args.base c.args.block destination_at) l in
     let type = bytes_at m (place c.args.base c.args.block (type_at l)) 2 in
-    let long : length (take l s.own) ≡ l = length-take-le l s.own (omega (arith, h.own_wide, c.requires.1)) in
+    let long : length (take l s.own) ≡ l = length-take-le l s.own (omega (arith, h.own_wide, c.requires)) in
     let k : l + length (take l s.own) ≡ l + l = omega arith in
     let part : 2 + l - 2 ≡ l = omega arith in
     rw (
       ← in_parts c.args.outgoing.now to (take l s.own) type l (l + l) (length-bytes_at m (place c.args.base c.args.block destination_at) l) k,
-      ← own_first s c.args.setup.now h l c.requires.1,
+      ← own_first s c.args.setup.now h l c.requires,
       ← c.place.ensures,
       ← c.place-2.ensures,
       ← c.few_out.ensures,

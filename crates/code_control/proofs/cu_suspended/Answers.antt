@@ -4,11 +4,11 @@ use Rattle.phases.specs.Phases.{cu_word}
 use Rattle.code_control.proofs.CuCodes.{suspend_waiting, suspend_begun}
 use Rattle.code_control.proofs.cu_suspended.Goals as goal
 
-pub returns-then-tag-eq-WAITING : goal.returns-then-tag-eq-WAITING
-returns-then-tag-eq-WAITING c x h =
-    suspend_waiting x c.args.tag c.args.word (sym h.tag_is ∙ c.if-tag-eq-WAITING.true) h
+pub returns-then-unit-eq-WAITING : goal.returns-then-unit-eq-WAITING
+returns-then-unit-eq-WAITING c x h =
+    suspend_waiting x c.args.unit.tag c.args.unit.word (sym h.tag_is ∙ c.if-unit-eq-WAITING.true) h
 
 pub returns : goal.returns
 returns c x h =
-    suspend_begun x c.args.tag c.args.word c.pause.result (omega (arith, h.tag_is, c.if-tag-lt-WAITING.false, c.if-tag-eq-WAITING.false)) h
+    suspend_begun x c.args.unit.tag c.args.unit.word c.pause.result (omega (arith, h.tag_is, c.if-unit-lt-WAITING.false, c.if-unit-eq-WAITING.false)) h
     (c.pause.ensures (cu_word x) (record { number_is = h.word_is; wide = h.wide }))

@@ -3,6 +3,6 @@ use Rattle.std.proofs.Common.{arith}
 use Rattle.code_control.proofs.RuCodes.{ready_from}
 use Rattle.code_control.proofs.ru_ready.Goals as goal
 
-pub returns-then-tag-lt-READY : goal.returns-then-tag-lt-READY
-returns-then-tag-lt-READY c x h =
-    ready_from c.args.first c.plain.result x c.plain.ensures (omega (arith, h.tag_is, c.if-tag-lt-READY.true))
+pub returns-then-unit-lt-READY : goal.returns-then-unit-lt-READY
+returns-then-unit-lt-READY c x h =
+    ready_from c.args.first c.plain.result x c.plain.ensures (omega (arith, h.tag_is, c.if-unit-lt-READY.true))

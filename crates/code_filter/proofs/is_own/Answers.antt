@@ -1,5 +1,5 @@
 -- `code_filter::is_own` meets its contract: four bytes at once, or one by one, where the first i agree. Assumes nothing.
-use Rattle.std.proofs.Common.{sym, ◌∙◌, arith}
+use Rattle.std.proofs.Common.{rules, sym, ◌∙◌, arith}
 use Rattle.memory.proofs.Bytes.{Bytes}
 use Rattle.packed.specs.SetUp.{own_at}
 use Rattle.code_filter.proofs.Laws.{agree_none, agree_more, differs}
@@ -10,7 +10,7 @@ pub returns-then-read32 : goal.returns-then-read32
 returns-then-read32 c =
     let b = c.args.setup.now in
     let f = c.args.frame.now in
-    let x : Bytes b = record { each = λ i. omega (arith, c.type_inv.setup i) } in
+    let x : Bytes b = record { each = λ i. search rules } in
     let y : Bytes f = record { each = λ i. omega (arith, c.type_inv.frame i) } in
     rw (c.read32-then-read32.ensures, c.read32-then-read32-2.ensures)
     (last_decides b own_at f x y c.args.l c.if-l-ge-AT_ONCE.true (omega arith)
@@ -20,7 +20,7 @@ pub returns-then-l-ge-AT_ONCE : goal.returns-then-l-ge-AT_ONCE
 returns-then-l-ge-AT_ONCE c =
     let b = c.args.setup.now in
     let f = c.args.frame.now in
-    let x : Bytes b = record { each = λ i. omega (arith, c.type_inv.setup i) } in
+    let x : Bytes b = record { each = λ i. search rules } in
     let y : Bytes f = record { each = λ i. omega (arith, c.type_inv.frame i) } in
     first_differs b own_at f x y c.args.l c.if-l-ge-AT_ONCE.true (omega arith)
     (λ e. c.if-read32.false (c.read32.ensures ∙ e ∙ sym c.read32-then-l-ge-AT_ONCE.ensures))

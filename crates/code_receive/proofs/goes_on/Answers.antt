@@ -1,13 +1,13 @@
 -- `code_receive::goes_on` meets its contract. Assumes nothing.
 use Rattle.std.proofs.Common.{◌≡◌, true, false, ◌||◌, refl}
 use Rattle.phases.specs.Phases.{word_of}
-use Rattle.packed.proofs.Words.{suspended, ready, no_resources}
+use Rattle.packed.proofs.Words.{from_flag, suspended, ready, no_resources}
 use Rattle.code_receive.proofs.Laws.{offset_is, raised_suspended, raised_ready, raised_none}
 use Rattle.code_receive.proofs.goes_on.Goals as goal
 
 pub returns-then-exhausted : goal.returns-then-exhausted
 returns-then-exhausted c f e =
-    rw c.if-exhausted.true (record { unit = no_resources; raised = rw (c.bit-fr.ensures.0, e) (raised_none f); memory = refl })
+    rw c.if-exhausted.true (record { unit = no_resources; raised = rw (c.from-fr.ensures, from_flag c.args.stored, e) (raised_none f); memory = refl })
 
 pub returns-then-suspend-pausing : goal.returns-then-suspend-pausing
 unfolding word_of
@@ -18,7 +18,7 @@ returns-then-suspend-pausing c f e =
     rw (c.if-exhausted.false, t)
     (record {
       unit = rw (← p, ← c.offset_at-link.ensures) (suspended _ o c.plain.ensures);
-      raised = rw (c.bit-fr.ensures.0, e) (raised_suspended f o);
+      raised = rw (c.from-fr.ensures, from_flag c.args.stored, e) (raised_suspended f o);
       memory = rw (← p, ← c.offset_at-link.ensures, ← c.place-2.ensures, ← c.next_of-free.ensures) c.put_word.ensures;
     })
 
@@ -31,6 +31,6 @@ returns c f e =
     rw (c.if-exhausted.false, t)
     (record {
       unit = rw (← p, ← c.offset_at-link.ensures) (ready _ o c.plain-2.ensures);
-      raised = rw (c.bit-fr.ensures.0, e) (raised_ready f o);
+      raised = rw (c.from-fr.ensures, from_flag c.args.stored, e) (raised_ready f o);
       memory = rw (← p, ← c.offset_at-link.ensures, ← c.place-2.ensures, ← c.next_of-free.ensures) c.put_word.ensures;
     })

@@ -14,4 +14,4 @@ returns c u a v by h hc hv e =
     omega (arith, low_marks u k h) in
     rw (c.status_of.ensures, c.marks.ensures, x)
     (together u k h a v u.initialised u.rulast (raise u.events by) (marks_in k % 4 + 16 * event_bits (raise u.events by))
-    c.args.cu_tag c.args.cu c.args.ru_tag c.args.ru c.args.rest f hc hv)
+    c.args.command.tag c.args.command.word c.args.receive.tag c.args.receive.word c.args.receive.rest f hc hv)

@@ -14,4 +14,4 @@ returns c u v by h hv e =
     omega (arith, low_mark u k h) in
     rw (c.status_of.ensures, c.ru_tag.ensures, c.marks.ensures, x)
     (together u k h v u.ru u.initialised false (raise u.events by) (marks_in k % 2 + 16 * event_bits (raise u.events by))
-    c.args.tag c.args.word (ru_tag_in k) k.ru k.rest f hv (ru_is_lem u k h))
+    c.args.unit.tag c.args.unit.word (ru_tag_in k) k.ru k.rest f hv (ru_is_lem u k h))

@@ -14,4 +14,4 @@ returns c u v by h hv e =
     omega (arith, low_mark u k h) in
     rw (c.status_of.ensures, c.cu_tag.ensures, c.marks.ensures, x)
     (together u k h u.cu v u.initialised true (raise u.events by) (marks_in k % 2 + 2 + 16 * event_bits (raise u.events by))
-    (cu_tag_in k) k.cu c.args.tag c.args.word c.args.rest f (cu_is_lem u k h) hv)
+    (cu_tag_in k) k.cu c.args.unit.tag c.args.unit.word c.args.unit.rest f (cu_is_lem u k h) hv)

@@ -7,5 +7,5 @@ pub returns : goal.returns
 returns c u v h hv =
     let k = c.args.k in
     rw (c.status_of.ensures, c.cu_tag.ensures, c.marks.ensures)
-    (together u k h u.cu v u.initialised u.rulast u.events (marks_in k) (cu_tag_in k) k.cu c.args.tag c.args.word c.args.rest
+    (together u k h u.cu v u.initialised u.rulast u.events (marks_in k) (cu_tag_in k) k.cu c.args.unit.tag c.args.unit.word c.args.unit.rest
     (marks_is u k h) (cu_is_lem u k h) hv)
