@@ -2,7 +2,7 @@
 use mathlib.Core.Path.{◌≡◌, refl, sym, ap, subst, ◌∙◌}
 use mathlib.Core.Bool.{Bool, true, false}
 use mathlib.Core.List.{List, ◌++◌}
-use Prim.Native.Nat.{ℕ, zero, suc, ◌+◌, ◌*◌, ◌^◌}
+use Prim.Native.Nat.{ℕ, zero, suc, ◌+◌, ◌*◌, ◌-◌, ◌^◌}
 use native.Mathlib.Omega.{arith}
 use lib.ListN.{length, take, drop, replicate, take-append-drop}
 use Rattle.std.specs.Prelude.{Option, Some, None}
@@ -21,7 +21,7 @@ use Rattle.packed.specs.Packed.{packed_of}
 use Rattle.code_attention.proofs.States.{setup_length}
 use Rattle.code_chip.specs.Does.{DeviceIs, told_of}
 use Rattle.image.specs.Image.{front, unit_bytes, image_of, decode_of, device_from, device_at, stored_units}
-use Rattle.image.proofs.Lent.{its_image, its_numbers, its_setup, setup_lent, setup_returned, first_part}
+use Rattle.image.proofs.Lent.{its_image, its_numbers, its_setup, first_part}
 use Rattle.image.specs.Found as is
 use Rattle.chip.specs.World.{World, Ran, world_of, afterwards}
 use Rattle.chip.specs.Turn.{turn_of}
@@ -72,13 +72,17 @@ told : (d : Device) (n : Packed) (set : List ℕ) → DeviceIs d n set → unit_
 unfolding image_of
 told d n set e = rw (e.units.same, e.setup.bytes_are)
 
--- ---- a record whose setup is lent, and to which numbers go back
+-- ---- a record whose setup, its last 16 bytes, is lent, and to which numbers go back
 
 module _ (r : List ℕ) (k : Packed) (u : Units) (l : length r ≡ 256) (b : Bytes r) (f : Finds r k u) where
-  -- the numbers and the last 16 bytes are the device's
-  pub lent_device : DeviceIs (device_at r u) k (take 16 (drop 240 r))
+  before_setup : length r - 16 ≡ 240
+  before_setup = omega arith
+
+  -- the numbers and the setup are the device's
+  pub lent_device : (set : List ℕ) → set ≡ drop (length r - 16) r → DeviceIs (device_at r u) k set
   unfolding device_at device_from
-  lent_device = rw (setup_lent r l) (record { units = its_numbers r u l b f.found k f.numbers; setup = its_setup r u l b f.found })
+  lent_device set e =
+      rw (e, before_setup) (record { units = its_numbers r u l b f.found k f.numbers; setup = its_setup r u l b f.found })
 
   put_there : (d : Device) (n : Packed) (set : List ℕ) → DeviceIs d n set → stored_units (take 240 r ++ set) n ≡ image_of d
   put_there d n set e =
@@ -87,13 +91,13 @@ module _ (r : List ℕ) (k : Packed) (u : Units) (l : length r ≡ 256) (b : Byt
       rw s (put_whole (packed_of (device_at r u).units) n set (setup_length (setup_of d) set e.setup) ∙ told d n set e)
 
   -- with other numbers and another setup, it is the image of the device that they are
-  pub put_back : (d : Device) (n : Packed) (set : List ℕ) → DeviceIs d n set → stored_units (take 240 r ++ (set ++ drop 16 (drop 240 r))) n ≡ image_of d
-  put_back d n set e = rw (setup_returned r l set) (put_there d n set e)
+  pub put_back : (d : Device) (n : Packed) (set : List ℕ) → DeviceIs d n set → stored_units (take (length r - 16) r ++ set) n ≡ image_of d
+  put_back d n set e = rw before_setup (put_there d n set e)
 
   -- with other numbers alone
-  pub put_numbers : (d : Device) (n : Packed) → DeviceIs d n (take 16 (drop 240 r)) → stored_units r n ≡ image_of d
-  put_numbers d n e =
-      let x : DeviceIs d n (drop 240 r) = rw (setup_lent r l) at e in
+  pub put_numbers : (d : Device) (n : Packed) (set : List ℕ) → set ≡ drop (length r - 16) r → DeviceIs d n set → stored_units r n ≡ image_of d
+  put_numbers d n set s e =
+      let x : DeviceIs d n (drop 240 r) = rw (s, before_setup) at e in
       ap (λ (y : List ℕ). stored_units y n) (sym (take-append-drop 240 r)) ∙ put_there d n (drop 240 r) x
 
 -- ---- a run

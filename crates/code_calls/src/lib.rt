@@ -12,8 +12,7 @@ ghost use Rattle.calls.specs.Calls as calls;
 ghost use Rattle.code_calls.specs.Inner as inner;
 
 use device::{Answer, Reason, Refusal};
-use image::Decoded;
-use packed::{Packed, record};
+use packed::{Packed, record, setup};
 
 // ---- what is asked
 
@@ -156,7 +155,8 @@ fn attention_on(memory: &mut [u8], kept: &mut [u8], k: Packed) -> u64
     ensures { (h out : List ℕ) → inner.OnImage k inner.attends
         (calls.areas_of memory.old h out kept.old) result memory.new h out kept.new }
 {
-    let a = code_attention::attend(memory, &mut kept[record::SETUP..record::SIZE], k);
+    let setup = kept.last_chunk_mut::<{ setup::SIZE }>().unwrap();
+    let a = code_attention::attend(memory, setup, k);
     let after = a.packed;
     image::store(kept, after);
     answer_of(a.edge, None)
@@ -175,14 +175,8 @@ fn arrival_on(
     ensures { (out : List ℕ) → inner.OnImage k (inner.arrives frame.now verdict)
         (calls.areas_of memory.old holding.old out kept.old) result memory.new holding.new out kept.new }
 {
-    let a = code_chip::arrival(
-        memory,
-        holding,
-        &kept[record::SETUP..record::SIZE],
-        k,
-        frame,
-        verdict,
-    );
+    let setup = kept.last_chunk::<{ setup::SIZE }>().unwrap();
+    let a = code_chip::arrival(memory, holding, setup, k, frame, verdict);
     let after = a.packed;
     let reason = a.reason;
     image::store(kept, after);
@@ -212,15 +206,8 @@ fn turns_on(
     ensures { inner.OnImage k (inner.turns report budget counted)
         (calls.areas_of memory.old holding.now outgoing.old kept.old) result memory.new holding.now outgoing.new kept.new }
 {
-    let t = code_chip::run(
-        memory,
-        holding,
-        outgoing,
-        &mut kept[record::SETUP..record::SIZE],
-        k,
-        report,
-        budget,
-    );
+    let setup = kept.last_chunk_mut::<{ setup::SIZE }>().unwrap();
+    let t = code_chip::run(memory, holding, outgoing, setup, k, report, budget);
     let after = t.packed;
     image::store(kept, after);
     answer_told(t.told, t.taken, counted)
@@ -260,7 +247,7 @@ pub fn call(
     if let Err(r) = lengths {
         return refuse(r);
     }
-    let Decoded::Units(k) = image::decode(kept) else {
+    let Some(k) = image::decode(kept) else {
         return refuse(Refusal::Foreign);
     };
     match *asked {

@@ -3,12 +3,11 @@
 
 #![tactic(auto)]
 
-ghost use Rattle.std.specs.Prelude.{◌≡◌, length};
+ghost use Rattle.std.specs.Prelude.{◌≡◌};
 ghost use Rattle.scb.specs.Words as words;
 ghost use Rattle.scb.specs.declared.Events.{Events};
 ghost use Rattle.device.specs.declared.Units.{Units};
 ghost use Rattle.packed.specs.Packed as packs;
-ghost use Rattle.packed.specs.SetUp.{setup_size};
 ghost use Rattle.code_chip.specs.Does as does;
 
 use code_arrival::Arrived;
@@ -61,11 +60,10 @@ fn conclude(memory: &mut [u8], k: Packed, raised: u64, length: u16) -> Turned
 fn command_turn(
     memory: &mut [u8],
     outgoing: &mut [u8],
-    setup: &mut [u8],
+    setup: &mut [u8; setup::SIZE],
     k: Packed,
     report: u16,
 ) -> Turned
-    requires { length setup.old ≡ setup_size }
     ensures { does.CommandTurns k report memory.old outgoing.old setup.old
         result memory.new outgoing.new setup.new }
 {
@@ -74,11 +72,10 @@ fn command_turn(
         outgoing,
         setup,
         packed::base(k),
-        packed::cu_tag(k),
-        k.cu,
+        packed::cu_unit(k),
         report,
     );
-    let after = packed::after_cu(k, c.tag, c.word, c.raised);
+    let after = packed::after_cu(k, c.unit, c.raised);
     conclude(memory, after, c.raised, c.length)
 }
 
@@ -91,11 +88,9 @@ fn receive_turn(memory: &mut [u8], holding: &[u8], k: Packed) -> Turned
         holding,
         packed::base(k),
         packed::scb(k),
-        packed::ru_tag(k),
-        k.ru,
-        k.rest,
+        packed::ru_unit(k),
     );
-    let after = packed::after_ru(k, s.tag, s.word, s.rest, s.raised);
+    let after = packed::after_ru(k, s.unit, s.raised);
     conclude(memory, after, s.raised, 0)
 }
 
@@ -117,11 +112,10 @@ pub fn turn(
     memory: &mut [u8],
     holding: &[u8],
     outgoing: &mut [u8],
-    setup: &mut [u8],
+    setup: &mut [u8; setup::SIZE],
     k: Packed,
     report: u16,
 ) -> Turned
-    requires { length setup.old ≡ setup_size }
     ensures { does.TurnTakes k report memory.old holding.now outgoing.old setup.old
         result memory.new outgoing.new setup.new }
 {
@@ -145,12 +139,11 @@ pub fn run(
     memory: &mut [u8],
     holding: &[u8],
     outgoing: &mut [u8],
-    setup: &mut [u8],
+    setup: &mut [u8; setup::SIZE],
     k: Packed,
     report: u16,
     budget: u16,
 ) -> Turns
-    requires { length setup.old ≡ setup_size }
     ensures { does.RunTakes k report budget memory.old holding.now outgoing.old setup.old
         result memory.new outgoing.new setup.new }
 {
@@ -179,12 +172,11 @@ pub fn run(
 pub fn arrival(
     memory: &mut [u8],
     holding: &mut [u8],
-    setup: &[u8],
+    setup: &[u8; setup::SIZE],
     k: Packed,
     frame: &[u8],
     verdict: u32,
 ) -> Arrived
-    requires { length setup.now ≡ setup_size }
     ensures { does.ArrivalTakes k frame.now verdict memory.old holding.old setup.now
         result memory.new holding.new }
 {

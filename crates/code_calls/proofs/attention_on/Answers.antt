@@ -15,7 +15,8 @@ returns c h out u f =
     let r = c.args.kept.now in
     let fits : (i : ℕ) → Fits w8 (get_or r i 0) = search rules in
     let b : Bytes r = record { each = λ i. omega (arith, fits i) } in
-    let e = lent_device r c.args.k u c.requires b f in
+    let lent = rw c.unwrap-setup.ensures at c.last_chunk_mut.ensures.cases in
+    let e = lent_device r c.args.k u c.requires b f _ lent.1.same in
     let a = c.attend-a.ensures (device_at r u) e.units e.setup in
     record {
       answer =

@@ -27,22 +27,22 @@ pub returns-in-Attention : goal.returns-in-Attention
 returns-in-Attention c =
     let a = areas_of c.args.memory.now c.args.holding.now c.args.outgoing.now c.args.kept.now in
     let n = sym c.right_lengths-lengths.ensures ∙ ap result_err c.in_default.is in
-    let f = found_units (decode_of a.kept) _ (sym c.in-Units.ensures) in
-    let e : Finds a.kept c.in-Units.k f.units = record { found = f.found; numbers = f.numbers } in
+    let f = found_units (decode_of a.kept) _ (sym c.in-Some.ensures) in
+    let e : Finds a.kept c.in-Some.k f.units = record { found = f.found; numbers = f.numbers } in
     as_said (asked_accepted c.args.asked.now a n f.units f.found) (rw c.in-Attention.is (c.attention_on.ensures _ _ f.units e))
 
 pub returns-in-Arrival : goal.returns-in-Arrival
 returns-in-Arrival c =
     let a = areas_of c.args.memory.now c.args.holding.now c.args.outgoing.now c.args.kept.now in
     let n = sym c.right_lengths-lengths.ensures ∙ ap result_err c.in_default.is in
-    let f = found_units (decode_of a.kept) _ (sym c.in-Units.ensures) in
-    let e : Finds a.kept c.in-Units.k f.units = record { found = f.found; numbers = f.numbers } in
+    let f = found_units (decode_of a.kept) _ (sym c.in-Some.ensures) in
+    let e : Finds a.kept c.in-Some.k f.units = record { found = f.found; numbers = f.numbers } in
     as_said (asked_accepted c.args.asked.now a n f.units f.found) (rw c.in-Arrival.is (c.arrival_on.ensures _ f.units e))
 
 pub returns-in-Turns : goal.returns-in-Turns
 returns-in-Turns c =
     let a = areas_of c.args.memory.now c.args.holding.now c.args.outgoing.now c.args.kept.now in
     let n = sym c.right_lengths-lengths.ensures ∙ ap result_err c.in_default.is in
-    let f = found_units (decode_of a.kept) _ (sym c.in-Units.ensures) in
-    let e : Finds a.kept c.in-Units.k f.units = record { found = f.found; numbers = f.numbers } in
+    let f = found_units (decode_of a.kept) _ (sym c.in-Some.ensures) in
+    let e : Finds a.kept c.in-Some.k f.units = record { found = f.found; numbers = f.numbers } in
     as_said (asked_accepted c.args.asked.now a n f.units f.found) (rw c.in-Turns.is (c.turns_on.ensures f.units e))

@@ -12,7 +12,8 @@ returns c u f =
     let w = world_of (device_at r u) c.args.memory.now c.args.holding.now c.args.outgoing.now in
     let fits : (i : ℕ) → Fits w8 (get_or r i 0) = search rules in
     let b : Bytes r = record { each = λ i. omega (arith, fits i) } in
-    let e = lent_device r c.args.k u c.requires b f in
+    let lent = rw c.unwrap-setup.ensures at c.last_chunk_mut.ensures.cases in
+    let e = lent_device r c.args.k u c.requires b f _ lent.1.same in
     let t = c.run-t.ensures (device_at r u) e in
     record {
       answer = c.answer_told.ensures ∙ run_answer c.args.budget w c.args.report c.args.counted _ _ t.told t.taken;
