@@ -26,20 +26,19 @@ pub holding_kept : (w : World) (report : ℕ) → (turn_of w report).holding ≡
 unfolding turn_of
 holding_kept w report = holding_by (served_of w.device.units) w report
 
--- so many turns are taken, the last of them had nothing to tell, and the rest of the run is that of the device here
-pub record Going (total : Run) (report budget taken told : ℕ) (k : Packed) (m h out set : List ℕ) : Type 0 where
+-- so many turns are taken, of which none ends the run, and the rest of the run is that of the device here
+pub record Going (total : Run) (report budget taken : ℕ) (k : Packed) (m h out set : List ℕ) : Type 0 where
   pub here : Device
-  pub nothing : told ≡ 0
   pub numbers : DeviceIs here k set
   pub rest : run_from taken (budget - taken) (world_of here m h out) report ≡ total
 
 pub going_start : (d : Device) (report budget : ℕ) (k : Packed) (m h out set : List ℕ) → DeviceIs d k set
-    → Going (run_of budget (world_of d m h out) report) report budget 0 0 k m h out set
+    → Going (run_of budget (world_of d m h out) report) report budget 0 k m h out set
 going_start d report budget k m h out set e =
     let n : budget - 0 ≡ budget = omega arith in
-    record { here = d; nothing = refl; numbers = e; rest = rw n (from_start budget (world_of d m h out) report) }
+    record { here = d; numbers = e; rest = rw n (from_start budget (world_of d m h out) report) }
 
-module _ (total : Run) (report budget taken told : ℕ) (k : Packed) (m h out set : List ℕ) (g : Going total report budget taken told k m h out set) where
+module _ (total : Run) (report budget taken : ℕ) (k : Packed) (m h out set : List ℕ) (g : Going total report budget taken k m h out set) where
   abbrev pub world : World
   world = world_of g.here m h out
 
@@ -47,19 +46,19 @@ module _ (total : Run) (report budget taken told : ℕ) (k : Packed) (m h out se
     left : afterwards (turn_of world report) ≡ world_of (turn_of world report).outcome.device m1 h out1
     left = rw (s.memory, s.outgoing, holding_kept world report)
 
-    pub going_on : t.stops ≡ false → Going total report budget (taken + 1) t.told t.packed m1 h out1 set1
+    pub going_on : t.stops ≡ false → Going total report budget (taken + 1) t.packed m1 h out1 set1
     going_on e =
         let n : budget - (taken + 1) ≡ budget - taken - 1 = omega arith in
         let z = from_goes taken (budget - taken) world report (omega arith) (sym s.stops ∙ e) in
-        record { here = (turn_of world report).outcome.device; nothing = s.nothing e; numbers = s.device; rest = rw (← left, n) (sym z ∙ g.rest) }
+        record { here = (turn_of world report).outcome.device; numbers = s.device; rest = rw (← left, n) (sym z ∙ g.rest) }
 
     pub going_stops : t.stops ≡ true → Runs total (record { packed = t.packed; told = t.told; taken = taken + 1 }) m1 out1 set1
     going_stops e =
         let z = sym (from_stops taken (budget - taken) world report (omega arith) (sym s.stops ∙ e)) ∙ g.rest in
         rw (← z) (record { device = s.device; told = s.told; taken = refl; memory = s.memory; outgoing = s.outgoing })
 
-  pub going_none : taken ≤ budget → budget ≤ taken → Runs total (record { packed = k; told = told; taken = taken }) m out set
+  pub going_none : taken ≤ budget → budget ≤ taken → Runs total (record { packed = k; told = 0; taken = budget }) m out set
   going_none a b =
       let n : budget - taken ≡ 0 = omega arith in
       let z = rw n at g.rest in
-      rw (← (sym (from_none taken world report) ∙ z)) (record { device = g.numbers; told = g.nothing; taken = refl; memory = refl; outgoing = refl })
+      rw (← (sym (from_none taken world report) ∙ z)) (record { device = g.numbers; told = refl; taken = omega arith; memory = refl; outgoing = refl })

@@ -148,22 +148,20 @@ pub fn run(
         result memory.new outgoing.new setup.new }
 {
     let mut state = k;
-    let mut told: u32 = 0;
     for taken in 0..budget {
         let t = turn(memory, holding, outgoing, setup, state, report);
-        told = t.told;
-        state = t.packed;
         if t.stops {
             return Turns {
-                packed: state,
-                told,
+                packed: t.packed,
+                told: t.told,
                 taken: taken + 1,
             };
         }
+        state = t.packed;
     }
     Turns {
         packed: state,
-        told,
+        told: 0,
         taken: budget,
     }
 }

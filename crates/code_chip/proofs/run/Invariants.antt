@@ -1,4 +1,4 @@
--- The loop of `code_chip::run`: the rest of the run begins here.
+-- The loop of `code_chip::run`: so many turns are taken, and the rest of the run begins here.
 use Rattle.device.specs.declared.Device.{Device}
 use Rattle.chip.specs.World.{world_of}
 use Rattle.chip.specs.Run.{run_of}
@@ -9,4 +9,4 @@ use Rattle.code_chip.proofs.run.Given as goal
 abbrev pub invariant-loop-taken : goal.invariant-loop-taken
 invariant-loop-taken l =
     (d : Device) → DeviceIs d l.fn.k l.fn.setup
-    → Going (run_of l.budget (world_of d l.fn.memory l.holding l.fn.outgoing) l.report) l.report l.budget l.taken l.told l.state l.memory l.holding l.outgoing l.setup
+    → Going (run_of l.budget (world_of d l.fn.memory l.holding l.fn.outgoing) l.report) l.report l.budget l.taken l.state l.memory l.holding l.outgoing l.setup
