@@ -57,12 +57,10 @@ const REPORTS: u32 = 1 << 16;
 fn answer_number(a: Answer) -> u64
     ensures { result ≡ calls.answer_number a }
 {
-    let refusal = a.refusal;
-    let reason = a.reason;
-    refusal_or_0(refusal) as u64
+    refusal_or_0(a.refusal) as u64
         + a.length as u64 * LENGTH
         + one(a.edge) * EDGE
-        + reason_or_0(reason) as u64 * REASON
+        + reason_or_0(a.reason) as u64 * REASON
 }
 
 // The answer of a refused call: its number, length 0, no edge, no reason.
