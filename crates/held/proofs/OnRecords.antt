@@ -1,7 +1,7 @@
 -- Demand 3, second half, over the calls on byte areas: what holds of states holds of the records that the calls leave. That a call leaves a
 -- state in range is a premise of each statement here, `Closed`. Assumes nothing.
 use mathlib.Core.Path.{◌≡◌, refl, sym, ap, ◌∙◌}
-use mathlib.Core.Bool.{Bool, true, false, not, cond, ◌&&◌, true≢false, false≢true}
+use mathlib.Core.Bool.{Bool, true, false, not, ◌&&◌, true≢false, false≢true}
 use mathlib.Core.List.{List, [], ◌∷◌, ◌++◌}
 use Prim.Native.Nat.{ℕ, ◌≤◌, ◌<◌}
 use native.Mathlib.Omega.{arith}
@@ -28,7 +28,7 @@ use Rattle.chip.specs.World.{World, Ran}
 use Rattle.chip.specs.Arrival.{arrival_of}
 use Rattle.chip.specs.Call.{Call, reset, attention, arrive, turn, ran}
 use Rattle.chip.specs.Turn.{turn_of}
-use Rattle.calls.specs.Calls.{Areas, Called, is_image, refusal_of, refused, on_bytes, called_on, called_by, arrival_call, turn_call}
+use Rattle.calls.specs.Calls.{Areas, Called, is_image, refusal_of, on_bytes, called_on, called_by, arrival_call, turn_call}
 use Rattle.calls.proofs.Laws.{says_refused}
 use Rattle.progress.specs.Trace.{run, turns}
 use Rattle.progress.specs.Holder.{Holder, Went, ended, goes, Stays, Ends}
