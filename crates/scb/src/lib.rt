@@ -3,7 +3,7 @@
 
 #![tactic(auto)]
 
-ghost use Rattle.std.specs.Prelude.{◌≡◌, ◌<◌};
+ghost use Rattle.std.specs.Prelude.{◌≡◌, ◌<◌, [], get_or};
 ghost use Rattle.scb.specs.Words as words;
 ghost use Rattle.scb.specs.Control as control;
 ghost use Rattle.scb.specs.Numbers as numbers;
@@ -46,6 +46,7 @@ const RUC: u16 = 4;
 const CODE_BITS: u16 = 3;
 
 // Shift and mask: the `bits` bits of a word from bit `at` on.
+#[tactic(auto, using(crate::proofs::Fields::mask_room, crate::proofs::Fields::bits_law))]
 fn cut(w: u16, at: u16, bits: u16) -> u16
     requires { (at < 16) × (bits < 16) }
     ensures { result ≡ words.bits_at w at bits }
@@ -54,6 +55,7 @@ fn cut(w: u16, at: u16, bits: u16) -> u16
 }
 
 // The bits of a word from bit `at` on, `bits` of them. What of it lies past bit 15 is zero.
+#[tactic(auto, using(crate::proofs::Fields::bits_outside, crate::proofs::Fields::bits_wide))]
 pub fn bits_at(w: u16, at: u16, bits: u16) -> u16
     ensures { result ≡ words.bits_at w at bits }
 {
@@ -94,90 +96,76 @@ pub fn resets(w: u16) -> bool
     is_set(w, RESET)
 }
 
-// ---- the control tables: for each control code, 0 to 7, a row with the state that it leads a unit to from each of its states.
-// A row is a byte, two bits to a state: a table of eight bytes is one constant to the machine, a larger one would be laid out anew at each use.
+// ---- the control tables: for each control code, 0 to 7, a row with the state that it leads a unit to from each of its states
 
-// How wide an entry is, and the mask of one.
-const ENTRY_BITS: u8 = 2;
+const CODES: usize = 8;
 
-const ENTRY: u8 = 3;
+const STATES: usize = 4;
 
 // The states' numbers: the command unit's as CUS has them, the receive unit's by their columns.
-pub const IDLE: u8 = 0;
+pub const IDLE: u8 = CuState::Idle as u8;
 
-pub const SUSPENDED: u8 = 1;
+pub const SUSPENDED: u8 = CuState::Suspended as u8;
 
-pub const ACTIVE: u8 = 2;
+pub const ACTIVE: u8 = CuState::Active as u8;
 
-pub const NO_RESOURCES: u8 = 2;
+pub const NO_RESOURCES: u8 = RuState::NoResources as u8;
 
-pub const READY: u8 = 3;
+pub const READY: u8 = RuState::Ready as u8;
 
-// Where in a row stands what a code does from a state; from Idle it stands lowest.
-const FROM_SUSPENDED: u8 = ENTRY_BITS * SUSPENDED;
+// The command unit has three: a fourth number is none's, and stays.
+const NO_STATE: u8 = 3;
 
-const FROM_ACTIVE: u8 = ENTRY_BITS * ACTIVE;
+// The command unit, from Idle, Suspended, Active, and the number that is no state's. Every code but four does nothing.
+const CU_STAYS: [u8; STATES] = [IDLE, SUSPENDED, ACTIVE, NO_STATE];
 
-const FROM_NO_RESOURCES: u8 = ENTRY_BITS * NO_RESOURCES;
-
-const FROM_READY: u8 = ENTRY_BITS * READY;
-
-// The command unit. 1 START: Idle, Suspended to Active.
-const CU_START: u8 = ACTIVE | ACTIVE << FROM_SUSPENDED | ACTIVE << FROM_ACTIVE;
-
-// 2 RESUME: Suspended to Active.
-const CU_RESUME: u8 = IDLE | ACTIVE << FROM_SUSPENDED | ACTIVE << FROM_ACTIVE;
-
-// 3 SUSPEND: Active to Suspended, at the end of a begun command, else at once: the room code_control.
-const CU_SUSPEND: u8 = IDLE | SUSPENDED << FROM_SUSPENDED | SUSPENDED << FROM_ACTIVE;
-
-// 4 ABORT: any to Idle.
-const CU_ABORT: u8 = IDLE | IDLE << FROM_SUSPENDED | IDLE << FROM_ACTIVE;
-
-// Every other code does nothing.
-const CU_STAYS: u8 = IDLE | SUSPENDED << FROM_SUSPENDED | ACTIVE << FROM_ACTIVE;
-
-const CU_NEXT: [u8; 8] = [
-    CU_STAYS, CU_START, CU_RESUME, CU_SUSPEND, CU_ABORT, CU_STAYS, CU_STAYS, CU_STAYS,
+static CU_NEXT: [[u8; STATES]; CODES] = [
+    CU_STAYS,
+    // 1 START: Idle, Suspended to Active.
+    [ACTIVE, ACTIVE, ACTIVE, NO_STATE],
+    // 2 RESUME: Suspended to Active.
+    [IDLE, ACTIVE, ACTIVE, NO_STATE],
+    // 3 SUSPEND: Active to Suspended, at the end of a begun command, else at once: the room code_control.
+    [IDLE, SUSPENDED, SUSPENDED, NO_STATE],
+    // 4 ABORT: any to Idle.
+    [IDLE, IDLE, IDLE, NO_STATE],
+    CU_STAYS,
+    CU_STAYS,
+    CU_STAYS,
 ];
 
-// The receive unit. 1 START: Idle, Suspended, No Resources to Ready.
-const RU_START: u8 = READY
-    | READY << FROM_SUSPENDED
-    | READY << FROM_NO_RESOURCES
-    | READY << FROM_READY;
+// The receive unit, from Idle, Suspended, No Resources, Ready.
+const RU_STAYS: [u8; STATES] = [IDLE, SUSPENDED, NO_RESOURCES, READY];
 
-// 2 RESUME: Suspended to Ready.
-const RU_RESUME: u8 = IDLE
-    | READY << FROM_SUSPENDED
-    | NO_RESOURCES << FROM_NO_RESOURCES
-    | READY << FROM_READY;
-
-// 3 SUSPEND: Ready to Suspended, at the end of a held frame, else at once: the room code_control.
-const RU_SUSPEND: u8 = IDLE
-    | SUSPENDED << FROM_SUSPENDED
-    | NO_RESOURCES << FROM_NO_RESOURCES
-    | SUSPENDED << FROM_READY;
-
-// 4 ABORT: any to Idle.
-const RU_ABORT: u8 = IDLE | IDLE << FROM_SUSPENDED | IDLE << FROM_NO_RESOURCES | IDLE << FROM_READY;
-
-// Every other code does nothing.
-const RU_STAYS: u8 = IDLE
-    | SUSPENDED << FROM_SUSPENDED
-    | NO_RESOURCES << FROM_NO_RESOURCES
-    | READY << FROM_READY;
-
-const RU_NEXT: [u8; 8] = [
-    RU_STAYS, RU_START, RU_RESUME, RU_SUSPEND, RU_ABORT, RU_STAYS, RU_STAYS, RU_STAYS,
+static RU_NEXT: [[u8; STATES]; CODES] = [
+    RU_STAYS,
+    // 1 START: Idle, Suspended, No Resources to Ready.
+    [READY, READY, READY, READY],
+    // 2 RESUME: Suspended to Ready.
+    [IDLE, READY, NO_RESOURCES, READY],
+    // 3 SUSPEND: Ready to Suspended, at the end of a held frame, else at once: the room code_control.
+    [IDLE, SUSPENDED, NO_RESOURCES, SUSPENDED],
+    // 4 ABORT: any to Idle.
+    [IDLE, IDLE, IDLE, IDLE],
+    RU_STAYS,
+    RU_STAYS,
+    RU_STAYS,
 ];
+
+// The entry of a table at a control code and a state's number.
+fn goes(table: &[[u8; STATES]; CODES], code: u16, s: u8) -> u8
+    requires { (code < 8) × (s < 4) }
+    ensures { result ≡ get_or (get_or table.now code []) s 0 }
+{
+    table[code as usize][s as usize]
+}
 
 // The number of the state that a command takes the command unit to from the state numbered `s`, as CUS has them.
 pub fn cu_goes(command: u16, s: u8) -> u8
     requires { s < 4 }
     ensures { (x : CuState) → s ≡ words.cu_number x → result ≡ words.cu_number (control.cu_next (control.code_of (words.cuc command)) x) }
 {
-    (CU_NEXT[cu_control(command) as usize] >> (ENTRY_BITS * s)) & ENTRY
+    goes(&CU_NEXT, cu_control(command), s)
 }
 
 // The column of the state that a command takes the receive unit to from the state of column `s`.
@@ -185,5 +173,5 @@ pub fn ru_goes(command: u16, s: u8) -> u8
     requires { s < 4 }
     ensures { (x : RuState) → s ≡ numbers.ru_column x → result ≡ numbers.ru_column (control.ru_next (control.code_of (words.ruc command)) x) }
 {
-    (RU_NEXT[ru_control(command) as usize] >> (ENTRY_BITS * s)) & ENTRY
+    goes(&RU_NEXT, ru_control(command), s)
 }
