@@ -27,9 +27,13 @@ use Rattle.code_command.specs.Serves.{part_by, Serves}
 abbrev pub walk : Offset → ℕ → ℕ → Walk
 walk next used filled = record { next = next; used = used; filled = filled }
 
--- a service that raises nothing and sends nothing
+-- a service by its unit's tag and word, what it raises and what it sends
+abbrev pub served : (tag word raised length : ℕ) → Commanded
+served tag word raised length = record { unit = record { tag = tag; word = word }; raised = raised; length = length }
+
+-- one that raises nothing and sends nothing
 abbrev pub quiet : ℕ → ℕ → Commanded
-quiet tag word = record { unit = record { tag = tag; word = word }; raised = 0; length = 0 }
+quiet tag word = served tag word 0 0
 
 pub record Quiet (c : Cu) (r : Commanded) : Type 0 where
   pub unit : CuUnitIs c r.unit

@@ -78,15 +78,22 @@ const CX: u64 = 8;
 
 const CNA: u64 = 2;
 
-// A service that raises nothing and sends nothing.
-fn quiet(tag: u64, word: u64) -> Commanded
-    ensures { result ≡ inner.quiet tag word }
+// A service that leaves the unit so, raises so much and sends so much.
+fn served(tag: u64, word: u64, raised: u64, length: u16) -> Commanded
+    ensures { result ≡ inner.served tag word raised length }
 {
     Commanded {
         unit: cu::Unit { tag, word },
-        raised: 0,
-        length: 0,
+        raised,
+        length,
     }
+}
+
+// One that raises nothing and sends nothing.
+fn quiet(tag: u64, word: u64) -> Commanded
+    ensures { result ≡ inner.quiet tag word }
+{
+    served(tag, word, 0, 0)
 }
 
 // ---- begin
@@ -263,33 +270,12 @@ fn after_end(b: u64, link: Offset, length: u16) -> Commanded
 {
     let cx = cu::interrupt(b) * CX;
     if cu::el(b) {
-        return Commanded {
-            unit: cu::Unit {
-                tag: cu::IDLE,
-                word: 0,
-            },
-            raised: cx + CNA,
-            length,
-        };
+        return served(cu::IDLE, 0, cx + CNA, length);
     }
     if cu::suspend(b) | cu::pausing(b) {
-        return Commanded {
-            unit: cu::Unit {
-                tag: cu::SUSPENDED,
-                word: packed::plain(link),
-            },
-            raised: cx + CNA,
-            length,
-        };
+        return served(cu::SUSPENDED, packed::plain(link), cx + CNA, length);
     }
-    Commanded {
-        unit: cu::Unit {
-            tag: cu::WAITING,
-            word: packed::plain(link),
-        },
-        raised: cx,
-        length,
-    }
+    served(cu::WAITING, packed::plain(link), cx, length)
 }
 
 // The end of a command after its action: the status is written, then the link read.

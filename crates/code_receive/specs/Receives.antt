@@ -48,9 +48,13 @@ pub record Serves (said : Service) (before : List ℕ) (r : Received) (m : List 
   pub raised : r.raised ≡ event_bits said.raised
   pub memory : m ≡ apply said.writes before
 
--- a service that raises nothing
+-- a service by its unit's tag and words, and what it raises
+abbrev pub served : (tag word rest raised : ℕ) → Received
+served tag word rest raised = record { unit = record { tag = tag; word = word; rest = rest }; raised = raised }
+
+-- one that raises nothing
 abbrev pub quiet : (tag word rest : ℕ) → Received
-quiet tag word rest = record { unit = record { tag = tag; word = word; rest = rest }; raised = 0 }
+quiet tag word rest = served tag word rest 0
 
 -- ---- the shapes of the inner functions' contracts, by the unit's word: a number that is a held frame's, or one's that is being filled
 

@@ -33,14 +33,21 @@ pub struct Received {
     pub raised: u64,
 }
 
-// A service that raises nothing.
-fn quiet(tag: u64, word: u64, rest: u64) -> Received
-    ensures { result ≡ receives.quiet tag word rest }
+// A service that leaves the unit so, and raises so much.
+fn served(tag: u64, word: u64, rest: u64, raised: u64) -> Received
+    ensures { result ≡ receives.served tag word rest raised }
 {
     Received {
         unit: ru::Unit { tag, word, rest },
-        raised: 0,
+        raised,
     }
+}
+
+// One that raises nothing.
+fn quiet(tag: u64, word: u64, rest: u64) -> Received
+    ensures { result ≡ receives.quiet tag word rest }
+{
+    served(tag, word, rest, 0)
 }
 
 // The events FR and RNR.
@@ -314,36 +321,15 @@ fn goes_on(memory: &mut [u8], base: RealAddress, n: u64, exhausted: bool, stored
 {
     let fr = FR * u64::from(stored);
     if exhausted {
-        return Received {
-            unit: ru::Unit {
-                tag: ru::NO_RESOURCES,
-                word: 0,
-                rest: 0,
-            },
-            raised: fr + RNR,
-        };
+        return served(ru::NO_RESOURCES, 0, 0, fr + RNR);
     }
     let link = memory::offset_at(memory, memory::place(base, packed::at_of(n), LINK));
     let free = packed::next_of(n);
     memory::put_word(memory, memory::place(base, link, FIRST), free.0);
     if ru::suspend(n) | ru::pausing(n) {
-        return Received {
-            unit: ru::Unit {
-                tag: ru::SUSPENDED,
-                word: packed::plain(link),
-                rest: 0,
-            },
-            raised: fr + RNR,
-        };
+        return served(ru::SUSPENDED, packed::plain(link), 0, fr + RNR);
     }
-    Received {
-        unit: ru::Unit {
-            tag: ru::READY,
-            word: packed::plain(link),
-            rest: 0,
-        },
-        raised: fr,
-    }
+    served(ru::READY, packed::plain(link), 0, fr)
 }
 
 // End: all is stored, or buffers were lacking. That, descriptor EL, or EL on the last buffer used, gives No Resources.
