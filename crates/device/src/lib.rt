@@ -163,8 +163,7 @@ pub enum Reason {
     Bad,
 }
 
-// An answer: why the call is refused, if it is, the length sent, whether an interrupt edge is reported, and why an arriving frame was dropped, if it
-// was.
+// An answer: why the call is refused, if so, the length sent, whether an interrupt edge is reported, and why an arriving frame was dropped, if so.
 #[derive(Clone, Copy)]
 pub struct Answer {
     pub refusal: Option<Refusal>,
@@ -202,6 +201,7 @@ pub enum Fate {
 
 // ---- the paper's numbers
 
+// A refusal's number in an answer, and a reason's.
 impl From<Refusal> for u16 {
     ghost from_gives = { λ r n. n ≡ numbers.refusal_number r };
 

@@ -115,10 +115,7 @@ pub record IsHeld (w : World) (f : List ℕ) (fd : Offset) (judged : Frame) (c :
 -- a bad frame without a counter is short
 abbrev pub short_by : Option Counter → Bool
 short_by None = true
-short_by (Some counter.Crc) = false
-short_by (Some counter.Alignment) = false
-short_by (Some counter.Resources) = false
-short_by (Some counter.Overruns) = false
+short_by (Some c) = false
 
 -- how a frame is judged: once, by the settings at arrival
 abbrev pub judged_as : World → List ℕ → Verdict → Bool → Frame
