@@ -1,9 +1,8 @@
 -- What is lent of memory, however long it is; what a board shows of a device; and that before the first reset no call is accepted, but for
 -- reset: `attention_4` and its like. Assumes nothing.
 use mathlib.Core.Path.{◌≡◌, refl, sym, ap, subst, ◌∙◌}
-use mathlib.Core.List.{List, [], ◌∷◌, ◌++◌}
-use Prim.Native.Nat.{ℕ, zero, suc, ◌≤◌, min}
-use native.Mathlib.Omega.{arith}
+use mathlib.Core.List.{List, [], ◌++◌}
+use Prim.Native.Nat.{ℕ, min}
 use lib.ListN.{length, take, drop, take-append-drop}
 use Rattle.std.proofs.lemmas.List.{take_min, drop_min}
 use Rattle.scb.specs.Words.{any_of}

@@ -10,7 +10,7 @@ ghost use Rattle.scene.specs.Scene.{Plays, Writes};
 ghost use Rattle.scene.specs.Scene as scene;
 
 use board::{Areas, Asked, Board};
-use texts::{Page, Item};
+use texts::{Item, Page};
 use wording::{Area, Line, Verb};
 
 // The board, the areas that its calls are lent, and the page.
