@@ -96,10 +96,9 @@ const EILSEQ: i32 = 84;
 // The name of the list, where the program is given one.
 fn list_name<'a>(rt: &impl Env, name: &'a mut [u8]) -> io::Result<Option<&'a str>> {
     match rt.arg(1, name) {
-        Ok(length) => match str::from_utf8(&name[..length]) {
-            Ok(path) => Ok(Some(path)),
-            Err(_) => Err(io::Error::from_raw_os_error(EILSEQ)),
-        },
+        Ok(length) => str::from_utf8(&name[..length])
+            .map(Some)
+            .map_err(|_| io::Error::from_raw_os_error(EILSEQ)),
         Err(FillError::NotPresent) => Ok(None),
         Err(FillError::TooLong) => Err(io::Error::from_raw_os_error(ENAMETOOLONG)),
     }

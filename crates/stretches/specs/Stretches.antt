@@ -1,7 +1,6 @@
 -- What a stretch of the input is. Assumes nothing.
 use Rattle.std.specs.Prelude.{◌≡◌, ◌<◌, ◌≤◌, ◌++◌, List, [], ℕ, length, Option, None, Some, MatchOption}
 use Rattle.std.specs.Borrow.{Bor}
-use Rattle.std.specs.Iterator.{Count, at_most}
 use Rattle.stretches.specs.declared.Stretches.{Stretches}
 use Rattle.printing.specs.Run.{newlines}
 
@@ -10,10 +9,6 @@ abbrev pub CutsStretch : Stretches → Option (Bor (List ℕ)) → Stretches →
 CutsStretch s r t =
     MatchOption r ((length s.0.now ≡ 0) × (t ≡ s))
     (λ x. (s.0.now ≡ x.now ++ t.0.now) × (0 < length x.now) × (newlines x.now ≤ 1))
-
--- so there are no more of them than characters
-abbrev pub what_is_left : Stretches → Count
-what_is_left s = at_most (length s.0.now)
 
 -- the bytes of a piece; behind the last there are none
 abbrev pub piece_bytes : Option (Bor (List ℕ)) → List ℕ

@@ -4,12 +4,13 @@
 
 #![tactic(auto)]
 
-ghost use Rattle.std.specs.Prelude.{◌⊎◌, ◌≡◌, true, false, take, OnOk, IfOk};
-ghost use Rattle.std.specs.Io.KnownBytes.{Appends, Consumes};
+ghost use Rattle.std.specs.Prelude.{◌⊎◌, ◌≡◌, ◌<◌, true, false, length, take, OnOk, IfOk, IsNone};
+ghost use Rattle.std.specs.Iterator.{item_count};
+ghost use Rattle.std.specs.Io.KnownBytes.{Appends, Consumes, IsAtEnd};
 ghost use Rattle.session.specs.Run.{halted};
 ghost use Rattle.printing.specs.Streams.{stream_of};
 ghost use Rattle.stretches.specs.Streams.{stream_said};
-ghost use Rattle.stretches.specs.Stretches.{CutsStretch, what_is_left, piece_bytes};
+ghost use Rattle.stretches.specs.Stretches.{CutsStretch, piece_bytes};
 
 use session::Session;
 use std::alloc::Global;
@@ -25,7 +26,7 @@ impl<'a> Iterator for Stretches<'a> {
 
     ghost next_gives = { CutsStretch };
 
-    ghost remaining = { what_is_left };
+    ghost remaining = { item_count (λ s. s.0.now) };
 
     fn next(&mut self) -> Option<&'a [u8]> {
         let stretch = self.0.split_inclusive(|c| *c == b'\n').next()?;
@@ -36,7 +37,8 @@ impl<'a> Iterator for Stretches<'a> {
 
 // The next piece of input, or nothing at its end.
 pub fn read_piece<'a, R: Read>(list: &mut R, input: &'a mut [u8]) -> io::Result<Option<&'a [u8]>>
-    ensures { IfOk result (λ p. Consumes (R.remaining list.old) (R.remaining list.new) (piece_bytes p)) }
+    ensures bytes { IfOk result (λ p. Consumes (R.remaining list.old) (R.remaining list.new) (piece_bytes p)) }
+    ensures end { IfOk result (λ p. 0 < length input.old → IsNone p → IsAtEnd (R.remaining list.new)) }
 {
     match list.read(input)? {
         0 => Ok(None),
@@ -44,7 +46,7 @@ pub fn read_piece<'a, R: Read>(list: &mut R, input: &'a mut [u8]) -> io::Result<
     }
 }
 
-#[derive(Clone, Copy, PartialEq, Eq)]
+#[derive(Clone, Copy)]
 enum Stream {
     Output,
     Errors,
@@ -56,10 +58,9 @@ fn stream_for(s: Session) -> Stream
     ensures { stream_said result ≡ stream_of s }
 {
     if s.stopped {
-        Stream::Errors
-    } else {
-        Stream::Output
+        return Stream::Errors;
     }
+    Stream::Output
 }
 
 // Standard output and the error stream, and where the words of an error are made.
@@ -91,10 +92,10 @@ impl<O: Write, E: Write> Streams<O, E> {
         ensures on_output { stream ≡ Stream.Output → OnOk result (Appends (O.contents self.old.output) (O.contents self.new.output) text.now) }
         ensures not_on_errors { stream ≡ Stream.Output → self.new.errors ≡ self.old.errors }
     {
-        if stream == Stream::Errors {
-            return self.errors.write_all(text);
+        match stream {
+            Stream::Output => self.output.write_all(text),
+            Stream::Errors => self.errors.write_all(text),
         }
-        self.output.write_all(text)
     }
 
     // What a session has put is written out: while it goes on, to standard output alone; where it has stopped, nothing goes there. Where writing
