@@ -3,12 +3,12 @@ use Rattle.std.specs.Prelude.{◌≡◌, Bool, not, List, ◌++◌, ℕ, eqb, ge
 use Rattle.device.specs.Limits.{record_size}
 use Rattle.calls.specs.Calls as exported
 use Rattle.board.specs.declared.Record.{Record}
-use Rattle.board.specs.Front.{areas_with}
+use Rattle.board.specs.declared.Areas.{Areas}
+use Rattle.board.specs.declared.Returned.{Returned}
+use Rattle.board.specs.Front.{areas_with, Stays}
 use Rattle.board.specs.declared.Board.{Board}
-use Rattle.board.specs.declared.Said.{Said}
-use Rattle.board.specs.declared.Which.{Which}
-use Rattle.board.specs.declared.Which.TheVariants as which
 use Rattle.board.specs.declared.Asked.{Asked}
+use Rattle.board.specs.declared.Asked.TheVariants as asked
 
 -- ---- the board
 
@@ -34,18 +34,20 @@ pub data Call : Type 0 where
   turn : ℕ → Call
   run : (report budget : ℕ) → Call
 
--- the call that is asked for, with what belongs to it; f: the frame
-abbrev pub call_by : Which → List ℕ → ℕ → ℕ → ℕ → Call
-call_by which.Reset f verdict report budget = reset
-call_by which.Attention f verdict report budget = attention
-call_by which.Arrival f verdict report budget = arrive f verdict
-call_by which.Turn f verdict report budget = turn report
-call_by which.Run f verdict report budget = run report budget
-
+-- the call that is asked for; f: the frame
 unfoldable pub call_of : Asked → List ℕ → Call
-call_of a f = call_by a.which f a.verdict a.report a.budget
+call_of asked.Reset f = reset
+call_of asked.Attention f = attention
+call_of (asked.Arrival verdict) f = arrive f verdict
+call_of (asked.Turn report) f = turn report
+call_of (asked.Run report budget) f = run report budget
 
 -- ---- what a call leaves
+
+-- a board after a call, and the call's answer as one number
+pub record Said : Type 0 where
+  pub board : Board
+  pub answer : ℕ
 
 abbrev pub said_of : Board → Record → ℕ → Said
 said_of b d a = record { board = record { kept = d; size = b.size }; answer = a }
@@ -81,9 +83,9 @@ exported_of (run report budget) a = exported.run_call a report budget
 unfoldable pub on_board : Call → Board → List ℕ → List ℕ → List ℕ → Left
 on_board c b m h out = left_by b m (exported_of c (lent b m h out))
 
--- what the code that makes a call leaves
-pub record Leaves (left : Left) (s : Said) (m h out : List ℕ) : Type 0 where
-  pub said : s ≡ left.said
-  pub memory : m ≡ left.memory
-  pub holding : h ≡ left.holding
-  pub outgoing : out ≡ left.outgoing
+-- what the code that makes a call leaves: r is what it gives back, p and q are the areas before it and after it
+abbrev pub Leaves : Call → Board → Areas → Returned → Areas → Type 0
+Leaves c b p r q =
+    Stays p q
+    × (left_as (said_of b r.kept r.answer) q.memory.now q.holding.now q.outgoing.now
+    ≡ on_board c b p.memory.now p.holding.now p.outgoing.now)

@@ -3,7 +3,7 @@
 
 #![tactic(auto)]
 
-ghost use Rattle.std.specs.Prelude.{◌≡◌, min};
+ghost use Rattle.std.specs.Prelude.{◌≡◌};
 ghost use Rattle.board.specs.Board as board;
 
 // The device record has 256 bytes, of which one has the events. N at the start.
@@ -17,6 +17,14 @@ const START: usize = 1 << 16;
 #[derive(Clone, Copy)]
 pub struct Record {
     pub bytes: [u8; RECORD],
+}
+
+// The areas that a call is lent beside the record.
+#[derive(Drop)]
+pub struct Areas<'a> {
+    pub memory: &'a mut [u8],
+    pub holding: &'a mut [u8],
+    pub outgoing: &'a mut [u8],
 }
 
 // What a call gives back to a program that holds its record by value: the record, and the answer as one number.
@@ -33,32 +41,14 @@ pub struct Board {
     pub size: usize,
 }
 
-// A board after a call, and the call's answer as one number.
+// The call that is asked for, with its numbers; an arrival's frame goes beside it.
 #[derive(Clone, Copy)]
-pub struct Said {
-    pub board: Board,
-    pub answer: u64,
-}
-
-// The calls.
-#[derive(Clone, Copy)]
-pub enum Which {
+pub enum Asked {
     Reset,
     Attention,
-    Arrival,
-    Turn,
-    Run,
-}
-
-// The call that a line makes, how often it makes it, and the numbers that go with it: an arrival's verdict, the report of a turn or a run,
-// a run's budget.
-#[derive(Clone, Copy)]
-pub struct Asked {
-    pub which: Which,
-    pub times: u16,
-    pub verdict: u32,
-    pub report: u16,
-    pub budget: u16,
+    Arrival { verdict: u32 },
+    Turn { report: u16 },
+    Run { report: u16, budget: u16 },
 }
 
 // ---- the board
@@ -73,41 +63,9 @@ pub fn start() -> Board
     }
 }
 
-// Memory has n bytes from now on.
-pub fn resized(b: Board, n: usize) -> Board
-    ensures { result ≡ board.resized b n }
-{
-    Board { size: n, ..b }
-}
-
 // The interrupt is high while byte 5 of the record, which has the events, is not 0.
 pub fn interrupt(b: Board) -> bool
     ensures { result ≡ board.is_high b }
 {
-    let kept = b.kept;
-    let bytes = kept.bytes;
-    bytes[EVENTS] != 0
-}
-
-// ---- a call
-
-// How many bytes of memory are lent: N, or all of a shorter one.
-pub fn lent_length(size: usize, most: usize) -> usize
-    ensures { result ≡ min size most }
-{
-    if size < most {
-        return size;
-    }
-    most
-}
-
-// What a call leaves of the board, and its answer.
-pub fn answering(b: Board, l: Returned) -> Said
-    ensures { result ≡ board.said_of b l.kept l.answer }
-{
-    let kept = l.kept;
-    Said {
-        board: Board { kept, ..b },
-        answer: l.answer,
-    }
+    b.kept.bytes[EVENTS] != 0
 }

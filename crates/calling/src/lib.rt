@@ -1,18 +1,32 @@
-// A line that is right is obeyed: a call that it makes is made on the board, as often as the line says, and each answer is put into a slice;
+// A line that is right is obeyed: a call that it makes is made on the board, as often as the line says, and each answer is put on the page;
 // all else is the scene's. Memory, holding and outgoing area are lent whole; the first N bytes of memory go on to the front. It takes every
 // line, every board and slices of every length.
 
 #![tactic(auto)]
 
-ghost use Rattle.board.specs.Board.{call_of, exported_of};
-ghost use Rattle.board.specs.Front.{areas_with, Fronted};
-ghost use Rattle.scene.specs.Scene.{Plays, scene_of, called, calls_of, obeyed};
+ghost use Rattle.board.specs.Board.{call_of, exported_of, Leaves};
+ghost use Rattle.board.specs.Front.{Fronts, areas_with, Fronted};
+ghost use Rattle.scene.specs.Scene.{Plays, called, calls_of, obeyed};
 
-use board::{Asked, Record, Returned, Which};
-use scene::{Deed, Play};
-use wording::{Line, Verb};
+use board::{Areas, Asked, Board, Record, Returned};
+use scene::Scene;
+use wording::Line;
 
 // The call that is asked for, through the front; reset and run go by value.
+#[tactic(auto, unfolding(board::specs::Board::call_of, board::specs::Board::exported_of))]
+fn through(asked: Asked, kept: Record, areas: &mut Areas<'_>, frame: &[u8]) -> Returned
+    ensures { Fronts (exported_of (call_of asked frame.now)) kept areas.old result.kept result.answer areas.new }
+{
+    match asked {
+        Asked::Reset => front::reset(kept),
+        Asked::Attention => front::attend_through(kept, areas),
+        Asked::Arrival { verdict } => front::receive_through(kept, areas, frame, verdict),
+        Asked::Turn { report } => turning::turn_through(kept, areas, report),
+        Asked::Run { report, budget } => turning::run(kept, areas, report, budget),
+    }
+}
+
+// The call, on a part of memory: a part goes into the areas by way of a function, or what stands behind it is lost to the proof.
 fn lent(
     asked: Asked,
     kept: Record,
@@ -24,85 +38,56 @@ fn lent(
     ensures { Fronted (exported_of (call_of asked frame.now) (areas_with kept memory.old holding.old outgoing.old))
         result.kept result.answer memory.new holding.new outgoing.new }
 {
-    let which = asked.which;
-    match which {
-        Which::Reset => front::reset(kept),
-        Which::Attention => front::attend_through(kept, memory, holding, outgoing),
-        Which::Arrival => {
-            front::receive_through(kept, memory, holding, outgoing, frame, asked.verdict)
-        }
-        Which::Turn => turning::turn_through(kept, memory, holding, outgoing, asked.report),
-        Which::Run => turning::run(kept, memory, holding, outgoing, asked.report, asked.budget),
-    }
+    let mut areas = Areas {
+        memory,
+        holding,
+        outgoing,
+    };
+    through(asked, kept, &mut areas, frame)
 }
 
-// A call on the board, and its answer is printed; own: the bytes that the line brought.
-fn call(
-    asked: Asked,
-    p: Play,
-    memory: &mut [u8],
-    holding: &mut [u8],
-    outgoing: &mut [u8],
-    own: &[u8],
-    out: &mut [u8],
-) -> Play
-    ensures { Plays (called (call_of asked own.now) (scene_of p memory.old holding.old outgoing.old out.old))
-        result memory.new holding.new outgoing.new out.new }
+// A call on the board, of whose memory the first N bytes are lent, or all of a shorter one.
+fn on_board(asked: Asked, b: Board, areas: &mut Areas<'_>, frame: &[u8]) -> Returned
+    ensures { Leaves (call_of asked frame.now) b areas.old result areas.new }
 {
-    let b = p.board;
-    let n = board::lent_length(b.size, memory.len());
-    let kept = b.kept;
-    let l = lent(asked, kept, &mut memory[..n], holding, outgoing, own);
-    scene::tell(board::answering(b, l), out, p.at)
+    let n = b.size.min(areas.memory.len());
+    lent(
+        asked,
+        b.kept,
+        &mut areas.memory[..n],
+        areas.holding,
+        areas.outgoing,
+        frame,
+    )
+}
+
+// A call, and its answer is printed; own: the bytes that the line brought.
+fn call(scene: &mut Scene<'_>, asked: Asked, own: &[u8])
+    ensures { Plays (called (call_of asked own.now)) scene.old scene.new }
+{
+    let returned = on_board(asked, scene.board, &mut scene.areas, own);
+    scene.board.kept = returned.kept;
+    scene.page.put_answer(returned.answer);
 }
 
 // So many calls, each the same.
-fn calls(
-    asked: Asked,
-    p: Play,
-    memory: &mut [u8],
-    holding: &mut [u8],
-    outgoing: &mut [u8],
-    own: &[u8],
-    out: &mut [u8],
-) -> Play
-    ensures { Plays (calls_of asked.times (call_of asked own.now) (scene_of p memory.old holding.old outgoing.old out.old))
-        result memory.new holding.new outgoing.new out.new }
+fn calls(scene: &mut Scene<'_>, asked: Asked, times: u16, own: &[u8])
+    ensures { Plays (calls_of times (call_of asked own.now)) scene.old scene.new }
 {
-    let mut q = p;
-    let mut i: u16 = 0;
-    while i < asked.times {
-        q = call(asked, q, memory, holding, outgoing, own, out);
-        i += 1;
+    for i in 0..times {
+        call(scene, asked, own);
     }
-    q
 }
 
-// A line that is right is obeyed; own: the bytes or the text that it brought.
-pub fn obey(
-    verb: Verb,
-    line: Line,
-    p: Play,
-    memory: &mut [u8],
-    holding: &mut [u8],
-    outgoing: &mut [u8],
-    own: &[u8],
-    out: &mut [u8],
-) -> Play
-    ensures { Plays (obeyed verb line own.now (scene_of p memory.old holding.old outgoing.old out.old))
-        result memory.new holding.new outgoing.new out.new }
+// A line that is right is obeyed, if it has a verb; own: the bytes or the text that it brought.
+pub fn obey(scene: &mut Scene<'_>, line: Line, own: &[u8])
+    ensures { Plays (obeyed line.verb line own.now) scene.old scene.new }
 {
-    let deed = scene::deed_of(verb);
-    match deed {
-        Deed::Call(which) => calls(
-            scene::asked(which, line),
-            p,
-            memory,
-            holding,
-            outgoing,
-            own,
-            out,
-        ),
-        Deed::Host(part) => scene::host(part, verb, line, p, memory, holding, outgoing, own, out),
+    let Some(verb) = line.verb else {
+        return;
+    };
+    match scene::asked(verb, line) {
+        Some(asked) => calls(scene, asked, scene::times(verb, line), own),
+        None => scene.host(verb, line, own),
     }
 }

@@ -7,7 +7,7 @@
 ghost use Rattle.calls.specs.Calls as calls;
 ghost use Rattle.board.specs.Front as front;
 
-use board::{Record, Returned};
+use board::{Areas, Record, Returned};
 
 // ---- the core: the calls of C, on a record by value
 
@@ -24,12 +24,11 @@ pub fn reset(d: Record) -> Returned
 }
 
 // A channel attention to the device of a record.
-fn attention_on(d: Record, memory: &mut [u8], holding: &mut [u8], outgoing: &mut [u8]) -> Returned
-    ensures { front.Attends d memory.old holding.old outgoing.old result.kept result.answer
-        memory.new holding.new outgoing.new }
+fn attention_on(d: Record, areas: &mut Areas<'_>) -> Returned
+    ensures { front.Attends d areas.old result.kept result.answer areas.new }
 {
     let mut bytes = d.bytes;
-    let answer = lentoquist::lq_attention(memory, holding, outgoing, &mut bytes);
+    let answer = lentoquist::lq_attention(areas.memory, areas.holding, areas.outgoing, &mut bytes);
     Returned {
         kept: Record { bytes },
         answer,
@@ -37,19 +36,18 @@ fn attention_on(d: Record, memory: &mut [u8], holding: &mut [u8], outgoing: &mut
 }
 
 // A frame's arrival at the device of a record.
-fn arrival_on(
-    d: Record,
-    memory: &mut [u8],
-    holding: &mut [u8],
-    outgoing: &mut [u8],
-    frame: &[u8],
-    verdict: u32,
-) -> Returned
-    ensures { front.Receives d memory.old holding.old outgoing.old frame.now verdict result.kept result.answer
-        memory.new holding.new outgoing.new }
+fn arrival_on(d: Record, areas: &mut Areas<'_>, frame: &[u8], verdict: u32) -> Returned
+    ensures { front.Receives frame.now verdict d areas.old result.kept result.answer areas.new }
 {
     let mut bytes = d.bytes;
-    let answer = lentoquist::lq_arrival(memory, holding, outgoing, &mut bytes, frame, verdict);
+    let answer = lentoquist::lq_arrival(
+        areas.memory,
+        areas.holding,
+        areas.outgoing,
+        &mut bytes,
+        frame,
+        verdict,
+    );
     Returned {
         kept: Record { bytes },
         answer,
@@ -59,28 +57,19 @@ fn arrival_on(
 // ---- the record in place
 
 // A channel attention.
-pub fn attend(d: &mut Record, memory: &mut [u8], holding: &mut [u8], outgoing: &mut [u8]) -> u64
-    ensures { front.Attends d.old memory.old holding.old outgoing.old d.new result
-        memory.new holding.new outgoing.new }
+pub fn attend(d: &mut Record, areas: &mut Areas<'_>) -> u64
+    ensures { front.Attends d.old areas.old d.new result areas.new }
 {
-    let attended = attention_on(*d, memory, holding, outgoing);
+    let attended = attention_on(*d, areas);
     *d = attended.kept;
     attended.answer
 }
 
 // A frame arrives with the line side's verdict.
-pub fn receive(
-    d: &mut Record,
-    memory: &mut [u8],
-    holding: &mut [u8],
-    outgoing: &mut [u8],
-    frame: &[u8],
-    verdict: u32,
-) -> u64
-    ensures { front.Receives d.old memory.old holding.old outgoing.old frame.now verdict d.new result
-        memory.new holding.new outgoing.new }
+pub fn receive(d: &mut Record, areas: &mut Areas<'_>, frame: &[u8], verdict: u32) -> u64
+    ensures { front.Receives frame.now verdict d.old areas.old d.new result areas.new }
 {
-    let arrived = arrival_on(*d, memory, holding, outgoing, frame, verdict);
+    let arrived = arrival_on(*d, areas, frame, verdict);
     *d = arrived.kept;
     arrived.answer
 }
@@ -88,33 +77,19 @@ pub fn receive(
 // ---- the lenders: the same calls for a caller that holds the record by value, in a loop or not
 
 // A channel attention, through the front.
-pub fn attend_through(
-    kept: Record,
-    memory: &mut [u8],
-    holding: &mut [u8],
-    outgoing: &mut [u8],
-) -> Returned
-    ensures { front.Attends kept memory.old holding.old outgoing.old result.kept result.answer
-        memory.new holding.new outgoing.new }
+pub fn attend_through(kept: Record, areas: &mut Areas<'_>) -> Returned
+    ensures { front.Attends kept areas.old result.kept result.answer areas.new }
 {
     let mut d = kept;
-    let answer = attend(&mut d, memory, holding, outgoing);
+    let answer = attend(&mut d, areas);
     Returned { kept: d, answer }
 }
 
 // A frame's arrival, through the front.
-pub fn receive_through(
-    kept: Record,
-    memory: &mut [u8],
-    holding: &mut [u8],
-    outgoing: &mut [u8],
-    frame: &[u8],
-    verdict: u32,
-) -> Returned
-    ensures { front.Receives kept memory.old holding.old outgoing.old frame.now verdict result.kept result.answer
-        memory.new holding.new outgoing.new }
+pub fn receive_through(kept: Record, areas: &mut Areas<'_>, frame: &[u8], verdict: u32) -> Returned
+    ensures { front.Receives frame.now verdict kept areas.old result.kept result.answer areas.new }
 {
     let mut d = kept;
-    let answer = receive(&mut d, memory, holding, outgoing, frame, verdict);
+    let answer = receive(&mut d, areas, frame, verdict);
     Returned { kept: d, answer }
 }

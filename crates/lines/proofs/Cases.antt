@@ -8,10 +8,11 @@ use Prim.Native.String.{String, [] as none, ◌∷◌ as ◌then◌}
 use lib.Dec.{T, eqb}
 use lib.ListN.{take, replicate}
 use lib.Text.{eqt}
+use Rattle.std.specs.Prelude.{Option, Some, None}
 use Rattle.wording.specs.Chars.{digit}
 use Rattle.wording.specs.Names.{more_letters, verb_of, area_of}
 use Rattle.wording.specs.Spelling.{more_digits, number_of, after_count, more_piece, store, more_word}
-use Rattle.wording.specs.Lines.{judged}
+use Rattle.wording.specs.Lines.{judged_by}
 use Rattle.wording.specs.Take.{with_number, take_verb, take_number, take_area, take_place, take_bytes, put_value, take_value, take_word}
 use Rattle.wording.specs.declared.Fault.{Fault}
 use Rattle.wording.specs.declared.Line.{Line}
@@ -29,7 +30,6 @@ whole text = onward (left start (replicate 8 0)) text
 
 -- what was expected, in docs/replay.md's words
 abbrev pub expected : Wrong → String
-expected wrong.Nothing = "nothing"
 expected wrong.First = "a line's first word"
 expected wrong.Number = "a number"
 expected wrong.Size = "a number up to 65536"
@@ -50,8 +50,9 @@ pub record Bad : Type 0 where
 abbrev pub bad : String → ℕ → String → Bad
 bad text column wants = record { text = text; column = column; wants = wants }
 
-abbrev pub tells : Bad → Fault → Bool
-tells b f = eqb f.column b.column && eqt (expected f.wrong) b.wants
+abbrev pub tells : Bad → Option Fault → Bool
+tells b None = false
+tells b (Some f) = eqb f.column b.column && eqt (expected f.wrong) b.wants
 
 abbrev pub all_told : List Bad → Bool
 all_told [] = true
@@ -94,7 +95,7 @@ bad_lines =
     ∷ []
 
 pub bad_lines_lem : T (all_told bad_lines)
-unfolding digit more_letters verb_of area_of more_digits number_of after_count more_piece store more_word judged with_number take_verb take_number take_area take_place take_bytes put_value take_value take_word start is_right past with_word with_line with_fault with_taken end_word begin_word more_text first_of between further_of past_word in_word in_text read_in read last_word judge end
+unfolding digit more_letters verb_of area_of more_digits number_of after_count more_piece store more_word judged_by with_number take_verb take_number take_area take_place take_bytes put_value take_value take_word start is_right past with_word with_line with_fault with_taken end_word begin_word more_text first_of between further_of past_word in_word in_text read_in read last_word judge end
 bad_lines_lem = tt
 
 -- ---- good lines
@@ -142,5 +143,5 @@ good_lines =
     ∷ []
 
 pub good_lines_lem : T (all_right good_lines)
-unfolding digit more_letters verb_of area_of more_digits number_of after_count more_piece store more_word judged with_number take_verb take_number take_area take_place take_bytes put_value take_value take_word start is_right past with_word with_line with_fault with_taken end_word begin_word more_text first_of between further_of past_word in_word in_text read_in read last_word judge end
+unfolding digit more_letters verb_of area_of more_digits number_of after_count more_piece store more_word judged_by with_number take_verb take_number take_area take_place take_bytes put_value take_value take_word start is_right past with_word with_line with_fault with_taken end_word begin_word more_text first_of between further_of past_word in_word in_text read_in read last_word judge end
 good_lines_lem = tt

@@ -1,16 +1,16 @@
 -- The reader of lines: what a character, and a line's end, make of it and of the bytes. docs/replay.md, "Lines" and "Bad input". Assumes nothing.
-use Rattle.std.specs.Prelude.{◌≡◌, Bool, true, false, cond, List, ℕ, eqb, set}
+use Rattle.std.specs.Prelude.{◌≡◌, Bool, cond, List, ℕ, eqb, set, is_none, Option, Some, None, Ok, Err}
 use Rattle.wording.specs.Chars.{blank, hash, further, counted}
 use Rattle.wording.specs.Spelling.{word_at, more_word, store}
-use Rattle.wording.specs.Lines.{no_line, wanted, is_text, is_end, fault_at, no_fault, is_nothing, judged}
-use Rattle.wording.specs.Take.{Took, with_filled, take_word}
+use Rattle.wording.specs.Lines.{no_line, wanted, fault_at, judged}
+use Rattle.wording.specs.Take.{Taken, Took, with_filled, take_word}
 use Rattle.wording.specs.declared.Fault.{Fault}
 use Rattle.wording.specs.declared.Line.{Line}
 use Rattle.lines.specs.declared.Part.{Part}
 use Rattle.lines.specs.declared.Part.TheVariants as part
 use Rattle.lines.specs.declared.Reader.{Reader}
-use Rattle.wording.specs.declared.Taken.{Taken}
 use Rattle.wording.specs.declared.Want.{Want}
+use Rattle.wording.specs.declared.Want.TheVariants as want
 use Rattle.wording.specs.declared.Word.{Word}
 use Rattle.wording.specs.declared.Wrong.TheVariants as wrong
 
@@ -24,11 +24,11 @@ left r bytes = record { reader = r; bytes = bytes }
 
 -- before a line's first character
 unfoldable pub start : Reader
-start = record { part = part.Between; column = 1; behind = 1; word = word_at 1; line = no_line; fault = no_fault }
+start = record { part = part.Between; column = 1; behind = 1; word = word_at 1; line = no_line; fault = None }
 
 -- nothing is wrong so far
 unfoldable pub is_right : Reader → Bool
-is_right r = is_nothing r.fault.wrong
+is_right r = is_none r.fault
 
 -- ---- a reader with one thing changed
 
@@ -42,12 +42,13 @@ with_word r w = record { part = r.part; column = r.column; behind = r.behind; wo
 unfoldable pub with_line : Reader → Line → Reader
 with_line r l = record { part = r.part; column = r.column; behind = r.behind; word = r.word; line = l; fault = r.fault }
 
-unfoldable pub with_fault : Reader → Fault → Reader
+unfoldable pub with_fault : Reader → Option Fault → Reader
 with_fault r f = record { part = r.part; column = r.column; behind = r.behind; word = r.word; line = r.line; fault = f }
 
--- behind a word, with what it made of its line
+-- behind a word, with what it made of its line, or with what is wrong
 unfoldable pub with_taken : Reader → Taken → Reader
-with_taken r t = record { part = r.part; column = r.column; behind = r.column; word = r.word; line = t.line; fault = t.fault }
+with_taken r (Ok l) = record { part = r.part; column = r.column; behind = r.column; word = r.word; line = l; fault = None }
+with_taken r (Err f) = record { part = r.part; column = r.column; behind = r.column; word = r.word; line = r.line; fault = Some f }
 
 -- ---- a character
 
@@ -69,10 +70,16 @@ more_text r c bytes =
 
 -- a character that begins something: a text, or a word, if one may stand
 unfoldable pub first_of : Want → Reader → ℕ → List ℕ → Read
-first_of w r c bytes =
-    cond (is_text w) (more_text r c bytes)
-    (cond (is_end w) (left (with_fault r (fault_at wrong.End r.column)) bytes)
-    (left (begin_word r c) bytes))
+first_of want.First r c bytes = left (begin_word r c) bytes
+first_of want.Size r c bytes = left (begin_word r c) bytes
+first_of want.Short r c bytes = left (begin_word r c) bytes
+first_of want.Number r c bytes = left (begin_word r c) bytes
+first_of want.Area r c bytes = left (begin_word r c) bytes
+first_of want.Place r c bytes = left (begin_word r c) bytes
+first_of want.Bytes r c bytes = left (begin_word r c) bytes
+first_of want.Value r c bytes = left (begin_word r c) bytes
+first_of want.Text r c bytes = more_text r c bytes
+first_of want.End r c bytes = left (with_fault r (Some (fault_at wrong.End r.column))) bytes
 
 -- a character outside of words
 unfoldable pub between : Reader → ℕ → List ℕ → Read
@@ -114,14 +121,11 @@ read r c bytes = cond (is_right r) (read_in r.part r c bytes) (left r bytes)
 -- ---- a line's end
 
 -- a word that the line ends with is taken
-abbrev pub is_word : Part → Bool
-is_word part.Between = false
-is_word part.Word = true
-is_word part.Text = false
-is_word part.Comment = false
-
 unfoldable pub last_word : Part → Reader → List ℕ → Read
-last_word p r bytes = cond (is_word p) (end_word r bytes) (left r bytes)
+last_word part.Between r bytes = left r bytes
+last_word part.Word r bytes = end_word r bytes
+last_word part.Text r bytes = left r bytes
+last_word part.Comment r bytes = left r bytes
 
 -- the line is judged, if its words are right
 unfoldable pub judge : Reader → Reader

@@ -7,7 +7,7 @@
 ghost use Rattle.std.specs.Prelude.{◌≡◌};
 ghost use Rattle.lines.specs.Reader as reader;
 
-use wording::{Fault, Line, Taken, Want, Word, Wrong};
+use wording::{Fault, Line, Want, Word, Wrong};
 
 // Where in a line a character stands.
 #[derive(Clone, Copy)]
@@ -18,7 +18,8 @@ pub enum Part {
     Comment,
 }
 
-// The reader: where it stands, the column of the next character, the column behind the last word, the word, the line.
+// The reader: where it stands, the column of the next character, the column behind the last word, the word, the line, and what is wrong with it,
+// if something is.
 #[derive(Clone, Copy)]
 pub struct Reader {
     pub part: Part,
@@ -26,7 +27,7 @@ pub struct Reader {
     pub behind: u32,
     pub word: Word,
     pub line: Line,
-    pub fault: Fault,
+    pub fault: Option<Fault>,
 }
 
 // ---- the reader
@@ -42,7 +43,7 @@ pub fn start() -> Reader
         behind: 1,
         word: wording::word_at(1),
         line: wording::no_line(),
-        fault: wording::no_fault(),
+        fault: None,
     }
 }
 
@@ -51,9 +52,7 @@ pub fn start() -> Reader
 pub fn is_right(r: Reader) -> bool
     ensures { result ≡ reader.is_right r }
 {
-    let f = r.fault;
-    let wrong = f.wrong;
-    wants::is_nothing(wrong)
+    r.fault.is_none()
 }
 
 // The reader behind a character that says nothing more.
@@ -62,7 +61,7 @@ fn past(r: Reader, part: Part) -> Reader
     ensures { result ≡ reader.past r part }
 {
     Reader {
-        part: part,
+        part,
         column: wording::further(r.column),
         ..r
     }
@@ -79,28 +78,33 @@ fn with_word(r: Reader, w: Word) -> Reader
 fn with_line(r: Reader, line: Line) -> Reader
     ensures { result ≡ reader.with_line r line }
 {
-    Reader { line: line, ..r }
+    Reader { line, ..r }
 }
 
 #[tactic(auto, unfolding(crate::specs::Reader::with_fault))]
-fn with_fault(r: Reader, fault: Fault) -> Reader
+fn with_fault(r: Reader, fault: Option<Fault>) -> Reader
     ensures { result ≡ reader.with_fault r fault }
 {
-    Reader { fault: fault, ..r }
+    Reader { fault, ..r }
 }
 
-// The reader behind a word, with what the word made of its line.
+// The reader behind a word, with what the word made of its line, or with what is wrong.
 #[tactic(auto, unfolding(crate::specs::Reader::with_taken))]
-fn with_taken(r: Reader, t: Taken) -> Reader
-    ensures { result ≡ reader.with_taken r t }
+fn with_taken(r: Reader, taken: Result<Line, Fault>) -> Reader
+    ensures { result ≡ reader.with_taken r taken }
 {
-    let line = t.line;
-    let fault = t.fault;
-    Reader {
-        behind: r.column,
-        line: line,
-        fault: fault,
-        ..r
+    match taken {
+        Ok(line) => Reader {
+            behind: r.column,
+            line,
+            fault: None,
+            ..r
+        },
+        Err(fault) => Reader {
+            behind: r.column,
+            fault: Some(fault),
+            ..r
+        },
     }
 }
 
@@ -109,11 +113,8 @@ fn with_taken(r: Reader, t: Taken) -> Reader
 fn end_word(bytes: &mut [u8], r: Reader) -> Reader
     ensures { reader.Reads (reader.end_word r bytes.old) result bytes.new }
 {
-    let line = r.line;
-    let w = r.word;
-    let verb = line.verb;
-    let t = taking::take(bytes, line, w, wants::wanted(verb, line.taken));
-    with_taken(r, t)
+    let want = wants::wanted(r.line.verb, r.line.taken);
+    with_taken(r, taking::take(bytes, r.line, r.word, want))
 }
 
 // A word begins, where one may stand.
@@ -132,18 +133,12 @@ fn begin_word(r: Reader, c: u8) -> Reader
 fn more_text(bytes: &mut [u8], r: Reader, c: u8) -> Reader
     ensures { reader.Reads (reader.more_text r c bytes.old) result bytes.new }
 {
-    let line = r.line;
-    wording::put(bytes, line.filled as usize, c);
-    past(
-        with_line(
-            r,
-            Line {
-                filled: wording::counted(line.filled, 1),
-                ..line
-            },
-        ),
-        Part::Text,
-    )
+    wording::put(bytes, r.line.filled as usize, c);
+    let line = Line {
+        filled: wording::counted(r.line.filled, 1),
+        ..r.line
+    };
+    past(with_line(r, line), Part::Text)
 }
 
 // A character that is neither blank nor the start of a comment, with no word before it.
@@ -151,13 +146,18 @@ fn more_text(bytes: &mut [u8], r: Reader, c: u8) -> Reader
 fn first_of(bytes: &mut [u8], r: Reader, c: u8, want: Want) -> Reader
     ensures { reader.Reads (reader.first_of want r c bytes.old) result bytes.new }
 {
-    if wants::is_text(want) {
-        return more_text(bytes, r, c);
+    match want {
+        Want::Text => more_text(bytes, r, c),
+        Want::End => with_fault(r, Some(wording::fault_at(Wrong::End, r.column))),
+        Want::First
+        | Want::Size
+        | Want::Short
+        | Want::Number
+        | Want::Area
+        | Want::Place
+        | Want::Bytes
+        | Want::Value => begin_word(r, c),
     }
-    if wants::is_end(want) {
-        return with_fault(r, wording::fault_at(Wrong::End, r.column));
-    }
-    begin_word(r, c)
 }
 
 // A character outside of words.
@@ -165,15 +165,13 @@ fn first_of(bytes: &mut [u8], r: Reader, c: u8, want: Want) -> Reader
 fn between(bytes: &mut [u8], r: Reader, c: u8) -> Reader
     ensures { reader.Reads (reader.between r c bytes.old) result bytes.new }
 {
-    let line = r.line;
-    let verb = line.verb;
     if wording::is_blank(c) {
         return past(r, Part::Between);
     }
-    if c == 35 {
+    if c == b'#' {
         return past(r, Part::Comment);
     }
-    first_of(bytes, r, c, wants::wanted(verb, line.taken))
+    first_of(bytes, r, c, wants::wanted(r.line.verb, r.line.taken))
 }
 
 // A further character of a word.
@@ -181,11 +179,8 @@ fn between(bytes: &mut [u8], r: Reader, c: u8) -> Reader
 fn further_of(bytes: &mut [u8], r: Reader, c: u8) -> Reader
     ensures { reader.Reads (reader.further_of r c bytes.old) result bytes.new }
 {
-    let line = r.line;
-    let w = r.word;
-    let p = w.piece;
-    wording::store(bytes, p, line.filled, c);
-    past(with_word(r, wording::more_word(w, c)), Part::Word)
+    wording::store(bytes, r.word.piece, r.line.filled, c);
+    past(with_word(r, wording::more_word(r.word, c)), Part::Word)
 }
 
 // The word that was read is taken, and the reader goes past what ended it.
@@ -204,7 +199,7 @@ fn in_word(bytes: &mut [u8], r: Reader, c: u8) -> Reader
     if wording::is_blank(c) {
         return past_word(bytes, r, Part::Between);
     }
-    if c == 35 {
+    if c == b'#' {
         return past_word(bytes, r, Part::Comment);
     }
     further_of(bytes, r, c)
@@ -215,7 +210,7 @@ fn in_word(bytes: &mut [u8], r: Reader, c: u8) -> Reader
 fn in_text(bytes: &mut [u8], r: Reader, c: u8) -> Reader
     ensures { reader.Reads (reader.in_text r c bytes.old) result bytes.new }
 {
-    if c == 35 {
+    if c == b'#' {
         return past(r, Part::Comment);
     }
     more_text(bytes, r, c)
@@ -239,22 +234,10 @@ fn read_in(bytes: &mut [u8], r: Reader, c: u8, part: Part) -> Reader
 pub fn read(bytes: &mut [u8], r: Reader, c: u8) -> Reader
     ensures { reader.Reads (reader.read r c bytes.old) result bytes.new }
 {
-    let part = r.part;
     if is_right(r) {
-        return read_in(bytes, r, c, part);
+        return read_in(bytes, r, c, r.part);
     }
     r
-}
-
-fn is_word(part: Part) -> bool
-    ensures { result ≡ reader.is_word part }
-{
-    match part {
-        Part::Between => false,
-        Part::Word => true,
-        Part::Text => false,
-        Part::Comment => false,
-    }
 }
 
 // The last word, if the line ends with one, is taken.
@@ -262,10 +245,10 @@ fn is_word(part: Part) -> bool
 fn last_word(bytes: &mut [u8], r: Reader, part: Part) -> Reader
     ensures { reader.Reads (reader.last_word part r bytes.old) result bytes.new }
 {
-    if is_word(part) {
-        return end_word(bytes, r);
+    match part {
+        Part::Word => end_word(bytes, r),
+        Part::Between | Part::Text | Part::Comment => r,
     }
-    r
 }
 
 // The line is judged, if its words are right.
@@ -273,9 +256,8 @@ fn last_word(bytes: &mut [u8], r: Reader, part: Part) -> Reader
 fn judge(r: Reader) -> Reader
     ensures { result ≡ reader.judge r }
 {
-    let line = r.line;
     if is_right(r) {
-        return with_fault(r, wants::judged(line, r.behind));
+        return with_fault(r, wants::judged(r.line, r.behind));
     }
     r
 }
@@ -285,9 +267,8 @@ fn judge(r: Reader) -> Reader
 pub fn end(bytes: &mut [u8], r: Reader) -> Reader
     ensures { reader.Reads (reader.end r bytes.old) result bytes.new }
 {
-    let part = r.part;
     if is_right(r) {
-        return judge(last_word(bytes, r, part));
+        return judge(last_word(bytes, r, r.part));
     }
     r
 }

@@ -5,6 +5,7 @@ use mathlib.Core.Bool.{Bool, true, false, cond}
 use mathlib.Core.List.{List, [], ◌∷◌}
 use Prim.Native.Nat.{ℕ, zero, suc, ◌+◌, ◌-◌, ◌*◌, ◌/◌, ◌%◌, ◌≤◌, min}
 use native.Mathlib.Nat.{suc-mul}
+use Rattle.std.specs.Prelude.{Option, Some, None, IfSome}
 use native.Mathlib.Omega.{arith}
 use borrow.Author.Tests.{leb-true}
 use lib.Dec.{eqb}
@@ -104,29 +105,29 @@ room a place n e =
     let q : size_of a ≤ 65536 = most_size a in
     omega arith
 
-pub line_fits : (v : Verb) (l : Line) (own : List ℕ) (s : Scene) → length own ≤ 65536 → fits v l (size_of l.area) ≡ true
+pub line_fits : (v : Option Verb) (l : Line) (own : List ℕ) (s : Scene) → length own ≤ 65536 → IfSome v (λ w. fits w l (size_of l.area) ≡ true)
     → length (line_text v l own s) ≤ longest_line
 unfolding line_text say_text
-line_fits verb.Nothing l own s n f = omega arith
-line_fits verb.Size l own s n f = omega arith
-line_fits verb.Reset l own s n f = omega (arith, call_fits reset s)
-line_fits verb.Attention l own s n f = omega (arith, call_fits attention s)
-line_fits verb.Arrival l own s n f = omega (arith, call_fits (arrive own (l.first % many)) s)
-line_fits verb.Turn l own s n f =
+line_fits None l own s n f = omega arith
+line_fits (Some verb.Size) l own s n f = omega arith
+line_fits (Some verb.Reset) l own s n f = omega (arith, call_fits reset s)
+line_fits (Some verb.Attention) l own s n f = omega (arith, call_fits attention s)
+line_fits (Some verb.Arrival) l own s n f = omega (arith, call_fits (arrive own (l.first % many)) s)
+line_fits (Some verb.Turn) l own s n f =
     let k : turn_count l ≤ 65535 = count_by (eqb l.taken 0) l.first in
     let a : length (turns_text (turn_count l) (l.second % 65536) s) ≤ longest_answer * turn_count l = turns_fit (turn_count l) (l.second % 65536) s in
     omega arith
-line_fits verb.Run l own s n f = omega (arith, call_fits (run (l.second % 65536) (turn_count l)) s)
-line_fits verb.Bytes l own s n f = omega arith
-line_fits verb.Words l own s n f = omega arith
-line_fits verb.Show l own s n f =
+line_fits (Some verb.Run) l own s n f = omega (arith, call_fits (run (l.second % 65536) (turn_count l)) s)
+line_fits (Some verb.Bytes) l own s n f = omega arith
+line_fits (Some verb.Words) l own s n f = omega arith
+line_fits (Some verb.Show) l own s n f =
     let k : l.second ≤ 65536 = room l.area l.first l.second f in
     let q : l.second % many ≤ 65536 = omega arith in
     shown_fits l.area _ _ _ _ _ q
-line_fits verb.Look l own s n f =
+line_fits (Some verb.Look) l own s n f =
     let k : min l.second many * 2 ≤ 65536 = room l.area l.first (min l.second many * 2) f in
     let q : l.second % many ≤ 65536 = omega arith in
     looked_fits l.area _ _ _ _ _ q
-line_fits verb.Interrupt l own s n f = interrupt_fits _
-line_fits verb.Record l own s n f = record_fits s.play.board
-line_fits verb.Say l own s n f = rw (length-append own (10 ∷ [])) (omega arith)
+line_fits (Some verb.Interrupt) l own s n f = interrupt_fits _
+line_fits (Some verb.Record) l own s n f = record_fits s.play.board
+line_fits (Some verb.Say) l own s n f = rw (length-append own (10 ∷ [])) (omega arith)

@@ -3,6 +3,7 @@
 use mathlib.Core.Path.{◌≡◌, refl, sym, ap, ◌∙◌}
 use mathlib.Core.List.{List, ◌++◌}
 use Prim.Native.Nat.{ℕ, zero, suc, ◌%◌}
+use Rattle.std.specs.Prelude.{Option, Some, None}
 use Rattle.board.specs.Board.{Call, reset, attention, turn}
 use Rattle.wording.specs.declared.Line.{Line}
 use Rattle.wording.specs.declared.Verb.{Verb}
@@ -24,23 +25,23 @@ turns_puts zero report s = puts_none _ _
 turns_puts (suc n) report s = puts_cat (turns_puts n report s) (called_puts (turn report) (turns_of n report s))
 
 -- a line prints its text
-pub obeyed_puts : (v : Verb) (l : Line) (own : List ℕ) (s : Scene)
+pub obeyed_puts : (v : Option Verb) (l : Line) (own : List ℕ) (s : Scene)
     → Puts (line_text v l own s) s.play.at s.out (obeyed v l own s).play.at (obeyed v l own s).out
 unfolding obeyed line_text
-obeyed_puts verb.Nothing l own s = puts_none _ _
-obeyed_puts verb.Size l own s = puts_none _ _
-obeyed_puts verb.Reset l own s = called_puts reset s
-obeyed_puts verb.Attention l own s = called_puts attention s
-obeyed_puts verb.Arrival l own s = called_puts _ s
-obeyed_puts verb.Turn l own s = turns_puts (turn_count l) (l.second % 65536) s
-obeyed_puts verb.Run l own s = called_puts _ s
-obeyed_puts verb.Bytes l own s = puts_none _ _
-obeyed_puts verb.Words l own s = puts_none _ _
-obeyed_puts verb.Show l own s = record { next = refl; bytes = refl }
-obeyed_puts verb.Look l own s = record { next = refl; bytes = refl }
-obeyed_puts verb.Interrupt l own s = record { next = refl; bytes = refl }
-obeyed_puts verb.Record l own s = record { next = refl; bytes = refl }
-obeyed_puts verb.Say l own s = record { next = refl; bytes = refl }
+obeyed_puts None l own s = puts_none _ _
+obeyed_puts (Some verb.Size) l own s = puts_none _ _
+obeyed_puts (Some verb.Reset) l own s = called_puts reset s
+obeyed_puts (Some verb.Attention) l own s = called_puts attention s
+obeyed_puts (Some verb.Arrival) l own s = called_puts _ s
+obeyed_puts (Some verb.Turn) l own s = turns_puts (turn_count l) (l.second % 65536) s
+obeyed_puts (Some verb.Run) l own s = called_puts _ s
+obeyed_puts (Some verb.Bytes) l own s = puts_none _ _
+obeyed_puts (Some verb.Words) l own s = puts_none _ _
+obeyed_puts (Some verb.Show) l own s = record { next = refl; bytes = refl }
+obeyed_puts (Some verb.Look) l own s = record { next = refl; bytes = refl }
+obeyed_puts (Some verb.Interrupt) l own s = record { next = refl; bytes = refl }
+obeyed_puts (Some verb.Record) l own s = record { next = refl; bytes = refl }
+obeyed_puts (Some verb.Say) l own s = record { next = refl; bytes = refl }
 
 -- ---- what was printed before does not matter
 
@@ -57,22 +58,22 @@ quiet_turns (suc n) report s =
     ∙ quiet_called (turn report) (turns_of n report s)
 
 -- to what a line does otherwise
-pub quiet_obeyed : (v : Verb) (l : Line) (own : List ℕ) (s : Scene) → quiet (obeyed v l own (quiet s)) ≡ quiet (obeyed v l own s)
+pub quiet_obeyed : (v : Option Verb) (l : Line) (own : List ℕ) (s : Scene) → quiet (obeyed v l own (quiet s)) ≡ quiet (obeyed v l own s)
 unfolding obeyed
-quiet_obeyed verb.Nothing l own s = refl
-quiet_obeyed verb.Size l own s = refl
-quiet_obeyed verb.Reset l own s = quiet_called reset s
-quiet_obeyed verb.Attention l own s = quiet_called attention s
-quiet_obeyed verb.Arrival l own s = quiet_called _ s
-quiet_obeyed verb.Turn l own s = quiet_turns (turn_count l) (l.second % 65536) s
-quiet_obeyed verb.Run l own s = quiet_called _ s
-quiet_obeyed verb.Bytes l own s = refl
-quiet_obeyed verb.Words l own s = refl
-quiet_obeyed verb.Show l own s = refl
-quiet_obeyed verb.Look l own s = refl
-quiet_obeyed verb.Interrupt l own s = refl
-quiet_obeyed verb.Record l own s = refl
-quiet_obeyed verb.Say l own s = refl
+quiet_obeyed None l own s = refl
+quiet_obeyed (Some verb.Size) l own s = refl
+quiet_obeyed (Some verb.Reset) l own s = quiet_called reset s
+quiet_obeyed (Some verb.Attention) l own s = quiet_called attention s
+quiet_obeyed (Some verb.Arrival) l own s = quiet_called _ s
+quiet_obeyed (Some verb.Turn) l own s = quiet_turns (turn_count l) (l.second % 65536) s
+quiet_obeyed (Some verb.Run) l own s = quiet_called _ s
+quiet_obeyed (Some verb.Bytes) l own s = refl
+quiet_obeyed (Some verb.Words) l own s = refl
+quiet_obeyed (Some verb.Show) l own s = refl
+quiet_obeyed (Some verb.Look) l own s = refl
+quiet_obeyed (Some verb.Interrupt) l own s = refl
+quiet_obeyed (Some verb.Record) l own s = refl
+quiet_obeyed (Some verb.Say) l own s = refl
 
 call_quiet : (c : Call) (s : Scene) → call_text c (quiet s) ≡ call_text c s
 unfolding call_text
@@ -88,19 +89,19 @@ turns_quiet (suc n) report s =
     ∙ call_quiet (turn report) (turns_of n report s))
 
 -- to what it prints
-pub text_quiet : (v : Verb) (l : Line) (own : List ℕ) (s : Scene) → line_text v l own (quiet s) ≡ line_text v l own s
+pub text_quiet : (v : Option Verb) (l : Line) (own : List ℕ) (s : Scene) → line_text v l own (quiet s) ≡ line_text v l own s
 unfolding line_text
-text_quiet verb.Nothing l own s = refl
-text_quiet verb.Size l own s = refl
-text_quiet verb.Reset l own s = call_quiet reset s
-text_quiet verb.Attention l own s = call_quiet attention s
-text_quiet verb.Arrival l own s = call_quiet _ s
-text_quiet verb.Turn l own s = turns_quiet (turn_count l) (l.second % 65536) s
-text_quiet verb.Run l own s = call_quiet _ s
-text_quiet verb.Bytes l own s = refl
-text_quiet verb.Words l own s = refl
-text_quiet verb.Show l own s = refl
-text_quiet verb.Look l own s = refl
-text_quiet verb.Interrupt l own s = refl
-text_quiet verb.Record l own s = refl
-text_quiet verb.Say l own s = refl
+text_quiet None l own s = refl
+text_quiet (Some verb.Size) l own s = refl
+text_quiet (Some verb.Reset) l own s = call_quiet reset s
+text_quiet (Some verb.Attention) l own s = call_quiet attention s
+text_quiet (Some verb.Arrival) l own s = call_quiet _ s
+text_quiet (Some verb.Turn) l own s = turns_quiet (turn_count l) (l.second % 65536) s
+text_quiet (Some verb.Run) l own s = call_quiet _ s
+text_quiet (Some verb.Bytes) l own s = refl
+text_quiet (Some verb.Words) l own s = refl
+text_quiet (Some verb.Show) l own s = refl
+text_quiet (Some verb.Look) l own s = refl
+text_quiet (Some verb.Interrupt) l own s = refl
+text_quiet (Some verb.Record) l own s = refl
+text_quiet (Some verb.Say) l own s = refl

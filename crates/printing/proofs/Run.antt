@@ -6,17 +6,19 @@ use mathlib.Core.List.{List, [], ◌∷◌, ◌++◌, append_assoc}
 use Prim.Native.Nat.{ℕ, ◌≤◌}
 use lib.Dec.{eqb}
 use lib.ListN.{length, take}
+use Rattle.std.specs.Prelude.{Option, Some, None}
+use Rattle.std.specs.Option.{option_map_or}
 use Rattle.wording.specs.declared.Line.{Line}
+use Rattle.wording.specs.declared.Fault.{Fault}
 use Rattle.lines.specs.declared.Reader.{Reader}
-use Rattle.lines.specs.Reader as lines
 use Rattle.texts.specs.Texts.{Puts}
+use Rattle.faults.specs.Faults.{fault_text}
 use Rattle.texts.proofs.Laws.{puts_none, puts_cat, puts_is}
 use Rattle.texts.proofs.Lengths.{puts_whole}
 use Rattle.scene.specs.Scene.{Scene, play_of, scene_of}
 use Rattle.printing.specs.Line.{line_text, quiet}
 use Rattle.printing.proofs.Line.{obeyed_puts, quiet_obeyed, text_quiet}
-use Rattle.session.specs.declared.Session.{Session}
-use Rattle.session.specs.Run.{State, state_of, behind_line, fault_of, stopped_by, line_obeyed, judged, line_ended, fed, ran}
+use Rattle.session.specs.Run.{Session, State, state_of, behind_line, stopped_by, line_obeyed, judged, line_ended, fed, ran}
 use Rattle.printing.specs.Run.{judged_text, char_text, text_of, emptied_in, written, in_stretches, joined, Room, quietly}
 
 -- ---- a state puts a text: from one state to another
@@ -28,6 +30,11 @@ either : (x : Bool) (t u : List ℕ) (a b c : State) → Does t a b → Does u a
 either true t u a b c p q = p
 either false t u a b c p q = q
 
+by_fault : (o : Option Fault) (t : List ℕ) (u : Fault → List ℕ) (a b : State) (c : Fault → State) → Does t a b → ((f : Fault) → Does (u f) a (c f))
+    → Does (option_map_or u o t) a (option_map_or c o b)
+by_fault None t u a b c p q = p
+by_fault (Some f) t u a b c p q = q f
+
 module _ (s : Session) (m h og by out : List ℕ) where
   abbrev before : State
   before = state_of s m h og by out
@@ -38,13 +45,13 @@ module _ (s : Session) (m h og by out : List ℕ) where
       puts_is (sym (text_quiet l.verb l (take l.filled by') (scene_of (play_of s.board s.at) m h og out)))
       (obeyed_puts l.verb l (take l.filled by') (scene_of (play_of s.board s.at) m h og out))
 
-  stop_puts : (r : Reader) (by' : List ℕ) → Does (fault_of s.line r) before (stopped_by s r m h og by' out)
+  stop_puts : (r : Reader) (by' : List ℕ) (f : Fault) → Does (fault_text s.line f) before (stopped_by s r f m h og by' out)
   unfolding stopped_by
-  stop_puts r by' = record { next = refl; bytes = refl }
+  stop_puts r by' f = record { next = refl; bytes = refl }
 
   judged_puts : (r : Reader) (by' : List ℕ) → Does (judged_text s r m h og by') before (judged s r m h og by' out)
   unfolding judged judged_text
-  judged_puts r by' = either (lines.is_right r) _ _ before _ _ (line_puts r.line by') (stop_puts r by')
+  judged_puts r by' = by_fault r.fault _ _ before _ _ (line_puts r.line by') (stop_puts r by')
 
 fed_puts : (st : State) (c : ℕ) → Does (char_text st c) st (fed st c)
 unfolding char_text fed line_ended
@@ -64,6 +71,11 @@ same_if : (x : Bool) (a b a' b' : State) → quietly a ≡ quietly a' → quietl
 same_if true a b a' b' p q = p
 same_if false a b a' b' p q = q
 
+same_fault : (o : Option Fault) (a a' : State) (b b' : Fault → State) → quietly a ≡ quietly a' → ((f : Fault) → quietly (b f) ≡ quietly (b' f))
+    → quietly (option_map_or b o a) ≡ quietly (option_map_or b' o a')
+same_fault None a a' b b' p q = p
+same_fault (Some f) a a' b b' p q = q f
+
 behind_quiet : (s : Session) (by : List ℕ) (c : Scene) → quietly (behind_line s by (quiet c)) ≡ quietly (behind_line s by c)
 behind_quiet s by c = refl
 
@@ -74,7 +86,7 @@ line_quiet s l m h og by out =
 
 judged_quiet : (s : Session) (r : Reader) (m h og by out : List ℕ) → quietly (judged (quietly (state_of s m h og by out)).session r m h og by []) ≡ quietly (judged s r m h og by out)
 unfolding judged stopped_by
-judged_quiet s r m h og by out = same_if (lines.is_right r) _ _ _ _ (line_quiet s r.line m h og by out) refl
+judged_quiet s r m h og by out = same_fault r.fault _ _ _ _ (line_quiet s r.line m h og by out) (λ f. refl)
 
 fed_quiet : (st : State) (c : ℕ) → quietly (fed (quietly st) c) ≡ quietly (fed st c)
 unfolding fed line_ended

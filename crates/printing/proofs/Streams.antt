@@ -10,9 +10,12 @@ use Prim.Native.Nat.{ℕ, ◌+◌, ◌≤◌}
 use native.Mathlib.Omega.{arith}
 use lib.Dec.{eqb}
 use lib.ListN.{length}
-use Rattle.lines.specs.declared.Reader.{Reader}
+use Rattle.std.specs.Prelude.{Option, Some, None}
+use Rattle.std.specs.Option.{option_map_or}
+use Rattle.wording.specs.declared.Fault.{Fault}
 use Rattle.lines.specs.Reader as lines
-use Rattle.session.specs.Run.{State, state_of, start, fault_of, stopped_by, line_obeyed, judged, line_ended, fed, ran}
+use Rattle.faults.specs.Faults.{fault_text}
+use Rattle.session.specs.Run.{State, state_of, start, stopped_by, line_obeyed, judged, line_ended, fed, ran}
 use Rattle.printing.specs.Line.{program_room}
 use Rattle.printing.specs.Run.{judged_text, char_text, text_of, emptied_in, joined, Room, quietly, newlines, Cut}
 use Rattle.printing.specs.Streams.{Stream, output, errors, judged_on, char_on, text_on, stream_of, seen_on, written_on, in_stretches_on}
@@ -25,20 +28,25 @@ stopped_if : (x : Bool) (a b : State) → (cond x a b).session.stopped ≡ cond 
 stopped_if true a b = refl
 stopped_if false a b = refl
 
--- whether the line that ends here is right
-abbrev right : State → Bool
-right st = lines.is_right (lines.end st.session.reader st.bytes).reader
+stopped_by_fault : (o : Option Fault) (a : State) (b : Fault → State)
+    → (option_map_or b o a).session.stopped ≡ option_map_or (λ f. (b f).session.stopped) o a.session.stopped
+stopped_by_fault None a b = refl
+stopped_by_fault (Some f) a b = refl
 
-abbrev stops : Bool → Bool → Bool → Bool
-stops x y z = cond x x (cond y (cond z x true) x)
+-- what is wrong with the line that ends here
+abbrev fault : State → Option Fault
+fault st = (lines.end st.session.reader st.bytes).reader.fault
+
+abbrev stops : Bool → Bool → Option Fault → Bool
+stops x y z = cond x x (cond y (option_map_or (λ f. true) z x) x)
 
 -- a session stops at the end of a line that is wrong
-fed_stopped : (st : State) (c : ℕ) → (fed st c).session.stopped ≡ stops st.session.stopped (eqb c 10) (right st)
+fed_stopped : (st : State) (c : ℕ) → (fed st c).session.stopped ≡ stops st.session.stopped (eqb c 10) (fault st)
 unfolding fed line_ended judged line_obeyed stopped_by
 fed_stopped st c =
     stopped_if st.session.stopped _ _
     ∙ ap (cond st.session.stopped st.session.stopped)
-    (stopped_if (eqb c 10) _ _ ∙ ap (λ (b : Bool). cond (eqb c 10) b st.session.stopped) (stopped_if (right st) _ _))
+    (stopped_if (eqb c 10) _ _ ∙ ap (λ (b : Bool). cond (eqb c 10) b st.session.stopped) (stopped_by_fault (fault st) _ _))
 
 -- it stays stopped
 fed_still : (st : State) (c : ℕ) → st.session.stopped ≡ true → (fed st c).session.stopped ≡ true
@@ -51,39 +59,39 @@ ran_still st (c ∷ cs) h = ran_still (fed st c) cs (fed_still st c h)
 
 -- ---- a character
 
--- x: the session has stopped; y: a line ends; z: that is right; t, u: its text and its fault
-abbrev said : Bool → Bool → Bool → List ℕ → List ℕ → List ℕ
-said x y z t u = cond x [] (cond y (cond z t u) [])
+-- x: the session has stopped; y: a line ends; z: what is wrong with it; t, u: its text and its fault
+abbrev said : Bool → Bool → Option Fault → List ℕ → (Fault → List ℕ) → List ℕ
+said x y z t u = cond x [] (cond y (option_map_or u z t) [])
 
-abbrev said_on : Stream → Bool → Bool → Bool → List ℕ → List ℕ → List ℕ
-said_on output x y z t u = said x y z t []
+abbrev said_on : Stream → Bool → Bool → Option Fault → List ℕ → (Fault → List ℕ) → List ℕ
+said_on output x y z t u = said x y z t (λ f. [])
 said_on errors x y z t u = said x y z [] u
 
-seen_by : (v : Stream) (x y z : Bool) (t u : List ℕ) → seen_on v (cond (stops x y z) errors output) (said x y z t u) ≡ said_on v x y z t u
+seen_by : (v : Stream) (x y : Bool) (z : Option Fault) (t : List ℕ) (u : Fault → List ℕ) → seen_on v (cond (stops x y z) errors output) (said x y z t u) ≡ said_on v x y z t u
 seen_by output true y z t u = refl
-seen_by output false true true t u = refl
-seen_by output false true false t u = refl
+seen_by output false true None t u = refl
+seen_by output false true (Some f) t u = refl
 seen_by output false false z t u = refl
 seen_by errors true y z t u = refl
-seen_by errors false true true t u = refl
-seen_by errors false true false t u = refl
+seen_by errors false true None t u = refl
+seen_by errors false true (Some f) t u = refl
 seen_by errors false false z t u = refl
 
 -- what a character prints goes whole to where the session that it leaves says
 char_seen : (v : Stream) (st : State) (c : ℕ) → seen_on v (stream_of (fed st c).session) (char_text st c) ≡ char_on v st c
 unfolding char_text judged_text char_on judged_on
-char_seen output st c = rw (fed_stopped st c) (seen_by output st.session.stopped (eqb c 10) (right st) _ _)
-char_seen errors st c = rw (fed_stopped st c) (seen_by errors st.session.stopped (eqb c 10) (right st) _ _)
+char_seen output st c = rw (fed_stopped st c) (seen_by output st.session.stopped (eqb c 10) (fault st) _ _)
+char_seen errors st c = rw (fed_stopped st c) (seen_by errors st.session.stopped (eqb c 10) (fault st) _ _)
 
-parted_by : (x y z : Bool) (t u : List ℕ) → said x y z t u ≡ said x y z t [] ++ said x y z [] u
+parted_by : (x y : Bool) (z : Option Fault) (t : List ℕ) (u : Fault → List ℕ) → said x y z t u ≡ said x y z t (λ f. []) ++ said x y z [] u
 parted_by true y z t u = refl
-parted_by false true true t u = sym (append-nil t)
-parted_by false true false t u = refl
+parted_by false true None t u = sym (append-nil t)
+parted_by false true (Some f) t u = refl
 parted_by false false z t u = refl
 
 char_parted : (st : State) (c : ℕ) → char_text st c ≡ char_on output st c ++ char_on errors st c
 unfolding char_text judged_text char_on judged_on
-char_parted st c = parted_by st.session.stopped (eqb c 10) (right st) _ _
+char_parted st c = parted_by st.session.stopped (eqb c 10) (fault st) _ _
 
 -- ---- where no line ends, nothing is printed and no session stops
 
@@ -100,12 +108,12 @@ char_none_on : (v : Stream) (st : State) (c : ℕ) → eqb c 10 ≡ false → ch
 unfolding char_on
 char_none_on v st c e = quiet_by st.session.stopped (eqb c 10) _ e
 
-stops_none : (x z : Bool) → stops x false z ≡ x
+stops_none : (x : Bool) (z : Option Fault) → stops x false z ≡ x
 stops_none true z = refl
 stops_none false z = refl
 
 fed_none : (st : State) (c : ℕ) → eqb c 10 ≡ false → (fed st c).session.stopped ≡ st.session.stopped
-fed_none st c e = fed_stopped st c ∙ rw e (stops_none st.session.stopped (right st))
+fed_none st c e = fed_stopped st c ∙ rw e (stops_none st.session.stopped (fault st))
 
 no_head : (x : Bool) (n : ℕ) → cond x 1 0 + n ≡ 0 → x ≡ false
 no_head true n h = absurd (omega (arith, h))
@@ -212,16 +220,16 @@ unfolding text_on char_on
 stopped_on v st [] h = refl
 stopped_on v st (c ∷ cs) h = rw (stopped_on v (fed st c) cs (fed_still st c h), h)
 
-last_by : (x y z : Bool) (u : List ℕ) → (said x y z [] u ≡ []) ⊎ (stops x y z ≡ true)
+last_by : (x y : Bool) (z : Option Fault) (u : Fault → List ℕ) → (said x y z [] u ≡ []) ⊎ (stops x y z ≡ true)
 last_by true y z u = inl refl
-last_by false true true u = inl refl
-last_by false true false u = inr refl
+last_by false true None u = inl refl
+last_by false true (Some f) u = inr refl
 last_by false false z u = inl refl
 
 -- a fault is the last thing that is printed
 fault_last : (st : State) (c : ℕ) → (char_on errors st c ≡ []) ⊎ ((fed st c).session.stopped ≡ true)
 unfolding char_on judged_on
-fault_last st c = rw (fed_stopped st c) (last_by st.session.stopped (eqb c 10) (right st) _)
+fault_last st c = rw (fed_stopped st c) (last_by st.session.stopped (eqb c 10) (fault st) _)
 
 joins : (a f b g : List ℕ) → (f ≡ []) ⊎ (b ≡ []) → a ++ f ++ (b ++ g) ≡ a ++ b ++ (f ++ g)
 joins a f b g (inl e) = rw (e, append-nil a) (sym (append_assoc a b g))
@@ -246,27 +254,27 @@ no_fault_lem st (c ∷ cs) h =
     (append-nil _
     ∙ ⊎_elim (λ (e : char_on errors st c ≡ []). e) (λ (e : (fed st c).session.stopped ≡ true). absurd (false≢true (sym h ∙ ran_still (fed st c) cs e))) (fault_last st c))
 
-fault_by : (x y z : Bool) (u : List ℕ) → x ≡ false → stops x y z ≡ true → said x y z [] u ≡ u
-fault_by true y z u p q = absurd (false≢true (sym p))
-fault_by false true true u p q = absurd (false≢true q)
-fault_by false true false u p q = refl
-fault_by false false z u p q = absurd (false≢true q)
+-- a text that is of a fault of some line
+abbrev FaultOf : List ℕ → Type 0
+FaultOf t = (line : ℕ) × (f : Fault) × (t ≡ fault_text line f)
 
-abbrev Fault : List ℕ → Type 0
-Fault t = (line : ℕ) × (r : Reader) × (t ≡ fault_of line r)
+fault_by : (x y : Bool) (z : Option Fault) (line : ℕ) → x ≡ false → stops x y z ≡ true → FaultOf (said x y z [] (fault_text line))
+fault_by true y z line p q = absurd (false≢true (sym p))
+fault_by false true None line p q = absurd (false≢true q)
+fault_by false true (Some f) line p q = (line, f, refl)
+fault_by false false z line p q = absurd (false≢true q)
 
-fault_of_lem : (st : State) (c : ℕ) → st.session.stopped ≡ false → (fed st c).session.stopped ≡ true → Fault (char_on errors st c)
+fault_of_lem : (st : State) (c : ℕ) → st.session.stopped ≡ false → (fed st c).session.stopped ≡ true → FaultOf (char_on errors st c)
 unfolding char_on judged_on
-fault_of_lem st c p q =
-    (st.session.line, (lines.end st.session.reader st.bytes).reader, fault_by st.session.stopped (eqb c 10) (right st) _ p (sym (fed_stopped st c) ∙ q))
+fault_of_lem st c p q = fault_by st.session.stopped (eqb c 10) (fault st) st.session.line p (sym (fed_stopped st c) ∙ q)
 
 step_fault : (x : Bool) (st : State) (c : ℕ) (cs : List ℕ) → (fed st c).session.stopped ≡ x → st.session.stopped ≡ false
-    → ((fed st c).session.stopped ≡ false → Fault (text_on errors (fed st c) cs)) → Fault (char_on errors st c ++ text_on errors (fed st c) cs)
+    → ((fed st c).session.stopped ≡ false → FaultOf (text_on errors (fed st c) cs)) → FaultOf (char_on errors st c ++ text_on errors (fed st c) cs)
 step_fault true st c cs e p ih = rw (stopped_on errors (fed st c) cs e, append-nil (char_on errors st c)) (fault_of_lem st c p e)
 step_fault false st c cs e p ih =
     rw (⊎_elim (λ (f : char_on errors st c ≡ []). f) (λ (f : (fed st c).session.stopped ≡ true). absurd (false≢true (sym e ∙ f))) (fault_last st c)) (ih e)
 
-pub one_fault : (st : State) (cs : List ℕ) → st.session.stopped ≡ false → (ran st cs).session.stopped ≡ true → Fault (text_on errors st cs)
+pub one_fault : (st : State) (cs : List ℕ) → st.session.stopped ≡ false → (ran st cs).session.stopped ≡ true → FaultOf (text_on errors st cs)
 unfolding text_on ran
 one_fault st [] p q = absurd (false≢true (sym p ∙ q))
 one_fault st (c ∷ cs) p q = step_fault (fed st c).session.stopped st c cs refl p (λ h. one_fault (fed st c) cs h q)

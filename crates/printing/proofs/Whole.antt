@@ -9,12 +9,14 @@ use native.Mathlib.Omega.{arith}
 use lib.Dec.{eqb}
 use lib.ListN.{length, take, length-append, length-take}
 use lib.Seq.{length-sets}
-use Rattle.lines.specs.declared.Reader.{Reader}
+use Rattle.std.specs.Prelude.{Option, Some, None, IfSome}
+use Rattle.std.specs.Option.{option_map_or}
+use Rattle.wording.specs.declared.Fault.{Fault}
 use Rattle.lines.specs.Reader as lines
+use Rattle.faults.specs.Faults.{fault_text}
 use Rattle.faults.proofs.Lengths.{length_fault}
 use Rattle.scene.specs.Scene.{play_of, scene_of}
-use Rattle.session.specs.declared.Session.{Session}
-use Rattle.session.specs.Run.{State, state_of, start, expected_of, fault_of, stopped_by, line_obeyed, judged, line_ended, fed, ran}
+use Rattle.session.specs.Run.{Session, State, state_of, start, stopped_by, line_obeyed, judged, line_ended, fed, ran}
 use Rattle.printing.specs.Line.{longest_line, program_room}
 use Rattle.printing.specs.Run.{judged_text, char_text, text_of, emptied_in, in_stretches, joined, Room, newlines, Cut}
 use Rattle.printing.specs.Sane.{Narrow, Sane}
@@ -28,18 +30,22 @@ sane_if : (x : Bool) (a b : State) → Sane a → Sane b → Sane (cond x a b)
 sane_if true a b p q = p
 sane_if false a b p q = q
 
+sane_by : (o : Option Fault) (a : State) (b : Fault → State) → Sane a → ((f : Fault) → Sane (b f)) → Sane (option_map_or b o a)
+sane_by None a b p q = p
+sane_by (Some f) a b p q = q f
+
 module _ (s : Session) (m h og by out : List ℕ) (k : Sane (state_of s m h og by out)) (e : lines.Read) (n : Narrow e) where
   line_sane : Sane (line_obeyed s e.reader.line m h og e.bytes out)
   unfolding line_obeyed
   line_sane = record { reading = start_narrow e.bytes n.most; line = omega arith }
 
-  stop_sane : Sane (stopped_by s e.reader m h og e.bytes out)
+  stop_sane : (f : Fault) → Sane (stopped_by s e.reader f m h og e.bytes out)
   unfolding stopped_by
-  stop_sane = record { reading = n; line = k.line }
+  stop_sane f = record { reading = n; line = k.line }
 
   judged_sane : Sane (judged s e.reader m h og e.bytes out)
   unfolding judged
-  judged_sane = sane_if (lines.is_right e.reader) _ _ line_sane stop_sane
+  judged_sane = sane_by e.reader.fault _ _ line_sane stop_sane
 
 pub fed_sane : (st : State) (c : ℕ) → Sane st → Sane (fed st c)
 unfolding fed line_ended
@@ -61,25 +67,27 @@ start_sane m h og by out l = record { reading = start_narrow by l; line = omega 
 
 -- ---- one line always fits
 
-fault_fits : (line : ℕ) (r : Reader) → line < 2 ^ 64 → r.fault.column < 2147483648 → length (fault_of line r) ≤ longest_line
-unfolding fault_of
-fault_fits line r p q = omega (arith, length_fault line r.fault.column (expected_of r.fault.wrong) p (omega arith))
+fault_fits : (line : ℕ) (f : Fault) → line < 2 ^ 64 → f.column < 2147483648 → length (fault_text line f) ≤ longest_line
+fault_fits line f p q = omega (arith, length_fault line f p (omega arith))
 
-text_by_lem : (x : Bool) (t u : List ℕ) → (x ≡ true → length t ≤ longest_line) → length u ≤ longest_line → length (cond x t u) ≤ longest_line
-text_by_lem true t u p q = p refl
-text_by_lem false t u p q = q
+-- t is what a line prints that is right, u a fault
+text_by_lem : (o : Option Fault) (t : List ℕ) (u : Fault → List ℕ) → (o ≡ None → length t ≤ longest_line) → IfSome o (λ f. f.column < 2147483648)
+    → ((f : Fault) → f.column < 2147483648 → length (u f) ≤ longest_line) → length (option_map_or u o t) ≤ longest_line
+text_by_lem None t u p n q = p refl
+text_by_lem (Some f) t u p n q = q f n
 
 judged_fits : (s : Session) (m h og : List ℕ) (e : lines.Read) → s.line < 2 ^ 64 → Narrow e
-    → (lines.is_right e.reader ≡ true → Fits e.reader.line)
+    → (e.reader.fault ≡ None → Fits e.reader.line)
     → length (judged_text s e.reader m h og e.bytes) ≤ longest_line
 unfolding judged_text
 judged_fits s m h og e l n right =
-    text_by_lem (lines.is_right e.reader) _ _
-    (λ (r : lines.is_right e.reader ≡ true).
+    text_by_lem e.reader.fault _ _
+    (λ (r : e.reader.fault ≡ None).
     let t : length (take e.reader.line.filled e.bytes) ≤ 65536 =
     rw (length-take e.reader.line.filled e.bytes) (omega (arith, n.most)) in
     line_fits e.reader.line.verb e.reader.line (take e.reader.line.filled e.bytes) (scene_of (play_of s.board 0) m h og []) t (right r))
-    (fault_fits s.line e.reader l n.fault)
+    n.fault
+    (λ f k. fault_fits s.line f l k)
 
 char_by : (x y : Bool) (t : List ℕ) → length t ≤ longest_line → length (cond x [] (cond y t [])) ≤ longest_line * cond y 1 0
 char_by true true t h = omega arith

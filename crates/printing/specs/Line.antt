@@ -1,5 +1,5 @@
 -- What a line prints, where there is room for it: docs/replay.md, "Lines" and "Answers". Assumes nothing.
-use Rattle.std.specs.Prelude.{List, [], ◌++◌, ℕ, zero, suc, ◌*◌, ◌%◌}
+use Rattle.std.specs.Prelude.{List, [], ◌++◌, ℕ, zero, suc, ◌*◌, ◌%◌, Option, Some, None}
 use Rattle.board.specs.Board.{Call, reset, attention, arrive, turn, run, on_board, is_high}
 use Rattle.wording.specs.declared.Line.{Line}
 use Rattle.wording.specs.declared.Verb.{Verb}
@@ -24,22 +24,22 @@ longest_line = 65535 * longest_answer
 abbrev pub program_room : ℕ
 program_room = 65536 * longest_answer
 
--- own: the bytes or the text that the line brought
-unfoldable pub line_text : Verb → Line → List ℕ → Scene → List ℕ
-line_text verb.Nothing l own s = []
-line_text verb.Size l own s = []
-line_text verb.Reset l own s = call_text reset s
-line_text verb.Attention l own s = call_text attention s
-line_text verb.Arrival l own s = call_text (arrive own (l.first % many)) s
-line_text verb.Turn l own s = turns_text (turn_count l) (l.second % 65536) s
-line_text verb.Run l own s = call_text (run (l.second % 65536) (turn_count l)) s
-line_text verb.Bytes l own s = []
-line_text verb.Words l own s = []
-line_text verb.Show l own s = shown l.area s.memory s.holding s.outgoing (l.first % many) (l.second % many)
-line_text verb.Look l own s = looked l.area s.memory s.holding s.outgoing (l.first % many) (l.second % many)
-line_text verb.Interrupt l own s = interrupt_text (is_high s.play.board)
-line_text verb.Record l own s = record_text s.play.board
-line_text verb.Say l own s = say_text own
+-- a line with no verb prints nothing; own: the bytes or the text that the line brought
+unfoldable pub line_text : Option Verb → Line → List ℕ → Scene → List ℕ
+line_text None l own s = []
+line_text (Some verb.Size) l own s = []
+line_text (Some verb.Reset) l own s = call_text reset s
+line_text (Some verb.Attention) l own s = call_text attention s
+line_text (Some verb.Arrival) l own s = call_text (arrive own (l.first % many)) s
+line_text (Some verb.Turn) l own s = turns_text (turn_count l) (l.second % 65536) s
+line_text (Some verb.Run) l own s = call_text (run (l.second % 65536) (turn_count l)) s
+line_text (Some verb.Bytes) l own s = []
+line_text (Some verb.Words) l own s = []
+line_text (Some verb.Show) l own s = shown l.area s.memory s.holding s.outgoing (l.first % many) (l.second % many)
+line_text (Some verb.Look) l own s = looked l.area s.memory s.holding s.outgoing (l.first % many) (l.second % many)
+line_text (Some verb.Interrupt) l own s = interrupt_text (is_high s.play.board)
+line_text (Some verb.Record) l own s = record_text s.play.board
+line_text (Some verb.Say) l own s = say_text own
 
 -- a scene apart from what was printed
 abbrev pub quiet : Scene → Scene

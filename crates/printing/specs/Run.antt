@@ -1,19 +1,19 @@
 -- What a run prints in all, and how the program writes it out: docs/replay.md. Assumes nothing.
 use Rattle.std.specs.Prelude.{cond, List, [], ◌∷◌, ◌++◌, ℕ, ◌+◌, ◌≤◌, eqb, length, take}
+use Rattle.std.specs.Option.{option_map_or}
 use Rattle.lines.specs.declared.Reader.{Reader}
 use Rattle.lines.specs.Reader as lines
+use Rattle.faults.specs.Faults.{fault_text}
 use Rattle.scene.specs.Scene.{play_of, scene_of}
 use Rattle.printing.specs.Line.{line_text}
-use Rattle.session.specs.declared.Session.{Session}
-use Rattle.session.specs.Run.{State, state_of, emptied, fault_of, fed, ran}
+use Rattle.session.specs.Run.{Session, State, state_of, emptied, fed, ran}
 
 -- ---- what is printed, where there is room for it
 
 -- a line that has been read to its end prints its text, or its fault
 unfoldable pub judged_text : Session → Reader → List ℕ → List ℕ → List ℕ → List ℕ → List ℕ
 judged_text s r m h og by =
-    cond (lines.is_right r) (line_text r.line.verb r.line (take r.line.filled by) (scene_of (play_of s.board 0) m h og []))
-    (fault_of s.line r)
+    option_map_or (fault_text s.line) r.fault (line_text r.line.verb r.line (take r.line.filled by) (scene_of (play_of s.board 0) m h og []))
 
 abbrev pub end_text_by : State → lines.Read → List ℕ
 end_text_by st e = judged_text st.session e.reader st.memory st.holding st.outgoing e.bytes

@@ -1,5 +1,5 @@
 -- What every character and every line keep: a reader whose numbers are small. Assumes nothing.
-use Rattle.std.specs.Prelude.{◌<◌, ◌≤◌, ◌^◌, length}
+use Rattle.std.specs.Prelude.{◌<◌, ◌≤◌, ◌^◌, length, IfSome}
 use Rattle.lines.specs.Reader as lines
 use Rattle.session.specs.Run.{State}
 
@@ -9,7 +9,7 @@ pub record Narrow (e : lines.Read) : Type 0 where
   pub behind : e.reader.behind < 2147483648
   pub start : e.reader.word.start < 2147483648
   pub placed : e.reader.line.placed < 2147483648
-  pub fault : e.reader.fault.column < 2147483648
+  pub fault : IfSome e.reader.fault (λ f. f.column < 2147483648)
   pub most : length e.bytes ≤ 65536
 
 -- a state that a run can be in

@@ -1,12 +1,13 @@
 -- Which stream has what of that which a run prints: docs/replay.md, "Bad input". Assumes nothing.
 use Rattle.std.specs.Prelude.{cond, List, [], ◌∷◌, ◌++◌, ℕ, eqb, take}
+use Rattle.std.specs.Option.{option_map_or}
 use Rattle.lines.specs.declared.Reader.{Reader}
 use Rattle.lines.specs.Reader as lines
+use Rattle.faults.specs.Faults.{fault_text}
 use Rattle.scene.specs.Scene.{play_of, scene_of}
 use Rattle.printing.specs.Line.{line_text}
 use Rattle.printing.specs.Run.{emptied_in, written}
-use Rattle.session.specs.declared.Session.{Session}
-use Rattle.session.specs.Run.{State, fault_of, fed, ran}
+use Rattle.session.specs.Run.{Session, State, fed, ran}
 
 -- standard output and the error stream
 pub data Stream : Type 0 where
@@ -18,8 +19,8 @@ pub data Stream : Type 0 where
 -- a line that is right prints its text on standard output, one that is wrong its fault on the error stream
 unfoldable pub judged_on : Stream → Session → Reader → List ℕ → List ℕ → List ℕ → List ℕ → List ℕ
 judged_on output s r m h og by =
-    cond (lines.is_right r) (line_text r.line.verb r.line (take r.line.filled by) (scene_of (play_of s.board 0) m h og [])) []
-judged_on errors s r m h og by = cond (lines.is_right r) [] (fault_of s.line r)
+    option_map_or (λ f. []) r.fault (line_text r.line.verb r.line (take r.line.filled by) (scene_of (play_of s.board 0) m h og []))
+judged_on errors s r m h og by = option_map_or (fault_text s.line) r.fault []
 
 abbrev pub end_on_by : Stream → State → lines.Read → List ℕ
 end_on_by v st e = judged_on v st.session e.reader st.memory st.holding st.outgoing e.bytes

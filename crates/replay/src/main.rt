@@ -7,6 +7,7 @@
 ghost use Rattle.std.specs.Prelude.{◌≡◌, length};
 ghost use Rattle.printing.specs.Line.{program_room};
 
+use board::Areas;
 use session::Session;
 use std::env::{Env, FillError};
 use std::io::{Read, Write};
@@ -16,21 +17,17 @@ use stretches::{Streams, Stretches};
 // A piece of input, line by line.
 fn run_lines<O: Write, E: Write>(
     streams: &mut Streams<O, E>,
-    s: Session,
-    memory: &mut [u8],
-    holding: &mut [u8],
-    outgoing: &mut [u8],
-    bytes: &mut [u8],
+    session: &mut Session<'_>,
     piece: &[u8],
-    out: &mut [u8],
-) -> Session {
-    let mut t = s;
+) {
     for stretch in Stretches(piece) {
-        t = running::run_stretch(t, memory, holding, outgoing, bytes, stretch, out);
-        t = streams.write_out(t, out);
+        running::run_stretch(session, stretch);
+        streams.write_out(session);
     }
-    t
 }
+
+// How many bytes are read at a time.
+const PIECE: usize = 4096;
 
 // All of the input, piece by piece. A proved loop has to end, and nothing says that a file does: the loop has a number of turns that no run uses
 // up. The last line needs no newline: behind the end of the input is one. Where it cannot be read there is none: a line that is not there whole is
@@ -38,19 +35,13 @@ fn run_lines<O: Write, E: Write>(
 fn run_pieces<R: Read, O: Write, E: Write>(
     streams: &mut Streams<O, E>,
     list: &mut R,
-    memory: &mut [u8],
-    holding: &mut [u8],
-    outgoing: &mut [u8],
-    bytes: &mut [u8],
-    out: &mut [u8],
+    session: &mut Session<'_>,
 ) -> io::Result<()> {
-    let mut input = [0u8; 4096];
-    let mut s = session::start();
+    let mut input = [0; PIECE];
     for _ in 0..u64::MAX {
         let piece = stretches::read_piece(list, &mut input)?;
-        let lines = piece.unwrap_or(b"\n");
-        s = run_lines(streams, s, memory, holding, outgoing, bytes, lines, out);
-        if piece.is_none() || s.stopped {
+        run_lines(streams, session, piece.unwrap_or(b"\n"));
+        if piece.is_none() || session.stopped {
             break;
         }
     }
@@ -66,22 +57,28 @@ fn room() -> [u8; ROOM]
     [0; ROOM]
 }
 
+// How many bytes each area has, and how many a line may bring.
+const MEMORY: usize = 1 << 16;
+
+const HOLDING: usize = 2048;
+
+const OUTGOING: usize = 2048;
+
+const BYTES: usize = 1 << 16;
+
 fn run_list<R: Read, O: Write, E: Write>(streams: &mut Streams<O, E>, list: &mut R) {
-    let mut memory = [0u8; 65536];
-    let mut holding = [0u8; 2048];
-    let mut outgoing = [0u8; 2048];
-    let mut bytes = [0u8; 65536];
+    let mut memory = [0; MEMORY];
+    let mut holding = [0; HOLDING];
+    let mut outgoing = [0; OUTGOING];
+    let mut bytes = [0; BYTES];
     let mut out = room();
-    let run = run_pieces(
-        streams,
-        list,
-        &mut memory,
-        &mut holding,
-        &mut outgoing,
-        &mut bytes,
-        &mut out,
-    );
-    if let Err(error) = run {
+    let areas = Areas {
+        memory: &mut memory,
+        holding: &mut holding,
+        outgoing: &mut outgoing,
+    };
+    let mut session = session::start(areas, &mut bytes, &mut out);
+    if let Err(error) = run_pieces(streams, list, &mut session) {
         streams.fail("the list", error);
     }
 }

@@ -1,118 +1,71 @@
 // A run of the replay program: characters are read, and at each line's end what was read is obeyed. docs/replay.md has the forms. A session
-// goes in and comes out, so a run in stretches is a run of the whole. It takes every session, slices of every length, and a stretch in which
+// is changed in place, so a run in stretches is a run of the whole. It takes every session, slices of every length, and a stretch in which
 // at most one line ends.
 
 #![tactic(auto)]
 
-ghost use Rattle.std.specs.Prelude.{◌≤◌};
-ghost use Rattle.session.specs.Run.{Runs};
+ghost use Rattle.std.specs.Prelude.{◌≤◌, take};
+ghost use Rattle.scene.specs.Scene.{Plays, obeyed};
+ghost use Rattle.session.specs.Held.{Runs};
 ghost use Rattle.session.specs.Run as run;
 ghost use Rattle.printing.specs.Run.{newlines, emptied_in};
 
-use lines::Reader;
+use scene::Scene;
 use session::Session;
+use wording::Line;
 
-// A line that has been read to its end: it is obeyed, or its fault is printed.
-fn judge(
-    s: Session,
-    reader: Reader,
-    memory: &mut [u8],
-    holding: &mut [u8],
-    outgoing: &mut [u8],
-    bytes: &[u8],
-    out: &mut [u8],
-) -> Session
-    ensures { Runs (run.judged s reader
-        memory.old holding.old outgoing.old bytes.now out.old)
-        result memory.new holding.new outgoing.new bytes.now out.new }
+// A line is obeyed, with as many bytes as it has brought of those that are there.
+fn obey(scene: &mut Scene<'_>, line: Line, bytes: &[u8])
+    ensures { Plays (obeyed line.verb line (take line.filled bytes.now)) scene.old scene.new }
 {
-    if lines::is_right(reader) {
-        let line = reader.line;
-        let verb = line.verb;
-        let b = s.board;
-        let n = session::own_length(line.filled, bytes.len());
-        let p = calling::obey(
-            verb,
-            line,
-            scene::play_of(b, s.at),
-            memory,
-            holding,
-            outgoing,
-            &bytes[..n],
-            out,
-        );
-        return session::next_line(s, p);
-    }
-    session::stop(s, reader, out)
+    let n = (line.filled as usize).min(bytes.len());
+    calling::obey(scene, line, &bytes[..n]);
 }
 
-// A character.
-fn feed(
-    s: Session,
-    memory: &mut [u8],
-    holding: &mut [u8],
-    outgoing: &mut [u8],
-    bytes: &mut [u8],
-    c: u8,
-    out: &mut [u8],
-) -> Session
-    ensures { Runs (run.fed (run.state_of s
-        memory.old holding.old outgoing.old bytes.old out.old) c)
-        result memory.new holding.new outgoing.new bytes.new out.new }
+// A line that has been read to its end: it is obeyed, or its fault is printed.
+fn judge(session: &mut Session<'_>)
+    ensures { Runs run.judged_in session.old session.new }
 {
-    let reader = session::read_on(s, bytes, c);
-    if session::ends_line(s, c) {
-        return judge(s, reader, memory, holding, outgoing, bytes, out);
+    if let Some(fault) = session.reader.fault {
+        session.stop(fault);
+        return;
     }
-    session::with_reader(s, reader)
+    let bytes = &mut *session.bytes;
+    obey(&mut session.scene, session.reader.line, bytes);
+    session.line = session.line.wrapping_add(1);
+    session.reader = lines::start();
+}
+
+// A character: after bad input nothing more is read or done.
+fn feed(session: &mut Session<'_>, c: u8)
+    ensures { Runs (λ st. run.fed st c) session.old session.new }
+{
+    if session.stopped {
+        return;
+    }
+    if c == b'\n' {
+        session.reader = lines::end(session.bytes, session.reader);
+        judge(session);
+        return;
+    }
+    session.reader = lines::read(session.bytes, session.reader, c);
 }
 
 // A stretch of input.
-fn run(
-    s: Session,
-    memory: &mut [u8],
-    holding: &mut [u8],
-    outgoing: &mut [u8],
-    bytes: &mut [u8],
-    input: &[u8],
-    out: &mut [u8],
-) -> Session
-    ensures { Runs (run.ran (run.state_of s
-        memory.old holding.old outgoing.old bytes.old out.old) input.now)
-        result memory.new holding.new outgoing.new bytes.new out.new }
+fn run(session: &mut Session<'_>, input: &[u8])
+    ensures { Runs (λ st. run.ran st input.now) session.old session.new }
 {
-    let mut t = s;
-    let mut i: usize = 0;
-    while i < input.len() {
-        t = feed(t, memory, holding, outgoing, bytes, input[i], out);
-        i += 1;
+    for c in input {
+        feed(session, *c);
     }
-    t
 }
 
 // A stretch of input is run, and what it prints stands in the slice for texts, from its beginning on. There is room for what any one line
 // prints: `one_line_fits` in the room `printing`, where this is a step of `in_stretches`.
-pub fn run_stretch(
-    s: Session,
-    memory: &mut [u8],
-    holding: &mut [u8],
-    outgoing: &mut [u8],
-    bytes: &mut [u8],
-    input: &[u8],
-    out: &mut [u8],
-) -> Session
+pub fn run_stretch(session: &mut Session<'_>, input: &[u8])
     requires { newlines input.now ≤ 1 }
-    ensures { Runs (run.ran (emptied_in (run.state_of s
-        memory.old holding.old outgoing.old bytes.old out.old)) input.now)
-        result memory.new holding.new outgoing.new bytes.new out.new }
+    ensures { Runs (λ st. run.ran (emptied_in st) input.now) session.old session.new }
 {
-    run(
-        session::emptied(s),
-        memory,
-        holding,
-        outgoing,
-        bytes,
-        input,
-        out,
-    )
+    session.scene.page.at = 0;
+    run(session, input);
 }

@@ -1,73 +1,96 @@
--- What the proofs of the scene share: scenes that are what is said, calls one by one, the verbs as the code parts them. Assumes nothing.
-use mathlib.Core.Path.{◌≡◌, refl, ap, subst, ◌∙◌}
-use mathlib.Core.List.{List, []}
+-- What the proofs of the scene share: a text that is printed, areas that are written, one thing after another, the verbs as the code parts them.
+-- Assumes nothing.
+use mathlib.Core.Path.{◌≡◌, refl, sym, ap, ◌∙◌}
+use mathlib.Core.List.{List}
+use mathlib.Core.Logic.{◌⊎◌, inl, inr}
 use Prim.Native.Nat.{ℕ, zero, suc, ◌+◌, ◌%◌}
 use native.Mathlib.Omega.{arith}
-use Rattle.board.specs.declared.Said.{Said}
-use Rattle.board.specs.Board.{Call, turn, call_of, Left, left_as, on_board, Leaves}
+use Rattle.board.specs.declared.Areas.{Areas as Lent}
+use Rattle.board.specs.declared.Asked.{Asked}
+use Rattle.board.specs.declared.Board.{Board}
+use Rattle.board.specs.declared.Returned.{Returned}
+use Rattle.board.specs.Board.{Call, turn, call_of, left_as, said_of, Leaves}
+use Rattle.wording.specs.declared.Area.{Area}
+use Rattle.wording.specs.declared.Area.TheVariants as area
 use Rattle.wording.specs.declared.Line.{Line}
 use Rattle.wording.specs.declared.Verb.{Verb}
 use Rattle.wording.specs.declared.Verb.TheVariants as verb
-use Rattle.texts.specs.Texts.{Puts}
-use Rattle.scene.specs.declared.Play.{Play}
-use Rattle.scene.specs.declared.Deed.{Deed}
-use Rattle.scene.specs.Scene.{Scene, play_of, scene_of, Plays, behind, printed, tell_by, called, turns_of, turn_count, obeyed, deed_of, calls_of, text_by, host_by, done_by}
+use Rattle.std.proofs.Common.{Option, Some, None}
+use Rattle.texts.specs.declared.Page.{Page}
+use Rattle.texts.specs.declared.Unit.{Unit}
+use Rattle.texts.specs.declared.Unit.TheVariants as unit
+use Rattle.texts.specs.Units.{stretch}
+use Rattle.texts.specs.Page.{Prints}
+use Rattle.texts.specs.Texts.{answer_text}
+use Rattle.scene.specs.declared.Scene.{Scene as Held}
+use Rattle.scene.specs.Scene.{Scene, play_of, scene_of, scene_in, Plays, behind, printed, tell_by, called, turns_of, turn_count, areas_of, Writes, with_areas, wrote, shown, looked, obeyed, asked_by, calls_of, named, stretch_by, hosted, done_by}
 
--- ---- what was left is what is said
-
-left_is : (l : Left) (s : Said) (m h og : List ℕ) → Leaves l s m h og → left_as s m h og ≡ l
-left_is l s m h og e = λ i. record { said = e.said i; memory = e.memory i; holding = e.holding i; outgoing = e.outgoing i }
-
-scene_is : (c : Scene) (p : Play) (m h og o : List ℕ) → Plays c p m h og o → scene_of p m h og o ≡ c
-scene_is c p m h og o e = λ i. record { play = e.play i; memory = e.memory i; holding = e.holding i; outgoing = e.outgoing i; out = e.out i }
-
--- an answer that is told of what a call left
-told : (l : Left) (s : Said) (m h og : List ℕ) (at : ℕ) (out : List ℕ) (p : Play) (o : List ℕ) → Leaves l s m h og
-    → Plays (tell_by at out (left_as s m h og)) p m h og o
-    → Plays (tell_by at out l) p m h og o
-told l s m h og at out p o e t = subst (λ (x : Left). Plays (tell_by at out x) p m h og o) (left_is l s m h og e) t
-
--- a call that was made and whose answer was told
-pub call_told : (c : Call) (p : Play) (m h og out : List ℕ) (s : Said) (m' h' og' : List ℕ) (q : Play) (o : List ℕ)
-    → Leaves (on_board c p.board m h og) s m' h' og'
-    → Plays (tell_by p.at out (left_as s m' h' og')) q m' h' og' o
-    → Plays (called c (scene_of p m h og out)) q m' h' og' o
-unfolding called
-call_told c p m h og out s m' h' og' q o e t = told (on_board c p.board m h og) s m' h' og' p.at out q o e t
+-- ---- what is left of the scene
 
 -- a text that is printed
-pub prints : (text : List ℕ) (p : Play) (m h og out : List ℕ) (r : ℕ) (o : List ℕ) (q : Play) → Puts text p.at out r o → q ≡ play_of p.board r
-    → Plays (printed text (scene_of p m h og out)) q m h og o
-prints text p m h og out r o q x e =
-    record { play = e ∙ ap (play_of p.board) x.next; memory = refl; holding = refl; outgoing = refl; out = x.bytes }
+pub prints : (text : List ℕ) (c : Held) (q : Page) → Prints text c.page q
+    → Plays (printed text) c (record { board = c.board; areas = c.areas; page = q })
+prints text c q p = (
+  ((refl, refl, refl), p.0),
+  (λ i. scene_of (play_of c.board (p.1.next i)) c.areas.memory.now c.areas.holding.now c.areas.outgoing.now (p.1.bytes i)),
+)
 
--- ---- calls, one by one
+-- a call that was made, and whose answer was printed
+pub call_told : (x : Call) (c : Held) (r : Returned) (q : Lent) (g : Page) → Leaves x c.board c.areas r q → Prints (answer_text r.answer) c.page g
+    → Plays (called x) c (record { board = record { kept = r.kept; size = c.board.size }; areas = q; page = g })
+unfolding called
+call_told x c r q g l t =
+    let b : Board = record { kept = r.kept; size = c.board.size } in
+    let told : scene_of (play_of b g.at) q.memory.now q.holding.now q.outgoing.now g.out.now
+    ≡ tell_by c.page.at c.page.out.now (left_as (said_of c.board r.kept r.answer) q.memory.now q.holding.now q.outgoing.now) =
+    λ i. scene_of (play_of b (t.1.next i)) q.memory.now q.holding.now q.outgoing.now (t.1.bytes i) in
+    ((l.0, t.0), told ∙ ap (tell_by c.page.at c.page.out.now) l.1)
 
-pub no_calls : (x : Call) (p : Play) (m h og o : List ℕ) → Plays (calls_of 0 x (scene_of p m h og o)) p m h og o
+-- areas that are written
+pub writes : (l : Line) (own : List ℕ) (c : Held) (q : Lent) → Writes l.area l.first own c.areas q
+    → Plays (wrote l own) c (record { board = c.board; areas = q; page = c.page })
+writes l own c q w = ((w.0, refl), ap (with_areas (scene_in c)) w.1)
+
+-- a stretch of the area that is named
+pub stretch_named : (u : Unit) (a : Area) (m h og : List ℕ) (place count : ℕ)
+    → stretch u (named a (areas_of m h og)) place count ≡ stretch_by u a m h og place count
+unfolding shown looked
+stretch_named unit.Byte area.Memory m h og place count = refl
+stretch_named unit.Byte area.Holding m h og place count = refl
+stretch_named unit.Byte area.Outgoing m h og place count = refl
+stretch_named unit.Word area.Memory m h og place count = refl
+stretch_named unit.Word area.Holding m h og place count = refl
+stretch_named unit.Word area.Outgoing m h og place count = refl
+
+-- ---- one thing after another
+
+pub still : (c : Held) → Plays (λ s. s) c c
+still c = (((refl, refl, refl), refl), refl)
+
+pub in_turn : (f g : Scene → Scene) (c d e : Held) → Plays f c d → Plays g d e → Plays (λ s. g (f s)) c e
+in_turn f g c d e p q =
+    (((q.0.0.0 ∙ p.0.0.0, q.0.0.1 ∙ p.0.0.1, q.0.0.2 ∙ p.0.0.2), q.0.1 ∙ p.0.1), q.1 ∙ ap g p.1)
+
+-- the same in other words
+pub plays_is : (f g : Scene → Scene) (c d : Held) → f (scene_in c) ≡ g (scene_in c) → Plays f c d → Plays g c d
+plays_is f g c d e p = (p.0, p.1 ∙ e)
+
+-- calls, one by one
+pub no_calls : (x : Call) (c : Held) → Plays (calls_of 0 x) c c
 unfolding calls_of
-no_calls x p m h og o = record { play = refl; memory = refl; holding = refl; outgoing = refl; out = refl }
+no_calls x c = still c
 
-suc_calls : (i : ℕ) (x : Call) (c : Scene) (p : Play) (m h og o : List ℕ) (q : Play) (m' h' og' o' : List ℕ) → Plays (calls_of i x c) p m h og o
-    → Plays (called x (scene_of p m h og o)) q m' h' og' o'
-    → Plays (calls_of (suc i) x c) q m' h' og' o'
+suc_calls : (i : ℕ) (x : Call) (s : Scene) → called x (calls_of i x s) ≡ calls_of (suc i) x s
 unfolding calls_of
-suc_calls i x c p m h og o q m' h' og' o' e t =
-    subst (λ (y : Scene). Plays (called x y) q m' h' og' o') (scene_is (calls_of i x c) p m h og o e) t
+suc_calls i x s = refl
 
-pub more_calls : (i : ℕ) (x : Call) (c : Scene) (p : Play) (m h og o : List ℕ) (q : Play) (m' h' og' o' : List ℕ) → Plays (calls_of i x c) p m h og o
-    → Plays (called x (scene_of p m h og o)) q m' h' og' o'
-    → Plays (calls_of (i + 1) x c) q m' h' og' o'
-more_calls i x c p m h og o q m' h' og' o' e t =
+pub more_calls : (i : ℕ) (x : Call) (c d e : Held) → Plays (calls_of i x) c d → Plays (called x) d e → Plays (calls_of (i + 1) x) c e
+more_calls i x c d e p q =
     let n : suc i ≡ i + 1 = omega arith in
-    subst (λ (k : ℕ). Plays (calls_of k x c) q m' h' og' o') n (suc_calls i x c p m h og o q m' h' og' o' e t)
+    plays_is (λ s. called x (calls_of i x s)) (calls_of (i + 1) x) c e (suc_calls i x (scene_in c) ∙ ap (λ k. calls_of k x (scene_in c)) n)
+    (in_turn (calls_of i x) (called x) c d e p q)
 
 -- ---- the verbs, parted as the code parts them
-
--- where nothing is said nothing is printed
-nothing_printed : (s : Scene) → printed [] s ≡ s
-nothing_printed s =
-    let e : behind [] s.play.at s.out ≡ s.play.at = omega arith in
-    ap (λ (k : ℕ). scene_of (play_of s.play.board k) s.memory s.holding s.outgoing s.out) e
 
 -- turns are calls
 turns_made : (n report : ℕ) (s : Scene) → calls_of n (turn report) s ≡ turns_of n report s
@@ -75,9 +98,8 @@ unfolding calls_of turns_of
 turns_made zero report s = refl
 turns_made (suc n) report s = ap (called (turn report)) (turns_made n report s)
 
-pub all_done : (v : Verb) (l : Line) (own : List ℕ) (s : Scene) → done_by (deed_of v) v l own s ≡ obeyed v l own s
-unfolding call_of calls_of host_by text_by obeyed
-all_done verb.Nothing l own s = nothing_printed s
+all_done : (v : Verb) (l : Line) (own : List ℕ) (s : Scene) → done_by (asked_by v l) v l own s ≡ obeyed (Some v) l own s
+unfolding call_of calls_of hosted obeyed
 all_done verb.Size l own s = refl
 all_done verb.Reset l own s = refl
 all_done verb.Attention l own s = refl
@@ -92,8 +114,26 @@ all_done verb.Interrupt l own s = refl
 all_done verb.Record l own s = refl
 all_done verb.Say l own s = refl
 
--- what was done by a line's deed is what the line does
-pub obeys : (v : Verb) (l : Line) (own : List ℕ) (s : Scene) (d : Deed) (p : Play) (m h og o : List ℕ) → d ≡ deed_of v → Plays (done_by d v l own s) p m h og o
-    → Plays (obeyed v l own s) p m h og o
-obeys v l own s d p m h og o e t =
-    subst (λ (x : Scene). Plays x p m h og o) (ap (λ (x : Deed). done_by x v l own s) e ∙ all_done v l own s) t
+-- the host does nothing for a line that makes a call
+pub calls_alone : (v : Verb) (l : Line) (own : List ℕ) (s : Scene)
+    → (v ≡ verb.Reset) ⊎ ((v ≡ verb.Attention) ⊎ ((v ≡ verb.Arrival) ⊎ ((v ≡ verb.Turn) ⊎ (v ≡ verb.Run)))) → s ≡ hosted v l own s
+unfolding hosted
+calls_alone v l own s (inl e) = rw e refl
+calls_alone v l own s (inr (inl e)) = rw e refl
+calls_alone v l own s (inr (inr (inl e))) = rw e refl
+calls_alone v l own s (inr (inr (inr (inl e)))) = rw e refl
+calls_alone v l own s (inr (inr (inr (inr e)))) = rw e refl
+
+-- what was done by the call that a line asks for, or by the host, is what the line does
+pub obeys : (o : Option Verb) (v : Verb) (l : Line) (own : List ℕ) (a : Option Asked) (c d : Held) → o ≡ Some v → a ≡ asked_by v l
+    → Plays (done_by a v l own) c d
+    → Plays (obeyed o l own) c d
+obeys o v l own a c d w e p =
+    plays_is (done_by a v l own) (obeyed o l own) c d
+    (ap (λ (x : Option Asked). done_by x v l own (scene_in c)) e ∙ all_done v l own (scene_in c) ∙ ap (λ (x : Option Verb). obeyed x l own (scene_in c)) (sym w))
+    p
+
+-- a line with no verb
+pub obeys_none : (o : Option Verb) (l : Line) (own : List ℕ) (c : Held) → o ≡ None → Plays (obeyed o l own) c c
+unfolding obeyed
+obeys_none o l own c w = rw w (still c)

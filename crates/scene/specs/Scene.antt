@@ -1,11 +1,12 @@
 -- What a line does and prints: docs/replay.md, "Lines" and "Answers". Assumes nothing.
-use Rattle.std.specs.Prelude.{◌≡◌, cond, List, [], ◌∷◌, ◌++◌, ℕ, zero, suc, ◌+◌, ◌-◌, ◌%◌, min, eqb, length}
+use Rattle.std.specs.Prelude.{◌≡◌, cond, List, [], ◌∷◌, ◌++◌, ℕ, zero, suc, ◌+◌, ◌-◌, ◌%◌, min, eqb, length, Option, Some, None}
 use Rattle.std.proofs.lemmas.List.Edits.{sets}
 use Rattle.device.specs.Limits.{record_size}
 use Rattle.board.specs.declared.Board.{Board}
-use Rattle.board.specs.declared.Which.{Which}
-use Rattle.board.specs.declared.Which.TheVariants as which
+use Rattle.board.specs.declared.Areas.{Areas as Lent}
 use Rattle.board.specs.declared.Asked.{Asked}
+use Rattle.board.specs.declared.Asked.TheVariants as asked
+use Rattle.board.specs.Front as front
 use Rattle.board.specs.Board.{Call, reset, attention, arrive, turn, run, call_of, Left, on_board, resized, is_high}
 use Rattle.wording.specs.declared.Area.{Area}
 use Rattle.wording.specs.declared.Area.TheVariants as area
@@ -13,13 +14,16 @@ use Rattle.wording.specs.declared.Line.{Line}
 use Rattle.wording.specs.declared.Verb.{Verb}
 use Rattle.wording.specs.declared.Verb.TheVariants as verb
 use Rattle.texts.specs.Texts.{answer_text, interrupt_text, show_text, look_text}
-use Rattle.scene.specs.declared.Play.{Play}
-use Rattle.scene.specs.declared.Part.{Part}
-use Rattle.scene.specs.declared.Part.TheVariants as part
-use Rattle.scene.specs.declared.Deed.{Deed}
-use Rattle.scene.specs.declared.Deed.TheVariants as deed
+use Rattle.texts.specs.declared.Unit.{Unit}
+use Rattle.texts.specs.declared.Unit.TheVariants as unit
+use Rattle.scene.specs.declared.Scene.{Scene as Held}
 
 -- ---- the scene
+
+-- the board, and where the next text goes
+pub record Play : Type 0 where
+  pub board : Board
+  pub at : ℕ
 
 abbrev pub play_of : Board → ℕ → Play
 play_of b at = record { board = b; at = at }
@@ -35,13 +39,19 @@ pub record Scene : Type 0 where
 abbrev pub scene_of : Play → List ℕ → List ℕ → List ℕ → List ℕ → Scene
 scene_of p m h og out = record { play = p; memory = m; holding = h; outgoing = og; out = out }
 
+-- ---- the scene as the code holds it
+
+abbrev pub scene_in : Held → Scene
+scene_in c =
+    scene_of (play_of c.board c.page.at) c.areas.memory.now c.areas.holding.now c.areas.outgoing.now c.page.out.now
+
+-- each slice is the borrow that it was
+abbrev pub Stays : Held → Held → Type 0
+Stays c d = front.Stays c.areas d.areas × (d.page.out.ghost_name ≡ c.page.out.ghost_name)
+
 -- what the code does
-pub record Plays (said : Scene) (p : Play) (m h og o : List ℕ) : Type 0 where
-  pub play : p ≡ said.play
-  pub memory : m ≡ said.memory
-  pub holding : h ≡ said.holding
-  pub outgoing : og ≡ said.outgoing
-  pub out : o ≡ said.out
+abbrev pub Plays : (Scene → Scene) → Held → Held → Type 0
+Plays says c d = Stays c d × (scene_in d ≡ says (scene_in c))
 
 -- ---- printing
 
@@ -84,16 +94,19 @@ pub record Areas : Type 0 where
 abbrev pub areas_of : List ℕ → List ℕ → List ℕ → Areas
 areas_of m h og = record { memory = m; holding = h; outgoing = og }
 
-pub record Writes (said : Areas) (m h og : List ℕ) : Type 0 where
-  pub memory : m ≡ said.memory
-  pub holding : h ≡ said.holding
-  pub outgoing : og ≡ said.outgoing
-
 -- the bytes go to the area from its place on
 unfoldable pub areas_by : Area → List ℕ → List ℕ → List ℕ → ℕ → List ℕ → Areas
 areas_by area.Memory m h og place own = areas_of (sets m place own) h og
 areas_by area.Holding m h og place own = areas_of m (sets h place own) og
 areas_by area.Outgoing m h og place own = areas_of m h (sets og place own)
+
+-- the areas that the code holds, and what it writes to them
+abbrev pub areas_in : Lent → Areas
+areas_in p = areas_of p.memory.now p.holding.now p.outgoing.now
+
+abbrev pub Writes : Area → ℕ → List ℕ → Lent → Lent → Type 0
+Writes a place own p q =
+    front.Stays p q × (areas_in q ≡ areas_by a p.memory.now p.holding.now p.outgoing.now place own)
 
 abbrev pub with_areas : Scene → Areas → Scene
 with_areas s a = scene_of s.play a.memory a.holding a.outgoing s.out
@@ -127,79 +140,73 @@ say_text own = own ++ (10 ∷ [])
 abbrev pub many : ℕ
 many = 4294967296
 
--- own: the bytes or the text that the line brought
-unfoldable pub obeyed : Verb → Line → List ℕ → Scene → Scene
-obeyed verb.Nothing l own s = s
-obeyed verb.Size l own s = scene_of (play_of (resized s.play.board l.first) s.play.at) s.memory s.holding s.outgoing s.out
-obeyed verb.Reset l own s = called reset s
-obeyed verb.Attention l own s = called attention s
-obeyed verb.Arrival l own s = called (arrive own (l.first % many)) s
-obeyed verb.Turn l own s = turns_of (turn_count l) (l.second % 65536) s
-obeyed verb.Run l own s = called (run (l.second % 65536) (turn_count l)) s
-obeyed verb.Bytes l own s = wrote l own s
-obeyed verb.Words l own s = wrote l own s
-obeyed verb.Show l own s = printed (shown l.area s.memory s.holding s.outgoing (l.first % many) (l.second % many)) s
-obeyed verb.Look l own s = printed (looked l.area s.memory s.holding s.outgoing (l.first % many) (l.second % many)) s
-obeyed verb.Interrupt l own s = printed (interrupt_text (is_high s.play.board)) s
-obeyed verb.Record l own s = printed (record_text s.play.board) s
-obeyed verb.Say l own s = printed (say_text own) s
+-- a line with no verb does nothing; own: the bytes or the text that the line brought
+unfoldable pub obeyed : Option Verb → Line → List ℕ → Scene → Scene
+obeyed None l own s = s
+obeyed (Some verb.Size) l own s = scene_of (play_of (resized s.play.board l.first) s.play.at) s.memory s.holding s.outgoing s.out
+obeyed (Some verb.Reset) l own s = called reset s
+obeyed (Some verb.Attention) l own s = called attention s
+obeyed (Some verb.Arrival) l own s = called (arrive own (l.first % many)) s
+obeyed (Some verb.Turn) l own s = turns_of (turn_count l) (l.second % 65536) s
+obeyed (Some verb.Run) l own s = called (run (l.second % 65536) (turn_count l)) s
+obeyed (Some verb.Bytes) l own s = wrote l own s
+obeyed (Some verb.Words) l own s = wrote l own s
+obeyed (Some verb.Show) l own s = printed (shown l.area s.memory s.holding s.outgoing (l.first % many) (l.second % many)) s
+obeyed (Some verb.Look) l own s = printed (looked l.area s.memory s.holding s.outgoing (l.first % many) (l.second % many)) s
+obeyed (Some verb.Interrupt) l own s = printed (interrupt_text (is_high s.play.board)) s
+obeyed (Some verb.Record) l own s = printed (record_text s.play.board) s
+obeyed (Some verb.Say) l own s = printed (say_text own) s
 
--- ---- how the code parts the verbs: calls, and what is the host's alone: sizes, host writes, and what is only printed
+-- ---- how the code parts the verbs: calls, and what is the host's alone
 
 -- how often a line makes its call
-abbrev pub times_by : Which → Line → ℕ
-times_by which.Reset l = 1
-times_by which.Attention l = 1
-times_by which.Arrival l = 1
-times_by which.Turn l = turn_count l
-times_by which.Run l = 1
+abbrev pub times_by : Verb → Line → ℕ
+times_by verb.Turn l = turn_count l
+times_by _ l = 1
 
-abbrev pub asked_of : Which → Line → Asked
-asked_of w l =
-    record { which = w; times = times_by w l; verdict = l.first % many; report = l.second % 65536; budget = turn_count l }
-
-abbrev pub deed_of : Verb → Deed
-deed_of verb.Nothing = deed.Host part.Print
-deed_of verb.Size = deed.Host part.Size
-deed_of verb.Reset = deed.Call which.Reset
-deed_of verb.Attention = deed.Call which.Attention
-deed_of verb.Arrival = deed.Call which.Arrival
-deed_of verb.Turn = deed.Call which.Turn
-deed_of verb.Run = deed.Call which.Run
-deed_of verb.Bytes = deed.Host part.Write
-deed_of verb.Words = deed.Host part.Write
-deed_of verb.Show = deed.Host part.Print
-deed_of verb.Look = deed.Host part.Print
-deed_of verb.Interrupt = deed.Host part.Print
-deed_of verb.Record = deed.Host part.Print
-deed_of verb.Say = deed.Host part.Print
+-- the call that it makes
+abbrev pub asked_by : Verb → Line → Option Asked
+asked_by verb.Reset l = Some asked.Reset
+asked_by verb.Attention l = Some asked.Attention
+asked_by verb.Arrival l = Some (asked.Arrival (l.first % many))
+asked_by verb.Turn l = Some (asked.Turn (l.second % 65536))
+asked_by verb.Run l = Some (asked.Run (l.second % 65536) (turn_count l))
+asked_by _ l = None
 
 -- a call so often, an answer each
 unfoldable pub calls_of : ℕ → Call → Scene → Scene
 calls_of zero c s = s
 calls_of (suc n) c s = called c (calls_of n c s)
 
-unfoldable pub text_by : Verb → Area → Board → List ℕ → List ℕ → List ℕ → List ℕ → ℕ → ℕ → List ℕ
-text_by verb.Nothing a b m h og own place count = []
-text_by verb.Size a b m h og own place count = []
-text_by verb.Reset a b m h og own place count = []
-text_by verb.Attention a b m h og own place count = []
-text_by verb.Arrival a b m h og own place count = []
-text_by verb.Turn a b m h og own place count = []
-text_by verb.Run a b m h og own place count = []
-text_by verb.Bytes a b m h og own place count = []
-text_by verb.Words a b m h og own place count = []
-text_by verb.Show a b m h og own place count = shown a m h og place count
-text_by verb.Look a b m h og own place count = looked a m h og place count
-text_by verb.Interrupt a b m h og own place count = interrupt_text (is_high b)
-text_by verb.Record a b m h og own place count = record_text b
-text_by verb.Say a b m h og own place count = say_text own
+-- a stretch of the area that a line names, of bytes or of words
+abbrev pub named : Area → Areas → List ℕ
+named area.Memory a = a.memory
+named area.Holding a = a.holding
+named area.Outgoing a = a.outgoing
 
-unfoldable pub host_by : Part → Verb → Line → List ℕ → Scene → Scene
-host_by part.Size v l own s = scene_of (play_of (resized s.play.board l.first) s.play.at) s.memory s.holding s.outgoing s.out
-host_by part.Write v l own s = wrote l own s
-host_by part.Print v l own s = printed (text_by v l.area s.play.board s.memory s.holding s.outgoing own (l.first % many) (l.second % many)) s
+abbrev pub stretch_by : Unit → Area → List ℕ → List ℕ → List ℕ → ℕ → ℕ → List ℕ
+stretch_by unit.Byte = shown
+stretch_by unit.Word = looked
 
-abbrev pub done_by : Deed → Verb → Line → List ℕ → Scene → Scene
-done_by (deed.Call w) v l own s = calls_of (times_by w l) (call_of (asked_of w l) own) s
-done_by (deed.Host p) v l own s = host_by p v l own s
+abbrev pub showed : Unit → Line → Scene → Scene
+showed u l s = printed (stretch_by u l.area s.memory s.holding s.outgoing (l.first % many) (l.second % many)) s
+
+-- a line that makes no call
+unfoldable pub hosted : Verb → Line → List ℕ → Scene → Scene
+hosted verb.Size l own s = scene_of (play_of (resized s.play.board l.first) s.play.at) s.memory s.holding s.outgoing s.out
+hosted verb.Bytes l own s = wrote l own s
+hosted verb.Words l own s = wrote l own s
+hosted verb.Show l own s = showed unit.Byte l s
+hosted verb.Look l own s = showed unit.Word l s
+hosted verb.Interrupt l own s = printed (interrupt_text (is_high s.play.board)) s
+hosted verb.Record l own s = printed (record_text s.play.board) s
+hosted verb.Say l own s = printed (say_text own) s
+hosted verb.Reset l own s = s
+hosted verb.Attention l own s = s
+hosted verb.Arrival l own s = s
+hosted verb.Turn l own s = s
+hosted verb.Run l own s = s
+
+abbrev pub done_by : Option Asked → Verb → Line → List ℕ → Scene → Scene
+done_by (Some a) v l own s = calls_of (times_by v l) (call_of a own) s
+done_by None v l own s = hosted v l own s

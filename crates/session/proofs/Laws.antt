@@ -1,101 +1,124 @@
--- What the proofs of the session share: states that are what is said, a stretch character by character. Assumes nothing.
-use Rattle.std.proofs.Common.{◌≡◌, ℕ, zero, suc, ◌+◌, ◌<◌, min, Bool, true, false, cond, eqb, List, [], ◌∷◌, ◌++◌, length, get_or, take, sym, refl, ap, ◌∙◌, subst, arith}
-use Rattle.board.proofs.Laws.{take_least}
+-- What the proofs of the session share: one thing after another, a line, a character, a stretch character by character. Assumes nothing.
+use Rattle.std.proofs.Common.{◌≡◌, ℕ, zero, suc, ◌+◌, ◌%◌, ◌^◌, ◌<◌, min, Bool, true, false, cond, eqb, List, [], ◌∷◌, ◌++◌, length, get_or, take, sym, refl, ap, ◌∙◌, arith, Option, Some, None}
+use borrow.Author.Tests.{eq-eqb, ne_eqb}
+use Rattle.std.specs.Option.{option_map_or}
+use Rattle.wording.specs.declared.Fault.{Fault}
 use Rattle.wording.specs.declared.Line.{Line}
 use Rattle.lines.specs.declared.Reader.{Reader}
 use Rattle.lines.specs.Reader as lines
-use Rattle.scene.specs.declared.Play.{Play}
-use Rattle.scene.specs.Scene.{Scene, play_of, scene_of, Plays, obeyed}
-use Rattle.session.specs.declared.Session.{Session}
-use Rattle.session.specs.Run.{State, state_of, Runs, with_reader, next_line, stopped_by, line_obeyed, judged, ended_by, line_ended, read_by, fed, ran, read_on, ends_line}
+use Rattle.texts.specs.declared.Page.{Page}
+use Rattle.texts.specs.Page.{Prints}
+use Rattle.faults.specs.Faults.{fault_text}
+use Rattle.scene.specs.declared.Scene.{Scene as Staged}
+use Rattle.scene.specs.Scene.{Scene, scene_in, Plays, obeyed}
+use Rattle.session.specs.declared.Session.{Session as Held}
+use Rattle.session.specs.Run.{Session, State, state_of, halted_in, stopped_at, stopped_in, stopped_by, behind_line, line_obeyed, judged, judged_in, ended_by, line_ended, read_by, fed, ran}
+use Rattle.session.specs.Held.{session_in, state_in, Runs}
 
--- ---- what was left is what is said
+-- ---- one thing after another
 
-state_is : (t : State) (s : Session) (m h og by o : List ℕ) → Runs t s m h og by o → state_of s m h og by o ≡ t
-state_is t s m h og by o e =
-    λ i. record {
-      session = e.session i;
-      memory = e.memory i;
-      holding = e.holding i;
-      outgoing = e.outgoing i;
-      bytes = e.bytes i;
-      out = e.out i;
-    }
+pub in_turn : (f g : State → State) (h k j : Held) → Runs f h k → Runs g k j → Runs (λ t. g (f t)) h j
+in_turn f g h k j p q =
+    ((((q.0.0.0.0 ∙ p.0.0.0.0, q.0.0.0.1 ∙ p.0.0.0.1, q.0.0.0.2 ∙ p.0.0.0.2), q.0.0.1 ∙ p.0.0.1), q.0.1 ∙ p.0.1), q.1 ∙ ap g p.1)
 
--- ---- a right line
+-- the same in other words
+pub runs_is : (f g : State → State) (h k : Held) → f (state_in h) ≡ g (state_in h) → Runs f h k → Runs g h k
+runs_is f g h k e p = (p.0, p.1 ∙ e)
 
--- a line that was obeyed, with as many bytes as it has brought of those that are there
-pub line_done : (s : Session) (l : Line) (m h og by out : List ℕ) (n : ℕ) (p q : Play) (m' h' og' o' : List ℕ) (r : Session)
-    → n ≡ min l.filled (length by)
-    → p ≡ play_of s.board s.at
-    → Plays (obeyed l.verb l (take n by) (scene_of p m h og out)) q m' h' og' o'
-    → r ≡ next_line s q
-    → Runs (line_obeyed s l m h og by out) r m' h' og' by o'
-unfolding line_obeyed
-line_done s l m h og by out n p q m' h' og' o' r a b e f =
-    let k : obeyed l.verb l (take n by) (scene_of p m h og out) ≡ obeyed l.verb l (take l.filled by) (scene_of (play_of s.board s.at) m h og out) =
-    ap (λ (ys : List ℕ). obeyed l.verb l ys (scene_of p m h og out)) (ap (λ (j : ℕ). take j by) a ∙ take_least l.filled by)
-    ∙ ap (λ (x : Play). obeyed l.verb l (take l.filled by) (scene_of x m h og out)) b in
-    let g = subst (λ (x : Scene). Plays x q m' h' og' o') k e in
+-- ---- a fault
+
+abbrev pub with_page : Held → Page → Held
+with_page h g =
     record {
-      session = f ∙ ap (next_line s) g.play;
-      memory = g.memory;
-      holding = g.holding;
-      outgoing = g.outgoing;
-      bytes = refl;
-      out = g.out;
+      scene = record { board = h.scene.board; areas = h.scene.areas; page = g };
+      bytes = h.bytes;
+      line = h.line;
+      reader = h.reader;
+      stopped = h.stopped;
     }
+
+-- it was printed, and the session has stopped
+pub fault_told : (f : Fault) (h : Held) (g : Page) (k : Held) → Prints (fault_text h.line f) h.scene.page g
+    → Runs halted_in (with_page h g) k
+    → Runs (stopped_in f) h k
+unfolding stopped_by
+fault_told f h g k p q =
+    let t = state_in h in (
+      ((q.0.0.0, q.0.0.1 ∙ p.0), q.0.1),
+      q.1 ∙ (λ i. state_of (stopped_at t.session t.session.reader (p.1.next i)) t.memory t.holding t.outgoing t.bytes (p.1.bytes i)),
+    )
+
+-- ---- a line that has been read to its end
+
+abbrev obeyed_in : State → State
+obeyed_in t = line_obeyed t.session t.session.reader.line t.memory t.holding t.outgoing t.bytes t.out
+
+-- the session behind a line, whose scene is c
+abbrev pub behind : Held → Staged → Reader → Held
+behind h c r = record { scene = c; bytes = h.bytes; line = (h.line + 1) % 2 ^ 64; reader = r; stopped = h.stopped }
+
+line_done : (h : Held) (c : Staged) → Plays (obeyed h.reader.line.verb h.reader.line (take h.reader.line.filled h.bytes.now)) h.scene c
+    → Runs obeyed_in h (behind h c lines.start)
+unfolding line_obeyed
+line_done h c p = ((p.0, refl), ap (behind_line (session_in h) h.bytes.now) p.1)
+
+pub judged_right : (h : Held) (c : Staged) (r : Reader) → h.reader.fault ≡ None → r ≡ lines.start
+    → Plays (obeyed h.reader.line.verb h.reader.line (take h.reader.line.filled h.bytes.now)) h.scene c
+    → Runs judged_in h (behind h c r)
+unfolding judged
+judged_right h c r w e p =
+    let t = state_in h in
+    let done = line_done h c p in (
+      done.0,
+      ap (λ (x : Reader). state_in (behind h c x)) e
+          ∙ done.1
+          ∙ ap (λ (o : Option Fault). option_map_or (λ f. stopped_in f t) o (obeyed_in t)) (sym w),
+    )
+
+pub judged_wrong : (h k : Held) (f : Fault) → h.reader.fault ≡ Some f → Runs (stopped_in f) h k → Runs judged_in h k
+unfolding judged
+judged_wrong h k f w p =
+    let t = state_in h in
+    runs_is (stopped_in f) judged_in h k (ap (λ (o : Option Fault). option_map_or (λ g. stopped_in g t) o (obeyed_in t)) (sym w)) p
 
 -- ---- a character
 
-read_is : (e : lines.Read) (r : Reader) (by : List ℕ) → lines.Reads e r by → lines.left r by ≡ e
-read_is e r by x = λ i. record { reader = x.reader i; bytes = x.bytes i }
+-- what was read of a line: r is the reader, ys are the bytes
+abbrev pub with_read : Held → Reader → List ℕ → Held
+with_read h r ys = record { scene = h.scene; bytes = record h.bytes { now = ys }; line = h.line; reader = r; stopped = h.stopped }
 
-choose : {A : Type 0} (b : Bool) (x y : A) → b ≡ true → cond b x y ≡ x
-choose b x y e = ap (λ (k : Bool). cond k x y) e
+fed_when : (t : State) (c : ℕ) (a b : Bool) → t.session.stopped ≡ a → eqb c 10 ≡ b
+    → fed t c ≡ cond a t (cond b (line_ended t) (read_by t (lines.read t.session.reader c t.bytes)))
+unfolding fed
+fed_when t c a b p q = λ i. cond (p i) t (cond (q i) (line_ended t) (read_by t (lines.read t.session.reader c t.bytes)))
 
-refuse : {A : Type 0} (b : Bool) (x y : A) → b ≡ false → cond b x y ≡ y
-refuse b x y e = ap (λ (k : Bool). cond k x y) e
+pub fed_stopped : (h : Held) (c : ℕ) → h.stopped ≡ true → Runs (λ t. fed t c) h h
+fed_stopped h c w = ((((refl, refl, refl), refl), refl), sym (fed_when (state_in h) c true (eqb c 10) w refl))
 
--- a line that was judged: it was right and has been obeyed, or it was wrong and the session has stopped
-module _ (s : Session) (r : Reader) (m h og by out : List ℕ) (t : Session) (m' h' og' o' : List ℕ) (right : Bool) (is : right ≡ lines.is_right r) where
-  pub judged_right : right ≡ true → Runs (line_obeyed s r.line m h og by out) t m' h' og' by o' → Runs (judged s r m h og by out) t m' h' og' by o'
-  unfolding judged
-  judged_right y z =
-      subst (λ (k : State). Runs k t m' h' og' by o') (sym (choose (lines.is_right r) (line_obeyed s r.line m h og by out) (stopped_by s r m h og by out) (sym is ∙ y))) z
+-- a line is judged by its reader, whatever the session had
+judged_as : (t : State) (e : lines.Read) → judged_in (read_by t e) ≡ ended_by t e
+unfolding judged stopped_by line_obeyed
+judged_as t e = refl
 
-  pub judged_wrong : right ≡ false → Runs (stopped_by s r m h og by out) t m' h' og' by o' → Runs (judged s r m h og by out) t m' h' og' by o'
-  unfolding judged
-  judged_wrong y z =
-      subst (λ (k : State). Runs k t m' h' og' by o') (sym (refuse (lines.is_right r) (line_obeyed s r.line m h og by out) (stopped_by s r m h og by out) (sym is ∙ y))) z
+read_as : (h : Held) (r : Reader) (ys : List ℕ) (e : lines.Read) → lines.Reads e r ys → state_in (with_read h r ys) ≡ read_by (state_in h) e
+read_as h r ys e x = λ i. read_by (state_in h) (record { reader = x.reader i; bytes = x.bytes i })
 
--- a character ends a line and what was read is judged, or it is read
-module _ (s : Session) (m h og by out : List ℕ) where
-  abbrev before : State
-  before = state_of s m h og by out
+pub fed_end : (h : Held) (c : ℕ) (r : Reader) (ys : List ℕ) (k : Held) → h.stopped ≡ false → c ≡ 10
+    → lines.Reads (lines.end h.reader h.bytes.now) r ys
+    → Runs judged_in (with_read h r ys) k
+    → Runs (λ t. fed t c) h k
+unfolding line_ended
+fed_end h c r ys k w e x p =
+    let t = state_in h in
+    let end = lines.end h.reader h.bytes.now in
+    (p.0, p.1 ∙ ap judged_in (read_as h r ys end x) ∙ judged_as t end ∙ sym (fed_when t c false true w (eq-eqb c 10 e)))
 
-  parted : (a b : Bool) (x y z : lines.Read) → read_by before x ≡ before
-      → cond (cond a false b) (ended_by before (cond a x (cond b y z))) (read_by before (cond a x (cond b y z))) ≡ cond a before (cond b (ended_by before y) (read_by before z))
-  parted true b x y z e = e
-  parted false true x y z e = refl
-  parted false false x y z e = refl
-
-  module _ (c : ℕ) (r : Reader) (by' : List ℕ) (t : Session) (ends : Bool) (x : lines.Reads (read_on s c by) r by') (is : ends ≡ ends_line s c) where
-    fed_as : cond ends (judged s r m h og by' out) (state_of (with_reader s r) m h og by' out) ≡ fed before c
-    unfolding fed line_ended
-    fed_as =
-        ap (λ (k : Bool). cond k (judged s r m h og by' out) (state_of (with_reader s r) m h og by' out)) is
-        ∙ ap (λ (k : lines.Read). cond (ends_line s c) (ended_by before k) (read_by before k)) (read_is (read_on s c by) r by' x)
-        ∙ parted s.stopped (eqb c 10) (lines.left s.reader by) (lines.end s.reader by) (lines.read s.reader c by) refl
-
-    pub fed_end : (m' h' og' o' : List ℕ) → ends ≡ true → Runs (judged s r m h og by' out) t m' h' og' by' o' → Runs (fed before c) t m' h' og' by' o'
-    fed_end m' h' og' o' y z =
-        subst (λ (k : State). Runs k t m' h' og' by' o') (sym (choose ends (judged s r m h og by' out) (state_of (with_reader s r) m h og by' out) y) ∙ fed_as) z
-
-    pub fed_on : ends ≡ false → t ≡ with_reader s r → Runs (fed before c) t m h og by' out
-    fed_on y z =
-        subst (λ (k : State). Runs k t m h og by' out) (sym (refuse ends (judged s r m h og by' out) (state_of (with_reader s r) m h og by' out) y) ∙ fed_as)
-        (record { session = z; memory = refl; holding = refl; outgoing = refl; bytes = refl; out = refl })
+pub fed_on : (h : Held) (c : ℕ) (r : Reader) (ys : List ℕ) → h.stopped ≡ false → (c ≡ 10 → ⊥)
+    → lines.Reads (lines.read h.reader c h.bytes.now) r ys
+    → Runs (λ t. fed t c) h (with_read h r ys)
+fed_on h c r ys w e x =
+    let t = state_in h in
+    ((((refl, refl, refl), refl), refl), read_as h r ys (lines.read h.reader c h.bytes.now) x ∙ sym (fed_when t c false false w (ne_eqb c 10 e)))
 
 -- ---- a stretch
 
@@ -116,23 +139,19 @@ ran_take t [] i h = absurd (omega arith)
 ran_take t (x ∷ xs) zero h = refl
 ran_take t (x ∷ xs) (suc i) h = ran_take (fed t x) xs i (omega arith)
 
-pub ran_none : (s : Session) (m h og by o xs : List ℕ) → Runs (ran (state_of s m h og by o) (take 0 xs)) s m h og by o
+pub ran_none : (xs : List ℕ) (h : Held) → Runs (λ t. ran t (take 0 xs)) h h
 unfolding ran
-ran_none s m h og by o xs = record { session = refl; memory = refl; holding = refl; outgoing = refl; bytes = refl; out = refl }
+ran_none xs h = ((((refl, refl, refl), refl), refl), refl)
 
-pub ran_more : (t : State) (xs : List ℕ) (i : ℕ) (s : Session) (m h og by o : List ℕ) (s' : Session) (m' h' og' by' o' : List ℕ) → i < length xs
-    → Runs (ran t (take i xs)) s m h og by o
-    → Runs (fed (state_of s m h og by o) (get_or xs i 0)) s' m' h' og' by' o'
-    → Runs (ran t (take (i + 1) xs)) s' m' h' og' by' o'
-ran_more t xs i s m h og by o s' m' h' og' by' o' l e f =
+pub ran_more : (xs : List ℕ) (i : ℕ) (h k j : Held) → i < length xs → Runs (λ t. ran t (take i xs)) h k → Runs (λ t. fed t (get_or xs i 0)) k j
+    → Runs (λ t. ran t (take (i + 1) xs)) h j
+ran_more xs i h k j l p q =
     let n : suc i ≡ i + 1 = omega arith in
-    let g : fed (state_of s m h og by o) (get_or xs i 0) ≡ ran t (take (i + 1) xs) =
-    ap (λ (x : State). fed x (get_or xs i 0)) (state_is (ran t (take i xs)) s m h og by o e)
-    ∙ ran_take t xs i l
-    ∙ ap (λ (k : ℕ). ran t (take k xs)) n in
-    subst (λ (x : State). Runs x s' m' h' og' by' o') g f
+    runs_is (λ t. fed (ran t (take i xs)) (get_or xs i 0)) (λ t. ran t (take (i + 1) xs)) h j
+    (ran_take (state_in h) xs i l ∙ ap (λ (m : ℕ). ran (state_in h) (take m xs)) n)
+    (in_turn (λ t. ran t (take i xs)) (λ t. fed t (get_or xs i 0)) h k j p q)
 
-pub ran_all : (t : State) (xs : List ℕ) (i : ℕ) (s : Session) (m h og by o : List ℕ) → i ≡ length xs → Runs (ran t (take i xs)) s m h og by o
-    → Runs (ran t xs) s m h og by o
-ran_all t xs i s m h og by o l e =
-    subst (λ (ys : List ℕ). Runs (ran t ys) s m h og by o) (ap (λ (k : ℕ). take k xs) l ∙ take_all xs) e
+pub ran_all : (xs : List ℕ) (i : ℕ) (h k : Held) → i ≡ length xs → Runs (λ t. ran t (take i xs)) h k → Runs (λ t. ran t xs) h k
+ran_all xs i h k l p =
+    runs_is (λ t. ran t (take i xs)) (λ t. ran t xs) h k
+    (ap (λ (ys : List ℕ). ran (state_in h) ys) (ap (λ (m : ℕ). take m xs) l ∙ take_all xs)) p

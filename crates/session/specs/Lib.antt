@@ -1,2 +1,3 @@
--- A run of lines.
+-- A run of lines, and the session that the code holds for it.
 pub mod Run
+pub mod Held

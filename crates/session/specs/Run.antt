@@ -1,20 +1,25 @@
 -- A run: one definition of what a character does, and its fold over the input. Assumes nothing.
 use Rattle.std.specs.Prelude.{◌≡◌, ℕ, ◌+◌, ◌%◌, ◌^◌, Bool, true, false, cond, List, [], ◌∷◌, take, ◌==◌}
+use Rattle.std.specs.Option.{option_map_or}
 use Rattle.std.proofs.lemmas.List.Edits.{sets}
 use Rattle.board.specs.Board as board
+use Rattle.wording.specs.declared.Fault.{Fault}
 use Rattle.wording.specs.declared.Line.{Line}
 use Rattle.lines.specs.declared.Reader.{Reader}
-use Rattle.wording.specs.declared.Wrong.{Wrong}
-use Rattle.wording.specs.declared.Wrong.TheVariants as wrong
 use Rattle.lines.specs.Reader as lines
-use Rattle.faults.specs.declared.Expected.{Expected}
-use Rattle.faults.specs.declared.Expected.TheVariants as expected
 use Rattle.faults.specs.Faults.{fault_text}
-use Rattle.scene.specs.declared.Play.{Play}
-use Rattle.session.specs.declared.Session.{Session}
-use Rattle.scene.specs.Scene.{Scene, play_of, scene_of, behind, obeyed}
+use Rattle.board.specs.declared.Board.{Board}
+use Rattle.scene.specs.Scene.{Scene, Play, play_of, scene_of, behind, obeyed}
 
 -- ---- the state
+
+-- the board; where the next text goes; the number of the line that is being read; its reader; whether it has stopped
+pub record Session : Type 0 where
+  pub board : Board
+  pub at : ℕ
+  pub line : ℕ
+  pub reader : Reader
+  pub stopped : Bool
 
 -- the session, the areas, the bytes of the line that is being read, and the slice that texts are put into
 pub record State : Type 0 where
@@ -28,15 +33,6 @@ pub record State : Type 0 where
 abbrev pub state_of : Session → List ℕ → List ℕ → List ℕ → List ℕ → List ℕ → State
 state_of s m h og by out = record { session = s; memory = m; holding = h; outgoing = og; bytes = by; out = out }
 
--- what the code does
-pub record Runs (said : State) (s : Session) (m h og by o : List ℕ) : Type 0 where
-  pub session : s ≡ said.session
-  pub memory : m ≡ said.memory
-  pub holding : h ≡ said.holding
-  pub outgoing : og ≡ said.outgoing
-  pub bytes : by ≡ said.bytes
-  pub out : o ≡ said.out
-
 -- line 1, nothing read, nothing printed
 abbrev pub start : Session
 start = record { board = board.start; at = 0; line = 1; reader = lines.start; stopped = false }
@@ -49,23 +45,6 @@ with_reader s r = record { board = s.board; at = s.at; line = s.line; reader = r
 
 -- ---- a wrong line
 
--- a right line has no fault, and prints none
-abbrev pub expected_of : Wrong → Expected
-expected_of wrong.Nothing = expected.End
-expected_of wrong.First = expected.First
-expected_of wrong.Number = expected.Number
-expected_of wrong.Size = expected.Size
-expected_of wrong.Short = expected.Short
-expected_of wrong.Area = expected.Area
-expected_of wrong.Place = expected.Place
-expected_of wrong.Bytes = expected.Bytes
-expected_of wrong.Room = expected.Room
-expected_of wrong.End = expected.End
-
--- "One line says where and what was expected, and the program stops"
-unfoldable pub fault_of : ℕ → Reader → List ℕ
-fault_of line r = fault_text line r.fault.column (expected_of r.fault.wrong)
-
 abbrev pub stopped_at : Session → Reader → ℕ → Session
 stopped_at s r at = record { board = s.board; at = at; line = s.line; reader = r; stopped = true }
 
@@ -73,9 +52,16 @@ stopped_at s r at = record { board = s.board; at = at; line = s.line; reader = r
 abbrev pub halted : Session → Session
 halted s = stopped_at s s.reader s.at
 
-unfoldable pub stopped_by : Session → Reader → List ℕ → List ℕ → List ℕ → List ℕ → List ℕ → State
-stopped_by s r m h og by out =
-    state_of (stopped_at s r (behind (fault_of s.line r) s.at out)) m h og by (sets out s.at (fault_of s.line r))
+abbrev pub halted_in : State → State
+halted_in st = state_of (halted st.session) st.memory st.holding st.outgoing st.bytes st.out
+
+-- "One line says where and what was expected, and the program stops"
+unfoldable pub stopped_by : Session → Reader → Fault → List ℕ → List ℕ → List ℕ → List ℕ → List ℕ → State
+stopped_by s r f m h og by out =
+    state_of (stopped_at s r (behind (fault_text s.line f) s.at out)) m h og by (sets out s.at (fault_text s.line f))
+
+abbrev pub stopped_in : Fault → State → State
+stopped_in f st = stopped_by st.session st.session.reader f st.memory st.holding st.outgoing st.bytes st.out
 
 -- ---- a right line
 
@@ -93,9 +79,12 @@ line_obeyed s l m h og by out = behind_line s by (obeyed l.verb l (take l.filled
 
 -- ---- characters
 
--- a line that has been read to its end is judged; "nothing of the bad line is done or printed"
+-- a line that has been read to its end: its fault, if it has one, or it is obeyed; "nothing of the bad line is done or printed"
 unfoldable pub judged : Session → Reader → List ℕ → List ℕ → List ℕ → List ℕ → List ℕ → State
-judged s r m h og by out = cond (lines.is_right r) (line_obeyed s r.line m h og by out) (stopped_by s r m h og by out)
+judged s r m h og by out = option_map_or (λ f. stopped_by s r f m h og by out) r.fault (line_obeyed s r.line m h og by out)
+
+abbrev pub judged_in : State → State
+judged_in st = judged st.session st.session.reader st.memory st.holding st.outgoing st.bytes st.out
 
 abbrev pub ended_by : State → lines.Read → State
 ended_by st e = judged st.session e.reader st.memory st.holding st.outgoing e.bytes st.out
@@ -117,14 +106,3 @@ fed st c =
 unfoldable pub ran : State → List ℕ → State
 ran st [] = st
 ran st (c ∷ cs) = ran (fed st c) cs
-
--- ---- how the code takes a character: what it makes of the reader, and whether it ends a line
-
-abbrev pub read_on : Session → ℕ → List ℕ → lines.Read
-read_on s c by =
-    cond s.stopped (lines.left s.reader by)
-    (cond (c == 10) (lines.end s.reader by)
-    (lines.read s.reader c by))
-
-abbrev pub ends_line : Session → ℕ → Bool
-ends_line s c = cond s.stopped false (c == 10)

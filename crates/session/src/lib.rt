@@ -1,140 +1,58 @@
-// A session of the replay program: the board, the reader of a line, and where the next text goes; what a line's end makes of it. What a run
+// A session of the replay program: the scene, the bytes of the line that is being read, and its reader; and how it begins and stops. What a run
 // is, character by character, is said here, and needs no code of the calls; the room `running` runs it. Every function takes every session.
 
 #![tactic(auto)]
 
-ghost use Rattle.std.specs.Prelude.{◌≡◌, ℕ, min, List};
-ghost use Rattle.lines.specs.Reader as lines;
-ghost use Rattle.session.specs.Run.{Runs};
+ghost use Rattle.session.specs.Held.{Begins, Runs};
 ghost use Rattle.session.specs.Run as run;
 
-use board::Board;
-use faults::Expected;
+use board::Areas;
 use lines::Reader;
-use scene::Play;
-use wording::Wrong;
+use scene::Scene;
+use texts::Page;
+use wording::Fault;
 
-// The board; where the next text goes; the number of the line that is being read; its reader; whether it has stopped, as it does at a line that
-// is wrong.
-#[derive(Clone, Copy)]
-pub struct Session {
-    pub board: Board,
-    pub at: usize,
+// The scene; the bytes that the line brings; the number of the line that is being read; its reader; whether it has stopped, as it does at a line
+// that is wrong.
+#[derive(Drop)]
+pub struct Session<'a> {
+    pub scene: Scene<'a>,
+    pub bytes: &'a mut [u8],
     pub line: u64,
     pub reader: Reader,
     pub stopped: bool,
 }
 
-pub fn start() -> Session
-    ensures { result ≡ run.start }
+// Line 1 of a run, before its first character.
+pub fn start<'a>(areas: Areas<'a>, bytes: &'a mut [u8], out: &'a mut [u8]) -> Session<'a>
+    ensures { Begins areas.entry bytes.entry out.entry result }
 {
     Session {
-        board: board::start(),
-        at: 0,
+        scene: Scene {
+            board: board::start(),
+            areas,
+            page: Page { out, at: 0 },
+        },
+        bytes,
         line: 1,
         reader: lines::start(),
         stopped: false,
     }
 }
 
-// What was printed is taken: the next text goes to the beginning.
-pub fn emptied(s: Session) -> Session
-    ensures { result ≡ run.emptied s }
-{
-    Session { at: 0, ..s }
-}
-
-pub fn with_reader(s: Session, reader: Reader) -> Session
-    ensures { result ≡ run.with_reader s reader }
-{
-    Session { reader, ..s }
-}
-
-// What was expected, as it is printed. Where nothing is wrong nothing is printed.
-fn expected(wrong: Wrong) -> Expected
-    ensures { result ≡ run.expected_of wrong }
-{
-    match wrong {
-        Wrong::Nothing => Expected::End,
-        Wrong::First => Expected::First,
-        Wrong::Number => Expected::Number,
-        Wrong::Size => Expected::Size,
-        Wrong::Short => Expected::Short,
-        Wrong::Area => Expected::Area,
-        Wrong::Place => Expected::Place,
-        Wrong::Bytes => Expected::Bytes,
-        Wrong::Room => Expected::Room,
-        Wrong::End => Expected::End,
+impl Session<'_> {
+    // The session stops, and is else as it was: nothing more is read or done.
+    pub fn halt(&mut self)
+        ensures { Runs run.halted_in self.old self.new }
+    {
+        self.stopped = true;
     }
-}
 
-// A wrong line: its fault is printed, and the session stops.
-pub fn stop(s: Session, reader: Reader, out: &mut [u8]) -> Session
-    ensures { (m h og by : List ℕ) → Runs (run.stopped_by s reader m h og by out.old) result m h og by out.new }
-{
-    let fault = reader.fault;
-    let wrong = fault.wrong;
-    let next = faults::put_fault(out, s.at, s.line, fault.column as u64, expected(wrong));
-    Session {
-        at: next,
-        reader,
-        stopped: true,
-        ..s
+    // A wrong line: its fault is printed, and the session stops.
+    pub fn stop(&mut self, fault: Fault)
+        ensures { Runs (run.stopped_in fault) self.old self.new }
+    {
+        faults::put_fault(&mut self.scene.page, self.line, fault);
+        self.halt();
     }
-}
-
-// The session stops, and is else as it was: nothing more is read or done.
-pub fn halted(s: Session) -> Session
-    ensures { result ≡ run.halted s }
-{
-    Session { stopped: true, ..s }
-}
-
-// The session behind a line that was obeyed.
-pub fn next_line(s: Session, p: Play) -> Session
-    ensures { result ≡ run.next_line s p }
-{
-    let board = p.board;
-    Session {
-        board,
-        at: p.at,
-        line: std::num::wrapping_add_u64(s.line, 1),
-        reader: lines::start(),
-        stopped: s.stopped,
-    }
-}
-
-// How many bytes a line has brought, of those that are there.
-pub fn own_length(filled: u32, most: usize) -> usize
-    ensures { result ≡ min filled most }
-{
-    let n = filled as usize;
-    if n < most {
-        return n;
-    }
-    most
-}
-
-// What a character makes of the reader: at a line's end what was read is ended; after bad input nothing more is read.
-pub fn read_on(s: Session, bytes: &mut [u8], c: u8) -> Reader
-    ensures { lines.Reads (run.read_on s c bytes.old) result bytes.new }
-{
-    let r = s.reader;
-    if s.stopped {
-        return r;
-    }
-    if c == 10 {
-        return lines::end(bytes, r);
-    }
-    lines::read(bytes, r, c)
-}
-
-// Whether a character ends a line: 10 does, but after bad input none.
-pub fn ends_line(s: Session, c: u8) -> bool
-    ensures { result ≡ run.ends_line s c }
-{
-    if s.stopped {
-        return false;
-    }
-    c == 10
 }

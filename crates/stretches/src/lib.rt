@@ -4,10 +4,12 @@
 
 #![tactic(auto)]
 
-ghost use Rattle.std.specs.Prelude.{◌⊎◌, ◌≡◌, ◌<◌, true, false, length, take, OnOk, IfOk, IsNone};
+ghost use Rattle.std.specs.Prelude.{◌⊎◌, ◌≡◌, ◌<◌, true, false, length, OnOk, IfOk, IsNone};
 ghost use Rattle.std.specs.Iterator.{item_count};
 ghost use Rattle.std.specs.Io.KnownBytes.{Appends, Consumes, IsAtEnd};
-ghost use Rattle.session.specs.Run.{halted};
+ghost use Rattle.session.specs.Held.{Runs, session_in, state_in};
+ghost use Rattle.session.specs.Run.{halted_in};
+ghost use Rattle.printing.specs.Run.{written};
 ghost use Rattle.printing.specs.Streams.{stream_of};
 ghost use Rattle.stretches.specs.Streams.{stream_said};
 ghost use Rattle.stretches.specs.Stretches.{CutsStretch, piece_bytes};
@@ -54,13 +56,22 @@ enum Stream {
 
 // The stream that has what a session has put. At most one line ends in a stretch, so where the session has stopped that is the fault alone:
 // `the_streams_have` in the room `printing`.
-fn stream_for(s: Session) -> Stream
-    ensures { stream_said result ≡ stream_of s }
+fn stream_for(session: &Session<'_>) -> Stream
+    ensures { stream_said result ≡ stream_of (session_in session.now) }
 {
-    if s.stopped {
+    if session.stopped {
         return Stream::Errors;
     }
     Stream::Output
+}
+
+// What a session has put.
+fn text_of<'a>(session: &'a Session<'_>) -> &'a [u8]
+    ensures { result.now ≡ written (state_in session.now) }
+{
+    let out = &*session.scene.page.out;
+    let n = session.scene.page.at.min(out.len());
+    &out[..n]
 }
 
 // Standard output and the error stream, and where the words of an error are made.
@@ -100,19 +111,16 @@ impl<O: Write, E: Write> Streams<O, E> {
 
     // What a session has put is written out: while it goes on, to standard output alone; where it has stopped, nothing goes there. Where writing
     // fails the session stops, and is else as it was.
-    pub fn write_out(&mut self, s: Session, out: &[u8]) -> Session
-        ensures session { (result ≡ s) ⊎ (result ≡ halted s) }
-        ensures answers { result.stopped ≡ false
-            → (self.new.errors ≡ self.old.errors) × Appends (O.contents self.old.output) (O.contents self.new.output) (take s.at out.now) }
-        ensures fault { s.stopped ≡ true → self.new.output ≡ self.old.output }
+    pub fn write_out(&mut self, session: &mut Session<'_>)
+        ensures session { Runs (λ st. st) session.old session.new ⊎ Runs halted_in session.old session.new }
+        ensures answers { session.new.stopped ≡ false → (self.new.errors ≡ self.old.errors)
+            × Appends (O.contents self.old.output) (O.contents self.new.output) (written (state_in session.old)) }
+        ensures fault { session.old.stopped ≡ true → self.new.output ≡ self.old.output }
     {
-        let n = s.at.min(out.len());
-        match self.write_to(stream_for(s), &out[..n]) {
-            Ok(()) => s,
-            Err(error) => {
-                self.fail("standard output", error);
-                session::halted(s)
-            }
+        let stream = stream_for(session);
+        if let Err(error) = self.write_to(stream, text_of(session)) {
+            self.fail("standard output", error);
+            session.halt();
         }
     }
 }

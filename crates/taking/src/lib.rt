@@ -6,29 +6,20 @@
 ghost use Rattle.std.specs.Prelude.{◌≡◌};
 ghost use Rattle.wording.specs.Take as take;
 
-use wording::{Area, Found, Line, Named, Piece, Stage, Taken, Verb, Want, Word, Wrong};
-
-fn taken_as(line: Line) -> Taken
-    ensures { result ≡ take.taken_as line }
-{
-    Taken {
-        line: line,
-        fault: wording::no_fault(),
-    }
-}
+use wording::{Area, Fault, Line, Piece, Verb, Want, Word, Wrong};
 
 // The line with one word more.
-fn advanced(line: Line) -> Taken
+fn advanced(line: Line) -> Result<Line, Fault>
     ensures { result ≡ take.advanced line }
 {
-    taken_as(Line {
+    Ok(Line {
         taken: wording::counted(line.taken, 1),
         ..line
     })
 }
 
 // The line with one word more, and n bytes.
-fn brought(line: Line, n: u64) -> Taken
+fn brought(line: Line, n: u64) -> Result<Line, Fault>
     ensures { result ≡ take.brought line n }
 {
     advanced(Line {
@@ -37,13 +28,10 @@ fn brought(line: Line, n: u64) -> Taken
     })
 }
 
-fn refused(line: Line, wrong: Wrong, column: u32) -> Taken
-    ensures { result ≡ take.refused line wrong column }
+fn refused(wrong: Wrong, column: u32) -> Result<Line, Fault>
+    ensures { result ≡ take.refused wrong column }
 {
-    Taken {
-        line: line,
-        fault: wording::fault_at(wrong, column),
-    }
+    Err(wording::fault_at(wrong, column))
 }
 
 // A number in its slot: the first word's in the first, a later one's in the second.
@@ -58,76 +46,73 @@ fn with_number(line: Line, n: u64) -> Line
 }
 
 #[tactic(auto, unfolding(wording::specs::Take::take_verb))]
-fn take_verb(line: Line, verb: Verb, start: u32) -> Taken
+fn take_verb(line: Line, verb: Option<Verb>, start: u32) -> Result<Line, Fault>
     ensures { result ≡ take.take_verb verb line start }
 {
-    if wording::is_verb(verb) {
-        return taken_as(Line { verb: verb, ..line });
-    }
-    refused(line, Wrong::First, start)
+    let named = verb.ok_or(wording::fault_at(Wrong::First, start))?;
+    Ok(Line {
+        verb: Some(named),
+        ..line
+    })
 }
 
 // A number below a bound; what is said of one that is not.
 #[tactic(auto, unfolding(wording::specs::Take::take_number))]
-fn take_number(line: Line, found: Found, start: u32, bound: u64, beyond: Wrong) -> Taken
+fn take_number(
+    line: Line,
+    found: Option<u64>,
+    start: u32,
+    bound: u64,
+    beyond: Wrong,
+) -> Result<Line, Fault>
     ensures { result ≡ take.take_number found line start bound beyond }
 {
-    match found {
-        Found::Number(n) => {
-            if n < bound {
-                return advanced(with_number(line, n));
-            }
-            refused(line, beyond, start)
-        }
-        Found::Other => refused(line, Wrong::Number, start),
+    let n = found.ok_or(wording::fault_at(Wrong::Number, start))?;
+    if n < bound {
+        return advanced(with_number(line, n));
     }
+    refused(beyond, start)
 }
 
 #[tactic(auto, unfolding(wording::specs::Take::take_area))]
-fn take_area(line: Line, named: Named, start: u32) -> Taken
+fn take_area(line: Line, named: Option<Area>, start: u32) -> Result<Line, Fault>
     ensures { result ≡ take.take_area named line start }
 {
-    match named {
-        Named::Area(a) => advanced(Line { area: a, ..line }),
-        Named::Other => refused(line, Wrong::Area, start),
-    }
+    let area = named.ok_or(wording::fault_at(Wrong::Area, start))?;
+    advanced(Line { area, ..line })
 }
 
 // A place below the area's size.
 #[tactic(auto, unfolding(wording::specs::Take::take_place))]
-fn take_place(line: Line, found: Found, start: u32, size: u64) -> Taken
+fn take_place(line: Line, found: Option<u64>, start: u32, size: u64) -> Result<Line, Fault>
     ensures { result ≡ take.take_place found line start size }
 {
-    match found {
-        Found::Number(n) => {
-            if n < size {
-                return advanced(Line {
-                    first: n,
-                    placed: start,
-                    ..line
-                });
-            }
-            refused(line, Wrong::Place, start)
-        }
-        Found::Other => refused(line, Wrong::Number, start),
+    let n = found.ok_or(wording::fault_at(Wrong::Number, start))?;
+    if n < size {
+        return advanced(Line {
+            first: n,
+            placed: start,
+            ..line
+        });
     }
+    refused(Wrong::Place, start)
 }
 
 // Bytes that were stored digit by digit, or one byte so often.
 #[tactic(auto, unfolding(wording::specs::Take::take_bytes))]
-fn take_bytes(bytes: &mut [u8], line: Line, p: Piece, stage: Stage, start: u32) -> Taken
-    ensures { take.Takes (take.take_bytes stage p line start bytes.old) result bytes.new }
+fn take_bytes(bytes: &mut [u8], line: Line, p: Piece, start: u32) -> Result<Line, Fault>
+    ensures { take.Takes (take.take_bytes p line start bytes.old) result bytes.new }
 {
-    match stage {
-        Stage::High => brought(line, p.stored as u64),
-        Stage::Low => refused(line, Wrong::Bytes, start),
-        Stage::TimesHigh => refused(line, Wrong::Bytes, start),
-        Stage::TimesLow => refused(line, Wrong::Bytes, start),
-        Stage::Times => {
-            wording::fill(bytes, line.filled as usize, p.times as usize, p.half);
-            brought(line, p.times)
+    match p {
+        Piece::High(stored) => brought(line, stored as u64),
+        Piece::Times(times, byte) => {
+            wording::fill(bytes, line.filled as usize, times as usize, byte);
+            brought(line, times)
         }
-        Stage::Bad => refused(line, Wrong::Bytes, start),
+        Piece::Low(_, _) | Piece::TimesHigh(_) | Piece::TimesLow(_, _) | Piece::Bad => refused(
+            Wrong::Bytes,
+            start,
+        ),
     }
 }
 
@@ -141,41 +126,32 @@ fn put_value(bytes: &mut [u8], i: u32, n: u64)
 }
 
 #[tactic(auto, unfolding(wording::specs::Take::take_value))]
-fn take_value(bytes: &mut [u8], line: Line, found: Found, start: u32) -> Taken
+fn take_value(bytes: &mut [u8], line: Line, found: Option<u64>, start: u32) -> Result<Line, Fault>
     ensures { take.Takes (take.take_value found line start bytes.old) result bytes.new }
 {
-    match found {
-        Found::Number(n) => {
-            if n < 65536 {
-                put_value(bytes, line.filled, n);
-                return brought(line, 2);
-            }
-            refused(line, Wrong::Short, start)
-        }
-        Found::Other => refused(line, Wrong::Number, start),
+    let n = found.ok_or(wording::fault_at(Wrong::Number, start))?;
+    if n < 65536 {
+        put_value(bytes, line.filled, n);
+        return brought(line, 2);
     }
+    refused(Wrong::Short, start)
 }
 
 // A word that must be what is wanted.
 #[tactic(auto, unfolding(wording::specs::Take::take_word))]
-pub fn take(bytes: &mut [u8], line: Line, w: Word, want: Want) -> Taken
+pub fn take(bytes: &mut [u8], line: Line, w: Word, want: Want) -> Result<Line, Fault>
     ensures { take.Takes (take.take_word want line w bytes.old) result bytes.new }
 {
-    let digits = w.digits;
-    let piece = w.piece;
-    let stage = piece.stage;
-    let area = line.area;
-    let found = wording::number_of(digits);
+    let found = wording::number_of(w.digits);
     match want {
         Want::First => take_verb(line, wording::verb_of(w.letters), w.start),
         Want::Size => take_number(line, found, w.start, 65537, Wrong::Size),
         Want::Short => take_number(line, found, w.start, 65536, Wrong::Short),
         Want::Number => take_number(line, found, w.start, wording::MANY, Wrong::Number),
         Want::Area => take_area(line, wording::area_of(w.letters), w.start),
-        Want::Place => take_place(line, found, w.start, wording::size_of(area)),
-        Want::Bytes => take_bytes(bytes, line, piece, stage, w.start),
+        Want::Place => take_place(line, found, w.start, wording::size_of(line.area)),
+        Want::Bytes => take_bytes(bytes, line, w.piece, w.start),
         Want::Value => take_value(bytes, line, found, w.start),
-        Want::Text => refused(line, Wrong::End, w.start),
-        Want::End => refused(line, Wrong::End, w.start),
+        Want::Text | Want::End => refused(Wrong::End, w.start),
     }
 }

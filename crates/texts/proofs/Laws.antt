@@ -2,27 +2,23 @@
 use mathlib.Core.Path.{◌≡◌, refl, sym, ap, ◌∙◌}
 use mathlib.Core.List.{List, [], ◌∷◌, ◌++◌}
 use mathlib.Core.Logic.{⊎_elim}
-use Prim.Native.Nat.{ℕ, zero, suc, ◌+◌, ◌-◌, ◌/◌, ◌%◌, ◌≤◌, ◌<◌, min}
+use Prim.Native.Nat.{ℕ, zero, suc, ◌+◌, ◌-◌, ◌*◌, ◌/◌, ◌%◌, ◌≤◌, ◌<◌, min}
 use native.Mathlib.Numerals.{add-one}
 use native.Mathlib.Omega.{arith}
 use borrow.Author.Tests.{lt-ltb, le-ltb}
 use lib.ListN.{length, length-append}
-use lib.Seq.{set_out, sets, length-sets}
-use Rattle.memory.proofs.Laws.{below_or_not, sets-append}
-use Rattle.texts.specs.Texts.{Puts, each, hex_digit, hex, decimal_by, decimal}
+use lib.Seq.{sets, length-sets}
+use Rattle.memory.proofs.Laws.{below_or_not, sets-append, sets_past}
+use Rattle.texts.specs.Codes.{codes}
+use Rattle.texts.specs.declared.Unit.{Unit}
+use Rattle.texts.specs.declared.Unit.TheVariants.{Byte, Word}
+use Rattle.texts.specs.Texts.{Puts, each, hex_digit, hex, decimal_by, decimal, show_line, look_line, show_text, look_text}
+use Rattle.texts.specs.Units.{per_line, unit_text, line, stretch}
 
 -- ---- texts one behind the other
 
 pub puts_none : (at : ℕ) (b : List ℕ) → Puts [] at b at b
 puts_none at b = record { next = omega arith; bytes = refl }
-
--- a byte that would go to the end or past it
-pub puts_past : (x at : ℕ) (b : List ℕ) → length b ≤ at → Puts (x ∷ []) at b at b
-puts_past x at b h = record { next = omega arith; bytes = sym (set_out b at x h) }
-
-sets_past : (d : List ℕ) (at : ℕ) (bs : List ℕ) → length d ≤ at → sets d at bs ≡ d
-sets_past d at [] h = refl
-sets_past d at (b ∷ bs) h = rw (set_out d at b h) (sets_past d (suc at) bs (omega arith))
 
 -- once the end is reached, it does not matter where the second text goes
 meet : (xs ys : List ℕ) (at : ℕ) (b : List ℕ) (r : ℕ) → r ≡ at + min (length xs) (length b - at)
@@ -57,6 +53,41 @@ pub puts_more : (f : ℕ → List ℕ) (i : ℕ) {at : ℕ} {b : List ℕ} {r : 
     → Puts (each f i) at b r m → Puts (f i) r m r' m' → Puts (each f (i + 1)) at b r' m'
 unfolding each
 puts_more f i p q = rw (add-one i) (puts_cat p q)
+
+-- ---- the same on a page, whose borrow is named g
+
+pub prints_none : {g at : ℕ} {b : List ℕ} → (g ≡ g) × Puts [] at b at b
+prints_none {g} {at} {b} = (refl, puts_none at b)
+
+pub prints_cat : {xs ys : List ℕ} {g at : ℕ} {b : List ℕ} {g' r : ℕ} {m : List ℕ} {g'' r' : ℕ} {m' : List ℕ}
+    → (g' ≡ g) × Puts xs at b r m → (g'' ≡ g') × Puts ys r m r' m' → (g'' ≡ g) × Puts (xs ++ ys) at b r' m'
+prints_cat p q = (q.0 ∙ p.0, puts_cat p.1 q.1)
+
+pub prints_is : {xs ys : List ℕ} {g at : ℕ} {b : List ℕ} {g' r : ℕ} {m : List ℕ}
+    → xs ≡ ys → (g' ≡ g) × Puts xs at b r m → (g' ≡ g) × Puts ys at b r m
+prints_is e p = (p.0, puts_is e p.1)
+
+-- one more of the texts that a loop prints
+pub prints_more : (f : ℕ → List ℕ) (i : ℕ) {g at : ℕ} {b : List ℕ} {g' r : ℕ} {m : List ℕ} {g'' r' : ℕ} {m' : List ℕ}
+    → (g' ≡ g) × Puts (each f i) at b r m → (g'' ≡ g') × Puts (f i) r m r' m' → (g'' ≡ g) × Puts (each f (i + 1)) at b r' m'
+prints_more f i p q = (q.0 ∙ p.0, puts_more f i p.1 q.1)
+
+-- ---- stretches, whatever their parts are
+
+pub line_is : (u : Unit) (area : List ℕ) (place n : ℕ) → hex 4 place ++ codes ":" ++ each (unit_text u area place) n ++ codes "\n" ≡ line u area place n
+unfolding show_line look_line
+line_is Byte area place n = refl
+line_is Word area place n = refl
+
+-- the line k of a stretch
+abbrev pub row : Unit → List ℕ → ℕ → ℕ → ℕ → List ℕ
+row u area place count k = line u area (place + 16 * k) (min (per_line u) (count - per_line u * k))
+
+pub stretch_is : (u : Unit) (area : List ℕ) (place count k : ℕ) → k ≡ count / per_line u + min 1 (count % per_line u)
+    → each (row u area place count) k ≡ stretch u area place count
+unfolding show_text look_text
+stretch_is Byte area place count k e = let f : k ≡ (count + 15) / 16 = omega arith in ap (each (row Byte area place count)) f
+stretch_is Word area place count k e = let f : k ≡ (count + 7) / 8 = omega arith in ap (each (row Word area place count)) f
 
 -- ---- digits
 

@@ -6,23 +6,22 @@
 ghost use Rattle.calls.specs.Calls as calls;
 ghost use Rattle.board.specs.Front as front;
 
-use board::{Record, Returned};
+use board::{Areas, Record, Returned};
 
 // ---- the core: the calls of C, on a record by value
 
 // A turn of the device of a record.
-fn turn_on(
-    d: Record,
-    memory: &mut [u8],
-    holding: &mut [u8],
-    outgoing: &mut [u8],
-    report: u16,
-) -> Returned
-    ensures { front.Turns d memory.old holding.old outgoing.old report result.kept result.answer
-        memory.new holding.new outgoing.new }
+fn turn_on(d: Record, areas: &mut Areas<'_>, report: u16) -> Returned
+    ensures { front.Turns report d areas.old result.kept result.answer areas.new }
 {
     let mut bytes = d.bytes;
-    let answer = lentoquist::lq_turn(memory, holding, outgoing, &mut bytes, report);
+    let answer = lentoquist::lq_turn(
+        areas.memory,
+        areas.holding,
+        areas.outgoing,
+        &mut bytes,
+        report,
+    );
     Returned {
         kept: Record { bytes },
         answer,
@@ -30,19 +29,18 @@ fn turn_on(
 }
 
 // A run of turns, each with the same line report. It goes by value alone, as reset does.
-pub fn run(
-    d: Record,
-    memory: &mut [u8],
-    holding: &mut [u8],
-    outgoing: &mut [u8],
-    report: u16,
-    budget: u16,
-) -> Returned
-    ensures { front.Runs d memory.old holding.old outgoing.old report budget result.kept result.answer
-        memory.new holding.new outgoing.new }
+pub fn run(d: Record, areas: &mut Areas<'_>, report: u16, budget: u16) -> Returned
+    ensures { front.Runs report budget d areas.old result.kept result.answer areas.new }
 {
     let mut bytes = d.bytes;
-    let answer = lentoquist::lq_run(memory, holding, outgoing, &mut bytes, report, budget);
+    let answer = lentoquist::lq_run(
+        areas.memory,
+        areas.holding,
+        areas.outgoing,
+        &mut bytes,
+        report,
+        budget,
+    );
     Returned {
         kept: Record { bytes },
         answer,
@@ -52,17 +50,10 @@ pub fn run(
 // ---- the record in place
 
 // A turn, with the line report.
-pub fn turn(
-    d: &mut Record,
-    memory: &mut [u8],
-    holding: &mut [u8],
-    outgoing: &mut [u8],
-    report: u16,
-) -> u64
-    ensures { front.Turns d.old memory.old holding.old outgoing.old report d.new result
-        memory.new holding.new outgoing.new }
+pub fn turn(d: &mut Record, areas: &mut Areas<'_>, report: u16) -> u64
+    ensures { front.Turns report d.old areas.old d.new result areas.new }
 {
-    let turned = turn_on(*d, memory, holding, outgoing, report);
+    let turned = turn_on(*d, areas, report);
     *d = turned.kept;
     turned.answer
 }
@@ -70,17 +61,10 @@ pub fn turn(
 // ---- the lender: the same call for a caller that holds the record by value, in a loop or not
 
 // A turn, through the front.
-pub fn turn_through(
-    kept: Record,
-    memory: &mut [u8],
-    holding: &mut [u8],
-    outgoing: &mut [u8],
-    report: u16,
-) -> Returned
-    ensures { front.Turns kept memory.old holding.old outgoing.old report result.kept result.answer
-        memory.new holding.new outgoing.new }
+pub fn turn_through(kept: Record, areas: &mut Areas<'_>, report: u16) -> Returned
+    ensures { front.Turns report kept areas.old result.kept result.answer areas.new }
 {
     let mut d = kept;
-    let answer = turn(&mut d, memory, holding, outgoing, report);
+    let answer = turn(&mut d, areas, report);
     Returned { kept: d, answer }
 }

@@ -6,79 +6,39 @@
 ghost use Rattle.std.specs.Prelude.{◌≡◌};
 ghost use Rattle.wording.specs.Lines as lines;
 
-use wording::{Area, Fault, Line, Verb, Want, Wrong};
+use wording::{Fault, Line, Verb, Want, Wrong};
 
 // By how many words a line has.
 fn want_by(taken: u32, first: Want, second: Want, third: Want, then: Want) -> Want
     ensures { result ≡ lines.want_by taken first second third then }
 {
-    if taken == 0 {
-        return first;
+    match taken {
+        0 => first,
+        1 => second,
+        2 => third,
+        _ => then,
     }
-    if taken == 1 {
-        return second;
-    }
-    if taken == 2 {
-        return third;
-    }
-    then
 }
 
 // What the next word of a line must be.
-pub fn wanted(verb: Verb, taken: u32) -> Want
+pub fn wanted(verb: Option<Verb>, taken: u32) -> Want
     ensures { result ≡ lines.wanted verb taken }
 {
     match verb {
-        Verb::Nothing => Want::First,
-        Verb::Size => want_by(taken, Want::Size, Want::End, Want::End, Want::End),
-        Verb::Reset => Want::End,
-        Verb::Attention => Want::End,
-        Verb::Arrival => want_by(taken, Want::Number, Want::Bytes, Want::Bytes, Want::Bytes),
-        Verb::Turn => want_by(taken, Want::Short, Want::Short, Want::End, Want::End),
-        Verb::Run => want_by(taken, Want::Short, Want::Short, Want::End, Want::End),
-        Verb::Bytes => want_by(taken, Want::Area, Want::Place, Want::Bytes, Want::Bytes),
-        Verb::Words => want_by(taken, Want::Area, Want::Place, Want::Value, Want::Value),
-        Verb::Show => want_by(taken, Want::Area, Want::Place, Want::Number, Want::End),
-        Verb::Look => want_by(taken, Want::Area, Want::Place, Want::Number, Want::End),
-        Verb::Interrupt => Want::End,
-        Verb::Record => Want::End,
-        Verb::Say => Want::Text,
-    }
-}
-
-// Whether the rest of the line is a text.
-pub fn is_text(want: Want) -> bool
-    ensures { result ≡ lines.is_text want }
-{
-    match want {
-        Want::First => false,
-        Want::Size => false,
-        Want::Short => false,
-        Want::Number => false,
-        Want::Area => false,
-        Want::Place => false,
-        Want::Bytes => false,
-        Want::Value => false,
-        Want::Text => true,
-        Want::End => false,
-    }
-}
-
-// Whether no further word may stand.
-pub fn is_end(want: Want) -> bool
-    ensures { result ≡ lines.is_end want }
-{
-    match want {
-        Want::First => false,
-        Want::Size => false,
-        Want::Short => false,
-        Want::Number => false,
-        Want::Area => false,
-        Want::Place => false,
-        Want::Bytes => false,
-        Want::Value => false,
-        Want::Text => false,
-        Want::End => true,
+        None => Want::First,
+        Some(Verb::Size) => want_by(taken, Want::Size, Want::End, Want::End, Want::End),
+        Some(Verb::Reset) => Want::End,
+        Some(Verb::Attention) => Want::End,
+        Some(Verb::Arrival) => want_by(taken, Want::Number, Want::Bytes, Want::Bytes, Want::Bytes),
+        Some(Verb::Turn) => want_by(taken, Want::Short, Want::Short, Want::End, Want::End),
+        Some(Verb::Run) => want_by(taken, Want::Short, Want::Short, Want::End, Want::End),
+        Some(Verb::Bytes) => want_by(taken, Want::Area, Want::Place, Want::Bytes, Want::Bytes),
+        Some(Verb::Words) => want_by(taken, Want::Area, Want::Place, Want::Value, Want::Value),
+        Some(Verb::Show) => want_by(taken, Want::Area, Want::Place, Want::Number, Want::End),
+        Some(Verb::Look) => want_by(taken, Want::Area, Want::Place, Want::Number, Want::End),
+        Some(Verb::Interrupt) => Want::End,
+        Some(Verb::Record) => Want::End,
+        Some(Verb::Say) => Want::Text,
     }
 }
 
@@ -87,20 +47,11 @@ fn least(verb: Verb) -> u32
     ensures { result ≡ lines.least verb }
 {
     match verb {
-        Verb::Nothing => 0,
-        Verb::Size => 1,
-        Verb::Reset => 0,
-        Verb::Attention => 0,
-        Verb::Arrival => 1,
-        Verb::Turn => 0,
-        Verb::Run => 1,
-        Verb::Bytes => 2,
-        Verb::Words => 2,
-        Verb::Show => 3,
-        Verb::Look => 3,
-        Verb::Interrupt => 0,
-        Verb::Record => 0,
-        Verb::Say => 0,
+        Verb::Size | Verb::Arrival | Verb::Run => 1,
+        Verb::Bytes | Verb::Words => 2,
+        Verb::Show | Verb::Look => 3,
+        Verb::Reset | Verb::Attention | Verb::Turn | Verb::Interrupt | Verb::Record | Verb::Say =>
+            0,
     }
 }
 
@@ -109,16 +60,16 @@ fn missing(want: Want) -> Wrong
     ensures { result ≡ lines.missing want }
 {
     match want {
-        Want::First => Wrong::Number,
-        Want::Size => Wrong::Number,
-        Want::Short => Wrong::Number,
-        Want::Number => Wrong::Number,
         Want::Area => Wrong::Area,
-        Want::Place => Wrong::Number,
-        Want::Bytes => Wrong::Number,
-        Want::Value => Wrong::Number,
-        Want::Text => Wrong::Number,
-        Want::End => Wrong::Number,
+        Want::First
+        | Want::Size
+        | Want::Short
+        | Want::Number
+        | Want::Place
+        | Want::Bytes
+        | Want::Value
+        | Want::Text
+        | Want::End => Wrong::Number,
     }
 }
 
@@ -126,10 +77,7 @@ fn missing(want: Want) -> Wrong
 fn has_room(end: u64, place: u64, n: u64) -> bool
     ensures { result ≡ lines.has_room end place n }
 {
-    if place <= end {
-        return n <= end - place;
-    }
-    false
+    place <= end && n <= end - place
 }
 
 // Whether what a line writes or shows lies in its area, which ends there.
@@ -137,57 +85,33 @@ fn fits(verb: Verb, line: Line, end: u64) -> bool
     ensures { result ≡ lines.fits verb line end }
 {
     match verb {
-        Verb::Nothing => true,
-        Verb::Size => true,
-        Verb::Reset => true,
-        Verb::Attention => true,
-        Verb::Arrival => true,
-        Verb::Turn => true,
-        Verb::Run => true,
-        Verb::Bytes => has_room(end, line.first, line.filled as u64),
-        Verb::Words => has_room(end, line.first, line.filled as u64),
+        Verb::Bytes | Verb::Words => has_room(end, line.first, line.filled as u64),
         Verb::Show => has_room(end, line.first, line.second),
-        Verb::Look => has_room(
-            end,
-            line.first,
-            wording::capped(line.second, wording::MANY) * 2,
-        ),
-        Verb::Interrupt => true,
-        Verb::Record => true,
-        Verb::Say => true,
+        Verb::Look => has_room(end, line.first, line.second.min(wording::MANY) * 2),
+        Verb::Size
+        | Verb::Reset
+        | Verb::Attention
+        | Verb::Arrival
+        | Verb::Turn
+        | Verb::Run
+        | Verb::Interrupt
+        | Verb::Record
+        | Verb::Say => true,
     }
 }
 
-// What is wrong with a line that has ended.
-#[tactic(auto, unfolding(wording::specs::Lines::judged))]
-pub fn judged(line: Line, behind: u32) -> Fault
+// What is wrong with a line that has ended, if something is.
+#[tactic(auto, unfolding(wording::specs::Lines::judged_by))]
+pub fn judged(line: Line, behind: u32) -> Option<Fault>
     ensures { result ≡ lines.judged line behind }
 {
-    let verb = line.verb;
-    let area = line.area;
+    let verb = line.verb?;
     if line.taken < least(verb) {
-        return wording::fault_at(missing(wanted(verb, line.taken)), behind);
+        let want = wanted(line.verb, line.taken);
+        return Some(wording::fault_at(missing(want), behind));
     }
-    if fits(verb, line, wording::size_of(area)) {
-        return wording::no_fault();
+    if fits(verb, line, wording::size_of(line.area)) {
+        return None;
     }
-    wording::fault_at(Wrong::Room, line.placed)
-}
-
-// Whether nothing is wrong.
-pub fn is_nothing(wrong: Wrong) -> bool
-    ensures { result ≡ lines.is_nothing wrong }
-{
-    match wrong {
-        Wrong::Nothing => true,
-        Wrong::First => false,
-        Wrong::Number => false,
-        Wrong::Size => false,
-        Wrong::Short => false,
-        Wrong::Area => false,
-        Wrong::Place => false,
-        Wrong::Bytes => false,
-        Wrong::Room => false,
-        Wrong::End => false,
-    }
+    Some(wording::fault_at(Wrong::Room, line.placed))
 }

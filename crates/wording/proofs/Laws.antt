@@ -1,28 +1,13 @@
--- Runs of one byte in a list of bytes, and room below an end. Assumes nothing.
+-- Runs of one byte in a list of bytes. Assumes nothing.
 use mathlib.Core.Path.{◌≡◌, refl, sym, ◌∙◌}
-use mathlib.Core.Bool.{Bool, true, false}
 use mathlib.Core.Logic.{◌⊎◌, inl, inr, ⊎_elim}
-use mathlib.Core.List.{List, [], ◌∷◌, ◌++◌}
+use mathlib.Core.List.{List, [], ◌∷◌, append_assoc}
 use Prim.Native.Nat.{ℕ, zero, suc, ◌+◌, ◌-◌, ◌≤◌, ◌<◌, min}
 use native.Mathlib.Decide.{dec_lt}
 use native.Mathlib.Omega.{arith}
-use native.Mathlib.Nat.{add-zero, add-suc, suc-add}
-use lib.Dec.{leb}
-use lib.ListN.{length, set, replicate, length-set, length-replicate, replicate-append-replicate}
-use lib.Seq.{sets, set_out}
-use borrow.Author.Tests.{le-leb, lt-leb, leb-true, leb-false}
-
--- ---- runs of one byte
-
-sets-append : (d : List ℕ) (at : ℕ) (xs ys : List ℕ) → sets d at (xs ++ ys) ≡ sets (sets d at xs) (at + length xs) ys
-sets-append d at [] ys = rw add-zero
-sets-append d at (x ∷ xs) ys = rw (add-suc, ← suc-add) (sets-append (set d at x) (suc at) xs ys)
-
--- one turn of a loop of stores
-pub fill_more : (d : List ℕ) (at i b : ℕ) → set (sets d at (replicate i b)) (at + i) b ≡ sets d at (replicate (i + 1) b)
-fill_more d at i b =
-    let l : length {A = ℕ} (replicate i b) ≡ i = length-replicate {A = ℕ} i b in
-    sym (rw (← replicate-append-replicate {A = ℕ} i 1 b, sets-append, l))
+use borrow.Rule.Slice.PartMut.{put_mid}
+use lib.ListN.{length, set, replicate, length-set, length-replicate}
+use lib.Seq.{sets, set_out, sets-eq, drop-drop}
 
 sets_past : (d : List ℕ) (at : ℕ) (bs : List ℕ) → length d ≤ at → sets d at bs ≡ d
 sets_past d at [] h = refl
@@ -45,14 +30,18 @@ fill_all d at (suc n) b =
     sets_past d at (replicate (min (suc n) (length d - at)) b) h ∙ sym (sets_past d at (replicate (suc n) b) h))
     (told at (length d) (dec_lt at (length d)))
 
--- ---- room below an end
+-- a part that holds one byte
+pub part_filled : (d : List ℕ) (at n e b : ℕ) (ys : List ℕ) → e ≡ min (at + n) (length d) → at < e → ys ≡ replicate (e - at) b
+    → put_mid at (e - at) d ys ≡ sets d at (replicate n b)
+part_filled d at n e b ys m l f =
+    let k : e - at ≡ min n (length d - at) = omega arith in
+    let q : length (replicate (e - at) b) ≡ e - at = length-replicate {A = ℕ} (e - at) b in
+    let p : sets d at (replicate (e - at) b) ≡ put_mid at (length (replicate (e - at) b)) d (replicate (e - at) b) =
+    rw (drop-drop, ← append_assoc) (sets-eq (replicate (e - at) b) d at (rw q (omega arith))) in
+    rw f (sym (rw q at p) ∙ rw k (fill_all d at n b))
 
-by_test : (e p n : ℕ) → p ≤ e → (t : Bool) → leb n (e - p) ≡ t → t ≡ leb (p + n) e
-by_test e p n h true t = sym (le-leb (p + n) e (omega (arith, h, leb-true n (e - p) t)))
-by_test e p n h false t = sym (lt-leb (p + n) e (omega (arith, h, leb-false n (e - p) t)))
-
-pub room_left : (e p n : ℕ) → p ≤ e → leb n (e - p) ≡ leb (p + n) e
-room_left e p n h = by_test e p n h (leb n (e - p)) refl
-
-pub no_room : (e p n : ℕ) → e < p → false ≡ leb (p + n) e
-no_room e p n h = sym (lt-leb (p + n) e (omega arith))
+-- or no place for it
+pub none_filled : (d : List ℕ) (at n e b : ℕ) → e ≡ min (at + n) (length d) → e ≤ at → d ≡ sets d at (replicate n b)
+none_filled d at n e b m l =
+    let k : min n (length d - at) ≡ 0 = omega arith in
+    rw k at (fill_all d at n b)

@@ -1,2 +1,2 @@
--- Laws of the bytes that a line brings, and of room below an end.
+-- Laws of the bytes that a line brings.
 pub mod Laws

@@ -1,14 +1,12 @@
 -- The words that a line's first word and its area may be: docs/replay.md, "Lines". A word's letters are one number, five bits to a letter, so
 -- that words are told apart by it. Assumes nothing.
-use Rattle.std.specs.Prelude.{cond, ℕ, ◌+◌, ◌-◌, ◌*◌, eqb, ltb}
+use Rattle.std.specs.Prelude.{cond, ℕ, ◌+◌, ◌-◌, ◌*◌, eqb, ltb, Option, Some, None}
 use Prim.Native.Char.{code}
 use Prim.Native.String.{String, [], ◌∷◌}
 use Rattle.wording.specs.declared.Verb.{Verb}
 use Rattle.wording.specs.declared.Verb.TheVariants as verb
 use Rattle.wording.specs.declared.Area.{Area}
 use Rattle.wording.specs.declared.Area.TheVariants as area
-use Rattle.wording.specs.declared.Named.{Named}
-use Rattle.wording.specs.declared.Named.TheVariants as named
 
 -- a word that has other characters than small letters, or more than twelve
 abbrev pub no_word : ℕ
@@ -30,31 +28,31 @@ spelled_from n (l ∷ ls) = spelled_from (n * 32 + (code l - 96)) ls
 abbrev pub spelled : String → ℕ
 spelled word = spelled_from 0 word
 
--- the verb that a first word names
-unfoldable pub verb_of : ℕ → Verb
+-- the verb that a first word names, if it names one
+unfoldable pub verb_of : ℕ → Option Verb
 verb_of letters =
-    cond (eqb letters (spelled "size")) verb.Size
-    (cond (eqb letters (spelled "reset")) verb.Reset
-    (cond (eqb letters (spelled "attention")) verb.Attention
-    (cond (eqb letters (spelled "arrival")) verb.Arrival
-    (cond (eqb letters (spelled "turn")) verb.Turn
-    (cond (eqb letters (spelled "run")) verb.Run
-    (cond (eqb letters (spelled "bytes")) verb.Bytes
-    (cond (eqb letters (spelled "words")) verb.Words
-    (cond (eqb letters (spelled "show")) verb.Show
-    (cond (eqb letters (spelled "look")) verb.Look
-    (cond (eqb letters (spelled "interrupt")) verb.Interrupt
-    (cond (eqb letters (spelled "record")) verb.Record
-    (cond (eqb letters (spelled "say")) verb.Say
-    verb.Nothing))))))))))))
+    cond (eqb letters (spelled "size")) (Some verb.Size)
+    (cond (eqb letters (spelled "reset")) (Some verb.Reset)
+    (cond (eqb letters (spelled "attention")) (Some verb.Attention)
+    (cond (eqb letters (spelled "arrival")) (Some verb.Arrival)
+    (cond (eqb letters (spelled "turn")) (Some verb.Turn)
+    (cond (eqb letters (spelled "run")) (Some verb.Run)
+    (cond (eqb letters (spelled "bytes")) (Some verb.Bytes)
+    (cond (eqb letters (spelled "words")) (Some verb.Words)
+    (cond (eqb letters (spelled "show")) (Some verb.Show)
+    (cond (eqb letters (spelled "look")) (Some verb.Look)
+    (cond (eqb letters (spelled "interrupt")) (Some verb.Interrupt)
+    (cond (eqb letters (spelled "record")) (Some verb.Record)
+    (cond (eqb letters (spelled "say")) (Some verb.Say)
+    None))))))))))))
 
--- the area that a word names
-unfoldable pub area_of : ℕ → Named
+-- the area that a word names, if it names one
+unfoldable pub area_of : ℕ → Option Area
 area_of letters =
-    cond (eqb letters (spelled "memory")) (named.Area area.Memory)
-    (cond (eqb letters (spelled "holding")) (named.Area area.Holding)
-    (cond (eqb letters (spelled "outgoing")) (named.Area area.Outgoing)
-    named.Other))
+    cond (eqb letters (spelled "memory")) (Some area.Memory)
+    (cond (eqb letters (spelled "holding")) (Some area.Holding)
+    (cond (eqb letters (spelled "outgoing")) (Some area.Outgoing)
+    None))
 
 -- the bytes of an area: memory 65,536, holding and outgoing 2,048 each
 abbrev pub size_of : Area → ℕ

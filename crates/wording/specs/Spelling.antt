@@ -1,13 +1,10 @@
 -- A word of a line, character by character: docs/replay.md, NUMBER and BYTES. Assumes nothing.
-use Rattle.std.specs.Prelude.{true, false, cond, ◌&&◌, List, ℕ, ◌+◌, ◌*◌, ◌%◌, min, eqb, ltb, set}
+use Rattle.std.specs.Prelude.{Bool, true, false, cond, ◌&&◌, List, ℕ, ◌+◌, ◌*◌, ◌%◌, min, eqb, ltb, set, Option, Some, None}
 use Rattle.wording.specs.Chars.{digit, counted}
 use Rattle.wording.specs.Names.{more_letters}
 use Rattle.wording.specs.declared.Digits.{Digits}
-use Rattle.wording.specs.declared.Found.{Found}
-use Rattle.wording.specs.declared.Found.TheVariants as found
 use Rattle.wording.specs.declared.Piece.{Piece}
-use Rattle.wording.specs.declared.Stage.{Stage}
-use Rattle.wording.specs.declared.Stage.TheVariants as stage
+use Rattle.wording.specs.declared.Piece.TheVariants as piece
 use Rattle.wording.specs.declared.Word.{Word}
 
 -- ---- a NUMBER: decimal, or hex digits with `h` behind them
@@ -17,91 +14,93 @@ abbrev pub many : ℕ
 many = 0x100000000
 
 abbrev pub no_digits : Digits
-no_digits = record { any = false; decimal = 0; tens = true; hex = 0; sixteens = true; closed = false }
+no_digits = record { any = false; decimal = Some 0; hex = Some 0; closed = None }
 
--- a digit behind those before it, if it is one
-abbrev pub more_decimal : ℕ → ℕ → ℕ
-more_decimal n d = cond (ltb d 10) (min (min n many * 10 + d) many) n
+-- a digit of a base behind those before it, as long as all are digits of it
+abbrev pub more_of : ℕ → Option ℕ → ℕ → Option ℕ
+more_of base None d = None
+more_of base (Some n) d = cond (ltb d base) (Some (min (min n many * base + d) many)) None
 
-abbrev pub more_hex : ℕ → ℕ → ℕ
-more_hex n d = cond (ltb d 16) (min (min n many * 16 + d) many) n
+-- the number that stands, where it may
+abbrev pub only_if : Bool → Option ℕ → Option ℕ
+only_if x n = cond x n None
 
 -- a further character, read both ways; 104 is `h`
 unfoldable pub more_digits : Digits → ℕ → Digits
 more_digits n c =
     record {
       any = true;
-      decimal = more_decimal n.decimal (digit c);
-      tens = n.tens && ltb (digit c) 10;
-      hex = more_hex n.hex (digit c);
-      sixteens = n.sixteens && ltb (digit c) 16;
-      closed = n.any && n.sixteens && eqb c 104;
+      decimal = more_of 10 n.decimal (digit c);
+      hex = more_of 16 n.hex (digit c);
+      closed = only_if (n.any && eqb c 104) n.hex;
     }
 
-abbrev pub number : ℕ → Found
-number n = cond (ltb n many) (found.Number n) found.Other
+-- a number that is not too large to be one
+abbrev pub number : Option ℕ → Option ℕ
+number None = None
+number (Some n) = only_if (ltb n many) (Some n)
+
+abbrev pub number_by : Option ℕ → Option ℕ → Option ℕ
+number_by (Some n) decimal = number (Some n)
+number_by None decimal = number decimal
 
 -- the number that a whole word is, if it is one
-unfoldable pub number_of : Digits → Found
-number_of n = cond n.closed (number n.hex) (cond (n.any && n.tens) (number n.decimal) found.Other)
+unfoldable pub number_of : Digits → Option ℕ
+number_of n = number_by n.closed (only_if n.any n.decimal)
 
 -- ---- a piece of BYTES: an even number of hex digits, two to a byte, or COUNTxHH
-
-abbrev pub piece_at : ℕ → ℕ → ℕ → Stage → Piece
-piece_at stored times half s = record { stored = stored; times = times; half = half; stage = s }
-
-abbrev pub no_piece : Piece
-no_piece = piece_at 0 0 0 stage.High
-
-abbrev pub bad_piece : Piece
-bad_piece = piece_at 0 0 0 stage.Bad
 
 -- the byte of two digits
 abbrev pub joined : ℕ → ℕ → ℕ
 joined high low = high % 16 * 16 + low % 16
 
--- `x`, 120, behind digits that are a COUNT
+-- digits that are a COUNT
+abbrev pub times_of : Option ℕ → Piece
+times_of None = piece.Bad
+times_of (Some n) = piece.TimesHigh n
+
+-- `x`, 120, behind them
 unfoldable pub after_count : Digits → ℕ → Piece
-after_count n c = cond (eqb c 120 && n.any && n.tens) (piece_at 0 n.decimal 0 stage.TimesHigh) bad_piece
+after_count n c = times_of (only_if (eqb c 120 && n.any) n.decimal)
 
 -- a further character that is no digit; the digits before it
-abbrev pub with_other : Stage → Digits → ℕ → Piece
-with_other stage.High n c = after_count n c
-with_other stage.Low n c = after_count n c
-with_other stage.TimesHigh n c = bad_piece
-with_other stage.TimesLow n c = bad_piece
-with_other stage.Times n c = bad_piece
-with_other stage.Bad n c = bad_piece
+abbrev pub with_other : Piece → Digits → ℕ → Piece
+with_other (piece.High stored) n c = after_count n c
+with_other (piece.Low stored high) n c = after_count n c
+with_other (piece.TimesHigh times) n c = piece.Bad
+with_other (piece.TimesLow times high) n c = piece.Bad
+with_other (piece.Times times byte) n c = piece.Bad
+with_other piece.Bad n c = piece.Bad
 
 -- a further digit
-abbrev pub with_digit : Stage → Piece → ℕ → Piece
-with_digit stage.High p d = piece_at p.stored 0 d stage.Low
-with_digit stage.Low p d = piece_at (counted p.stored 1) 0 0 stage.High
-with_digit stage.TimesHigh p d = piece_at 0 p.times d stage.TimesLow
-with_digit stage.TimesLow p d = piece_at 0 p.times (joined p.half d) stage.Times
-with_digit stage.Times p d = bad_piece
-with_digit stage.Bad p d = bad_piece
+abbrev pub with_digit : Piece → ℕ → Piece
+with_digit (piece.High stored) d = piece.Low stored d
+with_digit (piece.Low stored high) d = piece.High (counted stored 1)
+with_digit (piece.TimesHigh times) d = piece.TimesLow times d
+with_digit (piece.TimesLow times high) d = piece.Times times (joined high d)
+with_digit (piece.Times times byte) d = piece.Bad
+with_digit piece.Bad d = piece.Bad
 
 unfoldable pub more_piece : Piece → Digits → ℕ → Piece
-more_piece p n c = cond (ltb (digit c) 16) (with_digit p.stage p (digit c)) (with_other p.stage n c)
+more_piece p n c = cond (ltb (digit c) 16) (with_digit p (digit c)) (with_other p n c)
 
 -- the second digit of a byte stores it at its place
-abbrev pub store_digit : Stage → ℕ → ℕ → ℕ → List ℕ → List ℕ
-store_digit stage.High i high d bytes = bytes
-store_digit stage.Low i high d bytes = set bytes i (joined high d)
-store_digit stage.TimesHigh i high d bytes = bytes
-store_digit stage.TimesLow i high d bytes = bytes
-store_digit stage.Times i high d bytes = bytes
-store_digit stage.Bad i high d bytes = bytes
+abbrev pub store_digit : Piece → ℕ → ℕ → List ℕ → List ℕ
+store_digit (piece.High stored) at d bytes = bytes
+store_digit (piece.Low stored high) at d bytes = set bytes (at + stored) (joined high d)
+store_digit (piece.TimesHigh times) at d bytes = bytes
+store_digit (piece.TimesLow times high) at d bytes = bytes
+store_digit (piece.Times times byte) at d bytes = bytes
+store_digit piece.Bad at d bytes = bytes
 
 -- what a further character stores of a piece that begins at a place
 unfoldable pub store : Piece → ℕ → ℕ → List ℕ → List ℕ
-store p at c bytes = cond (ltb (digit c) 16) (store_digit p.stage (at + p.stored) p.half (digit c) bytes) bytes
+store p at c bytes = cond (ltb (digit c) 16) (store_digit p at (digit c) bytes) bytes
 
 -- ---- a word
 
 abbrev pub word_at : ℕ → Word
-word_at column = record { start = column; letters = 0; digits = no_digits; piece = no_piece }
+word_at column = record { start = column; letters = 0; digits = no_digits; piece = piece.High 0 }
 
 unfoldable pub more_word : Word → ℕ → Word
 more_word w c =

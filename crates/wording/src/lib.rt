@@ -4,7 +4,7 @@
 
 #![tactic(auto)]
 
-ghost use Rattle.std.specs.Prelude.{◌≡◌, ◌-◌, min, set, replicate};
+ghost use Rattle.std.specs.Prelude.{◌≡◌, ◌≤◌, set, replicate};
 ghost use Rattle.std.proofs.lemmas.List.Edits.{sets};
 ghost use Rattle.wording.specs.Chars as chars;
 ghost use Rattle.wording.specs.Names as names;
@@ -14,7 +14,6 @@ ghost use Rattle.wording.specs.Lines as lines;
 // What a line does, by its first word.
 #[derive(Clone, Copy)]
 pub enum Verb {
-    Nothing,
     Size,
     Reset,
     Attention,
@@ -30,6 +29,7 @@ pub enum Verb {
     Say,
 }
 
+// The three areas that a line may name.
 #[derive(Clone, Copy)]
 pub enum Area {
     Memory,
@@ -37,10 +37,9 @@ pub enum Area {
     Outgoing,
 }
 
-// What was expected where a line went wrong; `Nothing` while it is right.
+// What was expected where a line went wrong.
 #[derive(Clone, Copy)]
 pub enum Wrong {
-    Nothing,
     First,
     Number,
     Size,
@@ -67,42 +66,25 @@ pub enum Want {
     End,
 }
 
-// What a word is that must be a number.
-#[derive(Clone, Copy)]
-pub enum Found {
-    Number(u64),
-    Other,
-}
-
-// The digits of a word, read both ways: as decimal, and as hex with an h behind it. `any`: there are some; `tens`, `sixteens`: all of them are
-// decimal, hex digits; `closed`: hex digits and then an h.
+// The digits of a word, read both ways. `any`: there are some; `decimal`, `hex`: the number that they are, as long as all of them are decimal, hex
+// digits; `closed`: the number that hex digits are which have an h behind them.
 #[derive(Clone, Copy)]
 pub struct Digits {
     pub any: bool,
-    pub decimal: u64,
-    pub tens: bool,
-    pub hex: u64,
-    pub sixteens: bool,
-    pub closed: bool,
+    pub decimal: Option<u64>,
+    pub hex: Option<u64>,
+    pub closed: Option<u64>,
 }
 
-// A piece of bytes. `stored`: bytes of it so far; `half`: a digit that waits for its second, or the byte that is repeated; `stage`: what is next.
+// A piece of bytes, by what stands next, with the bytes of it that are stored, or how often a byte is repeated: a byte's first digit; its second,
+// behind the first; after COUNTx the first digit; the second; nothing more, with the byte that is repeated. Or it is no piece.
 #[derive(Clone, Copy)]
-pub struct Piece {
-    pub stored: u32,
-    pub times: u64,
-    pub half: u8,
-    pub stage: Stage,
-}
-
-// A first digit; a second; after COUNTx a first digit, a second; nothing more; it is no piece.
-#[derive(Clone, Copy)]
-pub enum Stage {
-    High,
-    Low,
-    TimesHigh,
-    TimesLow,
-    Times,
+pub enum Piece {
+    High(u32),
+    Low(u32, u8),
+    TimesHigh(u64),
+    TimesLow(u64, u8),
+    Times(u64, u8),
     Bad,
 }
 
@@ -115,10 +97,10 @@ pub struct Word {
     pub piece: Piece,
 }
 
-// What a line brought so far: its verb, how many further words, the area, two numbers, the bytes stored, the column of the place.
+// What a line brought so far: its verb, if it has one, how many further words, the area, two numbers, the bytes stored, the column of the place.
 #[derive(Clone, Copy)]
 pub struct Line {
-    pub verb: Verb,
+    pub verb: Option<Verb>,
     pub taken: u32,
     pub area: Area,
     pub first: u64,
@@ -145,70 +127,41 @@ const FAR: u32 = 0x7FFF_FFFF;
 
 // ---- characters
 
-fn wide(c: u8) -> u64
-    ensures { result ≡ c }
-{
-    c as u64
-}
-
 // A space or a tab.
 pub fn is_blank(c: u8) -> bool
     ensures { result ≡ chars.blank c }
 {
-    (c == 32) | (c == 9)
+    c == b' ' || c == b'\t'
 }
+
+// What `digit` answers of a character that is no digit.
+const NO_DIGIT: u8 = 16;
 
 // The value of a hex digit in either case; 16 for every other character.
 #[tactic(auto, unfolding(crate::specs::Chars::digit))]
 fn digit(c: u8) -> u8
     ensures { result ≡ chars.digit c }
 {
-    if c < 48 {
-        return 16;
+    match c {
+        b'0'..=b'9' => c - b'0',
+        b'A'..=b'F' => c - b'A' + 10,
+        b'a'..=b'f' => c - b'a' + 10,
+        _ => NO_DIGIT,
     }
-    if c < 58 {
-        return c - 48;
-    }
-    if c < 65 {
-        return 16;
-    }
-    if c < 71 {
-        return c - 55;
-    }
-    if c < 97 {
-        return 16;
-    }
-    if c < 103 {
-        return c - 87;
-    }
-    16
 }
 
 // The next column.
 pub fn further(column: u32) -> u32
     ensures { result ≡ chars.further column }
 {
-    if column < FAR {
-        return column + 1;
-    }
-    FAR
-}
-
-// n, or the bound if n is beyond it.
-pub fn capped(n: u64, bound: u64) -> u64
-    ensures { result ≡ min n bound }
-{
-    if n < bound {
-        return n;
-    }
-    bound
+    column.saturating_add(1).min(FAR)
 }
 
 // So many and n more, and not beyond MOST.
 pub fn counted(sofar: u32, n: u64) -> u32
     ensures { result ≡ chars.counted sofar n }
 {
-    capped(sofar as u64 + capped(n, MOST), MOST) as u32
+    (sofar as u64).saturating_add(n).min(MOST) as u32
 }
 
 // ---- a word's letters
@@ -216,63 +169,53 @@ pub fn counted(sofar: u32, n: u64) -> u32
 // A word that has other characters than small letters, or too many.
 const NO_WORD: u64 = 0x1000_0000_0000_0000;
 
-// A further letter, five bits each.
+// Letters up to here have room for one more, five bits each.
+const ROOM: u64 = 0x80_0000_0000_0000;
+
+// A further letter.
 #[tactic(auto, unfolding(crate::specs::Names::more_letters))]
 fn more_letters(letters: u64, c: u8) -> u64
     ensures { result ≡ names.more_letters letters c }
 {
-    if c < 97 {
-        return NO_WORD;
+    match c {
+        b'a'..=b'z' if letters < ROOM => letters * 32 + (c - b'a' + 1) as u64,
+        _ => NO_WORD,
     }
-    if 122 < c {
-        return NO_WORD;
-    }
-    if letters < 0x80_0000_0000_0000 {
-        return letters * 32 + wide(c - 96);
-    }
-    NO_WORD
 }
 
-// The verb that a first word names.
+// The verb that a first word names, if it names one.
 #[tactic(auto, unfolding(crate::specs::Names::verb_of))]
-pub fn verb_of(letters: u64) -> Verb
+pub fn verb_of(letters: u64) -> Option<Verb>
     ensures { result ≡ names.verb_of letters }
 {
     match letters {
-        0x9A745 => Verb::Size,
-        0x122CCB4 => Verb::Reset,
-        0x1A50AEA25EE => Verb::Attention,
-        0x6524D82C => Verb::Arrival,
-        0xA564E => Verb::Turn,
-        0x4AAE => Verb::Run,
-        0x2CD0B3 => Verb::Bytes,
-        0x177C893 => Verb::Words,
-        0x9A1F7 => Verb::Show,
-        0x63DEB => Verb::Look,
-        0x9750B295614 => Verb::Interrupt,
-        0x2451BE44 => Verb::Record,
-        0x4C39 => Verb::Say,
-        _ => Verb::Nothing,
+        0x9A745 => Some(Verb::Size),
+        0x122CCB4 => Some(Verb::Reset),
+        0x1A50AEA25EE => Some(Verb::Attention),
+        0x6524D82C => Some(Verb::Arrival),
+        0xA564E => Some(Verb::Turn),
+        0x4AAE => Some(Verb::Run),
+        0x2CD0B3 => Some(Verb::Bytes),
+        0x177C893 => Some(Verb::Words),
+        0x9A1F7 => Some(Verb::Show),
+        0x63DEB => Some(Verb::Look),
+        0x9750B295614 => Some(Verb::Interrupt),
+        0x2451BE44 => Some(Verb::Record),
+        0x4C39 => Some(Verb::Say),
+        _ => None,
     }
 }
 
-// An area, or none.
-#[derive(Clone, Copy)]
-pub enum Named {
-    Area(Area),
-    Other,
-}
-
-// The area that a word names.
+// The area that a word names, if it names one.
 #[tactic(auto, unfolding(crate::specs::Names::area_of))]
-pub fn area_of(letters: u64) -> Named
+pub fn area_of(letters: u64) -> Option<Area>
     ensures { result ≡ names.area_of letters }
 {
     match letters {
-        0x1A56BE59 => Named::Area(Area::Memory),
-        0x21EC225C7 => Named::Area(Area::Holding),
-        0x7D6877A5C7 => Named::Area(Area::Outgoing),
-        _ => Named::Other,
+        0x1A56BE59 => Some(Area::Memory),
+        0x21EC225C7 => Some(Area::Holding),
+        0x7D6877A5C7 => Some(Area::Outgoing),
+        _ => None,
     }
 }
 
@@ -282,8 +225,7 @@ pub fn size_of(area: Area) -> u64
 {
     match area {
         Area::Memory => 65536,
-        Area::Holding => 2048,
-        Area::Outgoing => 2048,
+        Area::Holding | Area::Outgoing => 2048,
     }
 }
 
@@ -294,32 +236,28 @@ fn no_digits() -> Digits
 {
     Digits {
         any: false,
-        decimal: 0,
-        tens: true,
-        hex: 0,
-        sixteens: true,
-        closed: false,
+        decimal: Some(0),
+        hex: Some(0),
+        closed: None,
     }
 }
 
-// n with the digit d behind it, if it is a decimal digit, and not beyond MANY.
-fn more_decimal(n: u64, d: u8) -> u64
-    ensures { result ≡ words.more_decimal n d }
+// A number with the digit d of a base behind it, and not beyond MANY, as long as all are digits of the base.
+fn more_of(base: u8, n: Option<u64>, d: u8) -> Option<u64>
+    requires { base ≤ 16 }
+    ensures { result ≡ words.more_of base n d }
 {
-    if d < 10 {
-        return capped(capped(n, MANY) * 10 + wide(d), MANY);
+    let before = n?;
+    if d < base {
+        return Some((before.min(MANY) * base as u64 + d as u64).min(MANY));
     }
-    n
+    None
 }
 
-// n with the digit d behind it, if it is a hex digit, and not beyond MANY.
-fn more_hex(n: u64, d: u8) -> u64
-    ensures { result ≡ words.more_hex n d }
+fn only_if(x: bool, n: Option<u64>) -> Option<u64>
+    ensures { result ≡ words.only_if x n }
 {
-    if d < 16 {
-        return capped(capped(n, MANY) * 16 + wide(d), MANY);
-    }
-    n
+    if x { n } else { None }
 }
 
 // A further character of a number.
@@ -330,62 +268,21 @@ fn more_digits(n: Digits, c: u8) -> Digits
     let d = digit(c);
     Digits {
         any: true,
-        decimal: more_decimal(n.decimal, d),
-        tens: n.tens & (d < 10),
-        hex: more_hex(n.hex, d),
-        sixteens: n.sixteens & (d < 16),
-        closed: n.any & n.sixteens & (c == 104),
+        decimal: more_of(10, n.decimal, d),
+        hex: more_of(16, n.hex, d),
+        closed: only_if(n.any && c == b'h', n.hex),
     }
 }
 
-// A number that is not too large to be one.
-fn number(n: u64) -> Found
-    ensures { result ≡ words.number n }
-{
-    if n < MANY {
-        return Found::Number(n);
-    }
-    Found::Other
-}
-
-// The number that a whole word is, if it is one.
+// The number that a whole word is, if it is one, and not too large to be one.
 #[tactic(auto, unfolding(crate::specs::Spelling::number_of))]
-pub fn number_of(n: Digits) -> Found
+pub fn number_of(n: Digits) -> Option<u64>
     ensures { result ≡ words.number_of n }
 {
-    if n.closed {
-        return number(n.hex);
-    }
-    if n.any & n.tens {
-        return number(n.decimal);
-    }
-    Found::Other
+    n.closed.or(only_if(n.any, n.decimal)).filter(|n| *n < MANY)
 }
 
 // ---- a piece of bytes
-
-fn piece_at(stored: u32, times: u64, half: u8, stage: Stage) -> Piece
-    ensures { result ≡ words.piece_at stored times half stage }
-{
-    Piece {
-        stored: stored,
-        times: times,
-        half: half,
-        stage: stage,
-    }
-}
-
-fn no_piece() -> Piece
-    ensures { result ≡ words.no_piece }
-{
-    piece_at(0, 0, 0, Stage::High)
-}
-
-fn bad_piece() -> Piece
-    ensures { result ≡ words.bad_piece }
-{
-    piece_at(0, 0, 0, Stage::Bad)
-}
 
 // The byte of two digits.
 fn joined(high: u8, low: u8) -> u8
@@ -399,37 +296,32 @@ fn joined(high: u8, low: u8) -> u8
 fn after_count(n: Digits, c: u8) -> Piece
     ensures { result ≡ words.after_count n c }
 {
-    if (c == 120) & n.any & n.tens {
-        return piece_at(0, n.decimal, 0, Stage::TimesHigh);
+    match only_if(c == b'x' && n.any, n.decimal) {
+        Some(times) => Piece::TimesHigh(times),
+        None => Piece::Bad,
     }
-    bad_piece()
 }
 
 // A further character of a piece that is no digit.
-fn with_other(stage: Stage, n: Digits, c: u8) -> Piece
-    ensures { result ≡ words.with_other stage n c }
+fn with_other(p: Piece, n: Digits, c: u8) -> Piece
+    ensures { result ≡ words.with_other p n c }
 {
-    match stage {
-        Stage::High => after_count(n, c),
-        Stage::Low => after_count(n, c),
-        Stage::TimesHigh => bad_piece(),
-        Stage::TimesLow => bad_piece(),
-        Stage::Times => bad_piece(),
-        Stage::Bad => bad_piece(),
+    match p {
+        Piece::High(_) | Piece::Low(_, _) => after_count(n, c),
+        Piece::TimesHigh(_) | Piece::TimesLow(_, _) | Piece::Times(_, _) | Piece::Bad => Piece::Bad,
     }
 }
 
 // A further digit of a piece.
-fn with_digit(stage: Stage, p: Piece, d: u8) -> Piece
-    ensures { result ≡ words.with_digit stage p d }
+fn with_digit(p: Piece, d: u8) -> Piece
+    ensures { result ≡ words.with_digit p d }
 {
-    match stage {
-        Stage::High => piece_at(p.stored, 0, d, Stage::Low),
-        Stage::Low => piece_at(counted(p.stored, 1), 0, 0, Stage::High),
-        Stage::TimesHigh => piece_at(0, p.times, d, Stage::TimesLow),
-        Stage::TimesLow => piece_at(0, p.times, joined(p.half, d), Stage::Times),
-        Stage::Times => bad_piece(),
-        Stage::Bad => bad_piece(),
+    match p {
+        Piece::High(stored) => Piece::Low(stored, d),
+        Piece::Low(stored, _) => Piece::High(counted(stored, 1)),
+        Piece::TimesHigh(times) => Piece::TimesLow(times, d),
+        Piece::TimesLow(times, high) => Piece::Times(times, joined(high, d)),
+        Piece::Times(_, _) | Piece::Bad => Piece::Bad,
     }
 }
 
@@ -438,12 +330,11 @@ fn with_digit(stage: Stage, p: Piece, d: u8) -> Piece
 fn more_piece(p: Piece, n: Digits, c: u8) -> Piece
     ensures { result ≡ words.more_piece p n c }
 {
-    let stage = p.stage;
     let d = digit(c);
-    if d < 16 {
-        return with_digit(stage, p, d);
+    if d < NO_DIGIT {
+        return with_digit(p, d);
     }
-    with_other(stage, n, c)
+    with_other(p, n, c)
 }
 
 // The byte goes to place i, if there is such a place.
@@ -455,42 +346,27 @@ pub fn put(bytes: &mut [u8], i: usize, b: u8)
     }
 }
 
-// How many of n places from i on lie below the end.
-fn room(end: usize, i: usize, n: usize) -> usize
-    ensures { result ≡ min n (end - i) }
-{
-    if end <= i {
-        return 0;
-    }
-    if end - i < n {
-        return end - i;
-    }
-    n
-}
-
 // The byte goes to n places from i on, as far as there are such.
 pub fn fill(bytes: &mut [u8], i: usize, n: usize, b: u8)
     ensures { bytes.new ≡ sets bytes.old i (replicate n b) }
 {
-    let k = room(bytes.len(), i, n);
-    let mut j: usize = 0;
-    while j < k {
-        bytes[i + j] = b;
-        j += 1;
+    let end = i.saturating_add(n).min(bytes.len());
+    if i < end {
+        bytes[i..end].fill(b);
     }
 }
 
-// A digit of a piece that stands at a place: the second of a byte stores it.
-fn store_digit(bytes: &mut [u8], stage: Stage, i: usize, high: u8, d: u8)
-    ensures { bytes.new ≡ words.store_digit stage i high d bytes.old }
+// A digit of a piece that begins at place `at`: the second of a byte stores it.
+fn store_digit(bytes: &mut [u8], p: Piece, at: u32, d: u8)
+    ensures { bytes.new ≡ words.store_digit p at d bytes.old }
 {
-    match stage {
-        Stage::High => {}
-        Stage::Low => put(bytes, i, joined(high, d)),
-        Stage::TimesHigh => {}
-        Stage::TimesLow => {}
-        Stage::Times => {}
-        Stage::Bad => {}
+    match p {
+        Piece::Low(stored, high) => put(bytes, at as usize + stored as usize, joined(high, d)),
+        Piece::High(_)
+        | Piece::TimesHigh(_)
+        | Piece::TimesLow(_, _)
+        | Piece::Times(_, _)
+        | Piece::Bad => {}
     }
 }
 
@@ -499,10 +375,9 @@ fn store_digit(bytes: &mut [u8], stage: Stage, i: usize, high: u8, d: u8)
 pub fn store(bytes: &mut [u8], p: Piece, at: u32, c: u8)
     ensures { bytes.new ≡ words.store p at c bytes.old }
 {
-    let stage = p.stage;
     let d = digit(c);
-    if d < 16 {
-        store_digit(bytes, stage, at as usize + p.stored as usize, p.half, d);
+    if d < NO_DIGIT {
+        store_digit(bytes, p, at, d);
     }
 }
 
@@ -516,7 +391,7 @@ pub fn word_at(column: u32) -> Word
         start: column,
         letters: 0,
         digits: no_digits(),
-        piece: no_piece(),
+        piece: Piece::High(0),
     }
 }
 
@@ -525,13 +400,11 @@ pub fn word_at(column: u32) -> Word
 pub fn more_word(w: Word, c: u8) -> Word
     ensures { result ≡ words.more_word w c }
 {
-    let digits = w.digits;
-    let piece = w.piece;
     Word {
         start: w.start,
         letters: more_letters(w.letters, c),
-        digits: more_digits(digits, c),
-        piece: more_piece(piece, digits, c),
+        digits: more_digits(w.digits, c),
+        piece: more_piece(w.piece, w.digits, c),
     }
 }
 
@@ -541,7 +414,7 @@ pub fn no_line() -> Line
     ensures { result ≡ lines.no_line }
 {
     Line {
-        verb: Verb::Nothing,
+        verb: None,
         taken: 0,
         area: Area::Memory,
         first: 0,
@@ -551,46 +424,8 @@ pub fn no_line() -> Line
     }
 }
 
-// Whether a first word named a verb.
-pub fn is_verb(verb: Verb) -> bool
-    ensures { result ≡ lines.is_verb verb }
-{
-    match verb {
-        Verb::Nothing => false,
-        Verb::Size => true,
-        Verb::Reset => true,
-        Verb::Attention => true,
-        Verb::Arrival => true,
-        Verb::Turn => true,
-        Verb::Run => true,
-        Verb::Bytes => true,
-        Verb::Words => true,
-        Verb::Show => true,
-        Verb::Look => true,
-        Verb::Interrupt => true,
-        Verb::Record => true,
-        Verb::Say => true,
-    }
-}
-
-// What a word makes of its line, and what is wrong with it.
-#[derive(Clone, Copy)]
-pub struct Taken {
-    pub line: Line,
-    pub fault: Fault,
-}
-
 pub fn fault_at(wrong: Wrong, column: u32) -> Fault
     ensures { result ≡ lines.fault_at wrong column }
 {
-    Fault {
-        wrong: wrong,
-        column: column,
-    }
-}
-
-pub fn no_fault() -> Fault
-    ensures { result ≡ lines.no_fault }
-{
-    fault_at(Wrong::Nothing, 0)
+    Fault { wrong, column }
 }

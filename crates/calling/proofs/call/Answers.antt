@@ -1,9 +1,8 @@
 -- `calling::call` meets its contract. Assumes nothing.
-use Rattle.board.proofs.Laws.{leaves_call}
 use Rattle.scene.proofs.Laws.{call_told}
 use Rattle.calling.proofs.call.Goals as goal
 
 pub returns : goal.returns
 returns c =
-    call_told _ _ _ _ _ _ _ _ _ _ _ _ (leaves_call _ _ _ _ _ _ _ _ _ _ _ c.lent_length-n.ensures c.lent-l.ensures c.answering.ensures)
-    (c.tell.ensures _ _ _)
+    call_told _ c.args.scene.now c.on_board-returned.result c.on_board-returned.new.areas c.put_answer.new.self c.on_board-returned.ensures
+    c.put_answer.ensures

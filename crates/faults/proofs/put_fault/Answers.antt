@@ -1,17 +1,18 @@
 -- `faults::put_fault` meets its contract: its seven parts. Assumes nothing.
 use Rattle.faults.specs.Faults.{fault_text}
-use Rattle.texts.proofs.Laws.{puts_cat}
+use Rattle.texts.proofs.Laws.{prints_cat}
 use Rattle.faults.proofs.put_fault.Goals as goal
 
 pub returns : goal.returns
 unfolding fault_text
 returns c =
-    puts_cat
-    (puts_cat
-    (puts_cat
-    (puts_cat
-    (puts_cat (puts_cat c.put_text-first.ensures c.put_decimal-second.ensures) c.put_text-third.ensures)
-    c.put_decimal-fourth.ensures)
-    c.put_text-fifth.ensures)
-    c.put_expected-sixth.ensures)
-    c.put_byte.ensures
+    rw (← c.expected.ensures)
+    (prints_cat
+    (prints_cat
+    (prints_cat
+    (prints_cat
+    (prints_cat (prints_cat c.put_text.ensures c.put_decimal.ensures) c.put_text-2.ensures)
+    c.put_decimal-2.ensures)
+    c.put_text-3.ensures)
+    c.put_text-4.ensures)
+    c.put_byte.ensures)

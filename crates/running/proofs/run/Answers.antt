@@ -1,15 +1,14 @@
 -- `running::run` meets its contract. Assumes nothing.
 use Rattle.std.proofs.Common.{arith}
-use borrow.Author.Rules.{rules}
 use Rattle.session.proofs.Laws.{ran_none, ran_more, ran_all}
 use Rattle.running.proofs.run.Goals as goal
 
-pub loop-i-init : goal.loop-i-init
-loop-i-init c = (search rules, ran_none _ _ _ _ _ _ c.args.input.now)
+pub loop-c-init : goal.loop-c-init
+loop-c-init c = ran_none c.args.input.now c.args.session.now
 
-pub loop-i-preserved : goal.loop-i-preserved
-loop-i-preserved c =
-    (search rules, ran_more _ c.args.input.now c.loop-i.i _ _ _ _ _ _ _ _ _ _ _ _ c.loop-i-test.true c.loop-i.invariant.1 c.feed-t.ensures)
+pub loop-c-preserved : goal.loop-c-preserved
+loop-c-preserved c =
+    ran_more c.args.input.now c.loop-c.c-index c.args.session.now c.loop-c.session c.feed.new.session c.loop-c-test.true c.loop-c.invariant c.feed.ensures
 
 pub returns : goal.returns
-returns c = ran_all _ c.args.input.now c.loop-i.i _ _ _ _ _ _ (omega arith) c.loop-i.invariant.1
+returns c = ran_all c.args.input.now c.loop-c.c-index c.args.session.now c.loop-c.session (omega arith) c.loop-c.invariant

@@ -1,12 +1,8 @@
--- The invariant of `running::run`: the first i characters are fed. Assumes nothing.
-use Rattle.std.proofs.Common.{◌-◌, ◌≤◌, length, take}
-use Rattle.session.specs.Run.{state_of, Runs, ran}
+-- The invariant of `running::run`: the first characters are fed. Assumes nothing.
+use Rattle.std.proofs.Common.{take}
+use Rattle.session.specs.Run.{ran}
+use Rattle.session.specs.Held.{Runs}
 use Rattle.running.proofs.run.Given as goal
 
-abbrev pub invariant-loop-i : goal.invariant-loop-i
-invariant-loop-i l =
-    (l.i ≤ length l.input)
-    × Runs (ran (state_of l.initial.t l.initial.memory l.initial.holding l.initial.outgoing l.initial.bytes l.initial.out) (take l.i l.input)) l.t l.memory l.holding l.outgoing l.bytes l.out
-
-abbrev pub decreases-loop-i : goal.decreases-loop-i
-decreases-loop-i l = length l.input - l.i
+abbrev pub invariant-loop-c : goal.invariant-loop-c
+invariant-loop-c l = Runs (λ t. ran t (take l.c-index l.input)) l.initial.session l.session

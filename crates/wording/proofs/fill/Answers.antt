@@ -1,12 +1,12 @@
--- `wording::fill` meets its contract: one turn more is one place more, and places beyond the end change nothing. Assumes nothing.
-use Rattle.std.proofs.Common.{◌≡◌, arith, rules}
-use Rattle.wording.proofs.Laws.{fill_more, fill_all}
+-- `wording::fill` meets its contract: the part of the places that there are is filled, and there may be none. Assumes nothing.
+use Rattle.std.proofs.Common.{arith, rules}
+use Rattle.wording.proofs.Laws.{part_filled, none_filled}
 use Rattle.wording.proofs.fill.Goals as goal
 
-pub loop-j-preserved : goal.loop-j-preserved
-loop-j-preserved c = (search rules, search rules, rw (← fill_more) cc)
+pub returns-then-i-end : goal.returns-then-i-end
+returns-then-i-end c =
+    part_filled c.args.bytes.now c.args.i c.args.n c.min-end.result c.args.b _ (omega arith) c.if-i-end.true (search rules)
 
-pub returns : goal.returns
-returns c =
-    let e : c.loop-j.j ≡ c.room-k.result = omega arith in
-    cc (e, fill_all c.args.bytes.now c.args.i c.args.n c.args.b)
+pub returns-else-i-end : goal.returns-else-i-end
+returns-else-i-end c =
+    none_filled c.args.bytes.now c.args.i c.args.n c.min-end.result c.args.b (omega arith) c.if-i-end.false
