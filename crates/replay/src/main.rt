@@ -83,7 +83,7 @@ fn run_list<R: Read, O: Write, E: Write>(streams: &mut Streams<O, E>, list: &mut
     }
 }
 
-// The longest name of a file, and the system's numbers for one that is longer, and for one that is no text.
+// The longest name of a file, and the system's numbers for one that is longer, and for one that is no text: the error stream has its words for them.
 const LONGEST_NAME: usize = 4096;
 
 const ENAMETOOLONG: i32 = 36;

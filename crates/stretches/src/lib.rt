@@ -74,7 +74,7 @@ fn text_of<'a>(session: &'a Session<'_>) -> &'a [u8]
     &out[..n]
 }
 
-// Standard output and the error stream, and where the words of an error are made.
+// Standard output and the error stream, and where the words of an error are made. The list is no part of it: one that cannot be opened is told here.
 #[derive(Drop)]
 pub struct Streams<O, E> {
     pub alloc: Global,
@@ -83,7 +83,8 @@ pub struct Streams<O, E> {
 }
 
 impl<O: Write, E: Write> Streams<O, E> {
-    // What goes wrong is told on the error stream: what failed, a colon and the system's words for it.
+    // What goes wrong is told on the error stream: what failed, a colon and the system's words for it. No method gives those alone: an error prints
+    // its number behind them, and is cut there.
     pub fn fail(&mut self, what: &str, error: io::Error)
         ensures { self.new.output ≡ self.old.output }
     {
@@ -96,7 +97,7 @@ impl<O: Write, E: Write> Streams<O, E> {
         };
     }
 
-    // A text on one of the two streams.
+    // A text on one of the two.
     fn write_to(&mut self, stream: Stream, text: &[u8]) -> io::Result<()>
         ensures on_errors { stream ≡ Stream.Errors → OnOk result (Appends (E.contents self.old.errors) (E.contents self.new.errors) text.now) }
         ensures not_on_output { stream ≡ Stream.Errors → self.new.output ≡ self.old.output }
