@@ -1,5 +1,5 @@
 -- Which stream has what of that which a run prints: docs/replay.md, "Bad input". Assumes nothing.
-use Rattle.std.specs.Prelude.{cond, List, [], ◌∷◌, ◌++◌, ℕ, eqb, ℤ, pos, take}
+use Rattle.std.specs.Prelude.{cond, List, [], ◌∷◌, ◌++◌, ℕ, eqb, take}
 use Rattle.std.specs.Option.{option_map_or}
 use Rattle.lines.specs.declared.Reader.{Reader}
 use Rattle.lines.specs.Reader as lines
@@ -13,11 +13,6 @@ use Rattle.session.specs.Run.{Session, State, fed, ran}
 pub data Stream : Type 0 where
   output : Stream
   errors : Stream
-
--- as the system numbers them
-abbrev pub descriptor : Stream → ℤ
-descriptor output = pos 1
-descriptor errors = pos 2
 
 -- ---- what is printed on a stream, where there is room for it
 

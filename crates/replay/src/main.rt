@@ -7,69 +7,45 @@
 ghost use Rattle.std.specs.Prelude.{◌≡◌, length};
 ghost use Rattle.printing.specs.Line.{program_room};
 
+use board::Areas;
 use session::Session;
-use std::alloc::Global;
 use std::env::{Env, FillError};
 use std::io::{Read, Write};
 use std::{fs, io};
+use stretches::{Streams, Stretches};
 
 // A piece of input, line by line.
 fn run_lines<O: Write, E: Write>(
-    alloc: Global,
-    output: &mut O,
-    errors: &mut E,
-    s: Session,
-    memory: &mut [u8],
-    holding: &mut [u8],
-    outgoing: &mut [u8],
-    bytes: &mut [u8],
-    input: &[u8],
-    out: &mut [u8],
-) -> Session {
-    let mut t = s;
-    let mut from: usize = 0;
-    while from < input.len() {
-        let to = stretches::line_end(input, from);
-        t = running::run_stretch(t, memory, holding, outgoing, bytes, &input[from..to], out);
-        t = stretches::write_out(alloc, output, errors, t, out);
-        from = to;
+    streams: &mut Streams<O, E>,
+    session: &mut Session<'_>,
+    piece: &[u8],
+) {
+    for stretch in Stretches(piece) {
+        running::run_stretch(session, stretch);
+        streams.write_out(session);
     }
-    t
 }
 
-// All of the input, piece by piece. A proved loop has to end, and nothing says that a file does: the loop counts its turns, up to a number
-// that no run uses up.
-fn run_all<R: Read, O: Write, E: Write>(
-    alloc: Global,
+// How many bytes are read at a time.
+const PIECE: usize = 4096;
+
+// All of the input, piece by piece. A proved loop has to end, and nothing says that a file does: the loop has a number of turns that no run uses
+// up. The last line needs no newline: behind the end of the input is one. Where it cannot be read there is none: a line that is not there whole is
+// not obeyed.
+fn run_pieces<R: Read, O: Write, E: Write>(
+    streams: &mut Streams<O, E>,
     list: &mut R,
-    output: &mut O,
-    errors: &mut E,
-    memory: &mut [u8],
-    holding: &mut [u8],
-    outgoing: &mut [u8],
-    bytes: &mut [u8],
-    out: &mut [u8],
-) {
-    let mut input = [0u8; 4096];
-    let mut s = session::start();
-    let mut turns = u64::MAX;
-    while turns > 0 {
-        let piece = stretches::read_piece(alloc, &mut input, list, errors);
-        let n = piece.length;
-        s = run_lines(
-            alloc,
-            output,
-            errors,
-            s,
-            memory,
-            holding,
-            outgoing,
-            bytes,
-            &input[..n],
-            out,
-        );
-        turns = stretches::turns_left(turns, piece.last, s.stopped);
+    session: &mut Session<'_>,
+) -> io::Result<()> {
+    let mut input = [0; PIECE];
+    for _ in 0..u64::MAX {
+        let piece = stretches::read_piece(list, &mut input)?;
+        run_lines(streams, session, piece.unwrap_or(b"\n"));
+        if piece.is_none() || session.stopped {
+            break;
+        }
     }
+    Ok(())
 }
 
 // Room for what one line prints, by the longest answer, of 30 characters: 65,535 of them are the most.
@@ -81,61 +57,63 @@ fn room() -> [u8; ROOM]
     [0; ROOM]
 }
 
-fn run_file<R: Read, O: Write, E: Write>(
-    alloc: Global,
-    list: &mut R,
-    output: &mut O,
-    errors: &mut E,
-) {
-    let mut memory = [0u8; 65536];
-    let mut holding = [0u8; 2048];
-    let mut outgoing = [0u8; 2048];
-    let mut bytes = [0u8; 65536];
+// How many bytes each area has, and how many a line may bring.
+const MEMORY: usize = 1 << 16;
+
+const HOLDING: usize = 2048;
+
+const OUTGOING: usize = 2048;
+
+const BYTES: usize = 1 << 16;
+
+fn run_list<R: Read, O: Write, E: Write>(streams: &mut Streams<O, E>, list: &mut R) {
+    let mut memory = [0; MEMORY];
+    let mut holding = [0; HOLDING];
+    let mut outgoing = [0; OUTGOING];
+    let mut bytes = [0; BYTES];
     let mut out = room();
-    run_all(
-        alloc,
-        list,
-        output,
-        errors,
-        &mut memory,
-        &mut holding,
-        &mut outgoing,
-        &mut bytes,
-        &mut out,
-    );
+    let areas = Areas {
+        memory: &mut memory,
+        holding: &mut holding,
+        outgoing: &mut outgoing,
+    };
+    let mut session = session::start(areas, &mut bytes, &mut out);
+    if let Err(error) = run_pieces(streams, list, &mut session) {
+        streams.fail("the list", error);
+    }
 }
 
-// The longest name of a file, and the system's numbers for one that is longer, and for one that is no text.
+// The longest name of a file, and the system's numbers for one that is longer, and for one that is no text: the error stream has its words for them.
 const LONGEST_NAME: usize = 4096;
 
 const ENAMETOOLONG: i32 = 36;
 
 const EILSEQ: i32 = 84;
 
+// The name of the list, where the program is given one.
+fn list_name<'a>(rt: &impl Env, name: &'a mut [u8]) -> io::Result<Option<&'a str>> {
+    match rt.arg(1, name) {
+        Ok(length) => str::from_utf8(&name[..length])
+            .map(Some)
+            .map_err(|_| io::Error::from_raw_os_error(EILSEQ)),
+        Err(FillError::NotPresent) => Ok(None),
+        Err(FillError::TooLong) => Err(io::Error::from_raw_os_error(ENAMETOOLONG)),
+    }
+}
+
 fn main(rt: HostRuntime) {
-    let alloc = rt.alloc();
-    let mut output = rt.stdout();
-    let mut errors = rt.stderr();
+    let mut streams = Streams {
+        alloc: rt.alloc(),
+        output: rt.stdout(),
+        errors: rt.stderr(),
+    };
     let mut name = [0u8; LONGEST_NAME];
-    let length = match rt.arg(1, &mut name) {
-        Ok(length) => length,
-        Err(FillError::NotPresent) => {
-            run_file(alloc, &mut rt.stdin(), &mut output, &mut errors);
-            return;
-        }
-        Err(_) => {
-            let error = io::Error::from_raw_os_error(ENAMETOOLONG);
-            stretches::fail(alloc, &mut errors, "the file's name", error);
-            return;
-        }
-    };
-    let Ok(path) = str::from_utf8(&name[..length]) else {
-        let error = io::Error::from_raw_os_error(EILSEQ);
-        stretches::fail(alloc, &mut errors, "the file's name", error);
-        return;
-    };
-    match fs::open(&rt, path) {
-        Ok(mut list) => run_file(alloc, &mut list, &mut output, &mut errors),
-        Err(error) => stretches::fail(alloc, &mut errors, path, error),
+    match list_name(&rt, &mut name) {
+        Ok(None) => run_list(&mut streams, &mut rt.stdin()),
+        Ok(Some(path)) => match fs::open(&rt, path) {
+            Ok(mut list) => run_list(&mut streams, &mut list),
+            Err(error) => streams.fail(path, error),
+        },
+        Err(error) => streams.fail("the file's name", error),
     }
 }

@@ -4,178 +4,124 @@
 
 #![tactic(auto)]
 
-ghost use Rattle.std.specs.Prelude.{◌⊎◌, ◌≡◌, ◌≢◌, ◌-◌, ◌<◌, ◌≤◌, min, true, false, length, take, drop, OnOk};
-ghost use Rattle.std.specs.Io.KnownBytes.{Appends};
-ghost use Rattle.session.specs.Run.{halted};
-ghost use Rattle.printing.specs.Run.{newlines};
-ghost use Rattle.printing.specs.Streams.{descriptor, stream_of};
+ghost use Rattle.std.specs.Prelude.{◌⊎◌, ◌≡◌, ◌<◌, true, false, length, OnOk, IfOk, IsNone};
+ghost use Rattle.std.specs.Iterator.{item_count};
+ghost use Rattle.std.specs.Io.KnownBytes.{Appends, Consumes, IsAtEnd};
+ghost use Rattle.session.specs.Held.{Runs, session_in, state_in};
+ghost use Rattle.session.specs.Run.{halted_in};
+ghost use Rattle.printing.specs.Run.{written};
+ghost use Rattle.printing.specs.Streams.{stream_of};
+ghost use Rattle.stretches.specs.Streams.{stream_said};
+ghost use Rattle.stretches.specs.Stretches.{CutsStretch, piece_bytes};
 
 use session::Session;
 use std::alloc::Global;
 use std::io;
 use std::io::{Read, Write};
 
-// Standard output and the error stream, as the system numbers them.
-const STDOUT_FILENO: i32 = 1;
+// The stretches of a piece of input, in order: each ends behind a newline, or at the end of the piece. So at most one line ends in each.
+#[derive(Drop)]
+pub struct Stretches<'a>(pub &'a [u8]);
 
-const STDERR_FILENO: i32 = 2;
+impl<'a> Iterator for Stretches<'a> {
+    type Item = &'a [u8];
 
-// The smaller of two numbers.
-fn least(a: usize, b: usize) -> usize
-    ensures { result ≡ min a b }
-{
-    if a < b {
-        return a;
+    ghost next_gives = { CutsStretch };
+
+    ghost remaining = { item_count (λ s. s.0.now) };
+
+    fn next(&mut self) -> Option<&'a [u8]> {
+        let stretch = self.0.split_inclusive(|c| *c == b'\n').next()?;
+        self.0 = &self.0[stretch.len()..];
+        Some(stretch)
     }
-    b
 }
 
-// Where the line that `from` lies in ends: behind its newline, or at the end of the input. So at most one line ends up to there.
-pub fn line_end(input: &[u8], from: usize) -> usize
-    requires { from < length input.now }
-    ensures { (from < result) × (result ≤ length input.now) × (newlines (take (result - from) (drop from input.now)) ≤ 1) }
+// The next piece of input, or nothing at its end.
+pub fn read_piece<'a, R: Read>(list: &mut R, input: &'a mut [u8]) -> io::Result<Option<&'a [u8]>>
+    ensures bytes { IfOk result (λ p. Consumes (R.remaining list.old) (R.remaining list.new) (piece_bytes p)) }
+    ensures end { IfOk result (λ p. 0 < length input.old → IsNone p → IsAtEnd (R.remaining list.new)) }
 {
-    let mut i = from;
-    while i < input.len() {
-        if input[i] == 10 {
-            return i + 1;
-        }
-        i += 1;
+    match list.read(input)? {
+        0 => Ok(None),
+        length => Ok(Some(&input[..length])),
     }
-    i
+}
+
+#[derive(Clone, Copy)]
+enum Stream {
+    Output,
+    Errors,
 }
 
 // The stream that has what a session has put. At most one line ends in a stretch, so where the session has stopped that is the fault alone:
 // `the_streams_have` in the room `printing`.
-fn stream(s: Session) -> i32
-    ensures { result ≡ descriptor (stream_of s) }
+fn stream_for(session: &Session<'_>) -> Stream
+    ensures { stream_said result ≡ stream_of (session_in session.now) }
 {
-    if s.stopped {
-        return STDERR_FILENO;
+    if session.stopped {
+        return Stream::Errors;
     }
-    STDOUT_FILENO
+    Stream::Output
 }
 
-// What goes wrong is told on the error stream: what failed, a colon and the system's words for it.
-pub fn fail<E: Write>(alloc: Global, errors: &mut E, what: &str, error: io::Error) {
-    let text = error.to_string(alloc);
-    let _told = match text {
-        Ok(words) => match words.as_str().split_once(" (os error ") {
-            Some((known, _)) => writeln!(errors, "{what}: {known}"),
-            None => writeln!(errors, "{what}: {words}"),
-        },
-        Err(_) => writeln!(errors, "{what}: {error}"),
-    };
-}
-
-// A text on one of the two streams.
-fn write_to<O: Write, E: Write>(
-    fd: i32,
-    output: &mut O,
-    errors: &mut E,
-    text: &[u8],
-) -> io::Result<()>
-    ensures on_errors { fd ≡ STDERR_FILENO → OnOk result (Appends (E.contents errors.old) (E.contents errors.new) text.now) }
-    ensures not_on_output { fd ≡ STDERR_FILENO → output.new ≡ output.old }
-    ensures on_output { fd ≢ STDERR_FILENO → OnOk result (Appends (O.contents output.old) (O.contents output.new) text.now) }
-    ensures not_on_errors { fd ≢ STDERR_FILENO → errors.new ≡ errors.old }
+// What a session has put.
+fn text_of<'a>(session: &'a Session<'_>) -> &'a [u8]
+    ensures { result.now ≡ written (state_in session.now) }
 {
-    if fd == STDERR_FILENO {
-        return errors.write_all(text);
+    let out = &*session.scene.page.out;
+    let n = session.scene.page.at.min(out.len());
+    &out[..n]
+}
+
+// Standard output and the error stream, and where the words of an error are made. The list is no part of it: one that cannot be opened is told here.
+#[derive(Drop)]
+pub struct Streams<O, E> {
+    pub alloc: Global,
+    pub output: O,
+    pub errors: E,
+}
+
+impl<O: Write, E: Write> Streams<O, E> {
+    // What goes wrong is told on the error stream: what failed, a colon and the system's words for it. No method gives those alone: an error prints
+    // its number behind them, and is cut there.
+    pub fn fail(&mut self, what: &str, error: io::Error)
+        ensures { self.new.output ≡ self.old.output }
+    {
+        let _ = match error.to_string(self.alloc) {
+            Ok(words) => match words.as_str().split_once(" (os error ") {
+                Some((known, _)) => writeln!(self.errors, "{what}: {known}"),
+                None => writeln!(self.errors, "{what}: {words}"),
+            },
+            Err(_) => writeln!(self.errors, "{what}: {error}"),
+        };
     }
-    output.write_all(text)
-}
 
-// What a session has put is written out: while it goes on, to standard output alone; where it has stopped, nothing goes there. Where writing fails the
-// session stops, and is else as it was.
-pub fn write_out<O: Write, E: Write>(
-    alloc: Global,
-    output: &mut O,
-    errors: &mut E,
-    s: Session,
-    out: &[u8],
-) -> Session
-    ensures session { (result ≡ s) ⊎ (result ≡ halted s) }
-    ensures answers { result.stopped ≡ false
-        → (errors.new ≡ errors.old) × Appends (O.contents output.old) (O.contents output.new) (take s.at out.now) }
-    ensures fault { s.stopped ≡ true → output.new ≡ output.old }
-{
-    let n = least(s.at, out.len());
-    match write_to(stream(s), output, errors, &out[..n]) {
-        Ok(()) => s,
-        Err(error) => {
-            fail(alloc, errors, "standard output", error);
-            session::halted(s)
+    // A text on one of the two.
+    fn write_to(&mut self, stream: Stream, text: &[u8]) -> io::Result<()>
+        ensures on_errors { stream ≡ Stream.Errors → OnOk result (Appends (E.contents self.old.errors) (E.contents self.new.errors) text.now) }
+        ensures not_on_output { stream ≡ Stream.Errors → self.new.output ≡ self.old.output }
+        ensures on_output { stream ≡ Stream.Output → OnOk result (Appends (O.contents self.old.output) (O.contents self.new.output) text.now) }
+        ensures not_on_errors { stream ≡ Stream.Output → self.new.errors ≡ self.old.errors }
+    {
+        match stream {
+            Stream::Output => self.output.write_all(text),
+            Stream::Errors => self.errors.write_all(text),
         }
     }
-}
 
-// A piece of input: how many bytes it has, and whether it is the last.
-#[derive(Clone, Copy)]
-pub struct Piece {
-    pub length: usize,
-    pub last: bool,
-}
-
-// What is read next: nothing at the end of the input. Where it cannot be read there is nothing more, and no line's end either: a line that is
-// not there whole is not obeyed.
-fn read_some<R: Read, E: Write>(
-    alloc: Global,
-    input: &mut [u8],
-    list: &mut R,
-    errors: &mut E,
-) -> Piece
-    ensures { result.length ≤ length input.new }
-{
-    match list.read(input) {
-        Ok(length) => Piece {
-            length,
-            last: false,
-        },
-        Err(error) => {
-            fail(alloc, errors, "the list", error);
-            Piece {
-                length: 0,
-                last: true,
-            }
+    // What a session has put is written out: while it goes on, to standard output alone; where it has stopped, nothing goes there. Where writing
+    // fails the session stops, and is else as it was.
+    pub fn write_out(&mut self, session: &mut Session<'_>)
+        ensures session { Runs (λ st. st) session.old session.new ⊎ Runs halted_in session.old session.new }
+        ensures answers { session.new.stopped ≡ false → (self.new.errors ≡ self.old.errors)
+            × Appends (O.contents self.old.output) (O.contents self.new.output) (written (state_in session.old)) }
+        ensures fault { session.old.stopped ≡ true → self.new.output ≡ self.old.output }
+    {
+        let stream = stream_for(session);
+        if let Err(error) = self.write_to(stream, text_of(session)) {
+            self.fail("standard output", error);
+            session.halt();
         }
     }
-}
-
-// The next piece of input. The last line needs no newline: the last piece, behind the end of the input, is one.
-pub fn read_piece<R: Read, E: Write>(
-    alloc: Global,
-    input: &mut [u8],
-    list: &mut R,
-    errors: &mut E,
-) -> Piece
-    requires { 0 < length input.old }
-    ensures { result.length ≤ length input.new }
-{
-    let p = read_some(alloc, input, list, errors);
-    if p.last {
-        return p;
-    }
-    if p.length > 0 {
-        return p;
-    }
-    input[0] = 10;
-    Piece {
-        length: 1,
-        last: true,
-    }
-}
-
-// How many turns of a loop over the pieces are left: none behind the last piece, nor where the session has stopped.
-pub fn turns_left(turns: u64, last: bool, stopped: bool) -> u64
-    requires { 0 < turns }
-    ensures { result < turns }
-{
-    if last {
-        return 0;
-    }
-    if stopped {
-        return 0;
-    }
-    turns - 1
 }

@@ -1,0 +1,2 @@
+-- Where the program cuts its input (Cuts).
+pub mod Cuts

@@ -1,0 +1,3 @@
+-- What the stretches are, and which stream has what.
+pub mod Stretches
+pub mod Streams
