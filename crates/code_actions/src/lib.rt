@@ -17,6 +17,8 @@ use copies::Any;
 use memory::{Offset, RealAddress};
 use packed::{form, setup};
 
+// A block is lent as its memory, base and offset beside each other: a struct would be taken apart at every word that is read or written.
+
 // The commands' own fields: the argument, and the addresses of an MC-Setup.
 const ARGUMENT: u16 = 6;
 

@@ -31,6 +31,8 @@ pub struct Commanded {
     pub length: u16,
 }
 
+// A block is lent as its memory, base and offset beside each other: a struct would be taken apart at every word that is read or written.
+
 // The command block: +0 status, +2 command, +4 link; the commands' own fields from +6 on.
 const STATUS: u16 = 0;
 
