@@ -1,5 +1,5 @@
 -- `code_filter::is_own` meets its contract: four bytes at once, or two slices that are equal. Assumes nothing.
-use Rattle.std.proofs.Common.{rules, ◌≡◌, ◌+◌, ◌-◌, take, drop, sym, ◌∙◌, arith}
+use Rattle.std.proofs.Common.{rules, ◌≡◌, ◌+◌, ◌-◌, length, take, drop, sym, ◌∙◌, arith}
 use Rattle.std.proofs.lemmas.Bool.Decides.{Decides-eqb, same_from_decides}
 use Rattle.std.proofs.lemmas.Slice.Eq.{slice_eq-Decides}
 use Rattle.std.specs.Bool.{Decides}
@@ -34,4 +34,5 @@ returns c =
     let l = c.args.l in
     let n : own_at + l - own_at ≡ l = omega arith in
     let same : Decides c.eq.result (take l f ≡ take l (drop own_at b)) = slice_eq-Decides Decides-eqb _ _ _ (rw n at c.eq.ensures) in
-    same_from_decides c.eq.result _ same (agree_decides b own_at f l (omega (arith, c.requires)) c.requires.2)
+    let size : length b ≡ 16 = search rules in
+    same_from_decides c.eq.result _ same (agree_decides b own_at f l (omega (arith, c.requires, size)) c.requires.1)
