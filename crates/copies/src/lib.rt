@@ -83,7 +83,7 @@ pub fn put_few(dst: &mut [u8], at: usize, src: &[u8])
 
 // What `copy_out` does where bytes pass the end of memory: up to the end, then on from the start, as often as it takes. No copy of the chip takes
 // more than two stretches, since memory has more bytes than a frame, and most take one: so this is not inlined there.
-#[inline(never)]
+#[inline(always)]
 fn copy_stretches(m: &[u8], i: usize, k: usize, dst: &mut [u8], at: usize)
     requires { (i < length m.now) × (k ≤ length dst.old - at) }
     ensures { dst.new ≡ sets dst.old at (bytes_at m.now i k) }
@@ -122,7 +122,7 @@ pub fn copy_out<R: Run>(m: &[u8], a: RealAddress, n: usize, dst: &mut [u8], at: 
 
 // What `copy_in` does where bytes pass the end of memory. Not one with `copy_stretches`: there the slice that is read goes round, here the one that is
 // written, and a loop over both would take a closure that copies.
-#[inline(never)]
+#[inline(always)]
 fn put_stretches(m: &mut [u8], i: usize, src: &[u8], at: usize, k: usize)
     requires { (i < length m.old) × (k ≤ length src.now - at) }
     ensures { m.new ≡ put_bytes m.old i (take k (drop at src.now)) }

@@ -1,5 +1,5 @@
 -- Lengths, one byte, and runs of bytes end to end. No contract cites this file. Assumes nothing.
-use Rattle.std.proofs.Common.{◌≡◌, ℕ, zero, suc, ◌+◌, ◌-◌, ◌%◌, ◌<◌, ◌≤◌, min, ◌⊎◌, List, [], ◌∷◌, ◌++◌, length, take, set, sym, refl, ap, ◌∙◌, inl, inr, ⊎_elim, add-zero, add-suc, mod-lt, mod-eq_of_lt, suc-add, zero-add, arith, append_assoc, length-set, get_or-set_other, get_or-set_same}
+use Rattle.std.proofs.Common.{◌≡◌, ℕ, zero, suc, ◌+◌, ◌-◌, ◌%◌, ◌<◌, ◌≤◌, min, ◌⊎◌, List, [], ◌∷◌, ◌++◌, length, get_or, take, drop, set, sym, refl, ap, ◌∙◌, inl, inr, ⊎_elim, add-zero, add-suc, add-one, mod-lt, mod-eq_of_lt, suc-add, zero-add, arith, append_assoc, length-set, get_or-set_other, get_or-set_same, length-drop, length-take-le, get_or-drop, take-suc}
 use native.Mathlib.Nat.{mod-add-mod, mod-eq-sub-mod}
 use native.Mathlib.Decide.{dec_lt}
 use lib.Seq.{set_out, sets, sets-eq, drop-drop}
@@ -97,6 +97,14 @@ sets_past d at (b ∷ bs) h = rw (set_out d at b h) (sets_past d (suc at) bs (om
 -- what a slice of bytes holds when a part of it was written
 pub part_put : (d : List ℕ) (at k : ℕ) (bs : List ℕ) → length bs ≡ k → at + k ≤ length d → put_mid at k d bs ≡ sets d at bs
 part_put d at k bs e h = rw (← e, drop-drop, ← append_assoc) (sym (sets-eq bs d at (omega arith)))
+
+-- a turn of the loop that copies a run
+pub run_step : (d : List ℕ) (to : ℕ) (src : List ℕ) (from i : ℕ) → from + i < length src
+    → set (sets d to (take i (drop from src))) (to + i) (get_or src (from + i) 0) ≡ sets d to (take (i + 1) (drop from src))
+run_step d to src from i h =
+    let k : i < length (drop from src) = simp length-drop (omega arith) in
+    let e : length (take i (drop from src)) ≡ i = length-take-le i (drop from src) (omega arith) in
+    sym (rw (add-one, take-suc (drop from src) i 0 k, sets-append, e, get_or-drop))
 
 pub run_all : (d : List ℕ) (at : ℕ) (src : List ℕ) → sets d at (take (min (length src) (length d - at)) src) ≡ sets d at src
 run_all d at [] = let k : min 0 (length d - at) ≡ 0 = omega arith in rw k

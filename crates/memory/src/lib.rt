@@ -188,14 +188,14 @@ pub fn room(len: usize, at: usize, n: usize) -> usize
     n.min(len.saturating_sub(at))
 }
 
-// The k bytes of src from index from on go to dst from index to on. No index wraps, so that the machine may copy many bytes at once.
+// The k bytes of src from index from on go to dst from index to on. No index wraps, so that the machine may copy many bytes at once. A loop, and no
+// copy_from_slice: a call from the one function of all calls has it keep its areas in memory, and a NOP takes a tenth more.
 pub fn copy_run(dst: &mut [u8], to: usize, src: &[u8], from: usize, k: usize)
     requires { (k ≤ length dst.old - to) × (k ≤ length src.now - from) }
     ensures { dst.new ≡ sets dst.old to (take k (drop from src.now)) }
 {
-    // Where there is nothing to copy, to may lie past the end of dst, and from past that of src.
-    if k != 0 {
-        dst[to..to + k].copy_from_slice(&src[from..from + k]);
+    for i in 0..k {
+        dst[to + i] = src[from + i];
     }
 }
 
