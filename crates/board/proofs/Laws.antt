@@ -1,10 +1,10 @@
 -- What is lent of memory, however long it is; what a board shows of a device; and that before the first reset no call is accepted, but for
 -- reset: `attention_4` and its like. Assumes nothing.
 use mathlib.Core.Path.{◌≡◌, refl, sym, ap, subst, ◌∙◌}
-use mathlib.Core.List.{List, [], ◌∷◌, ◌++◌}
-use Prim.Native.Nat.{ℕ, zero, suc, ◌≤◌, min}
-use native.Mathlib.Omega.{arith}
-use lib.ListN.{length, take, drop, length-take, take-append-drop}
+use mathlib.Core.List.{List, [], ◌++◌}
+use Prim.Native.Nat.{ℕ, min}
+use lib.ListN.{length, take, drop, take-append-drop}
+use Rattle.std.proofs.lemmas.List.{take_min, drop_min}
 use Rattle.scb.specs.Words.{any_of}
 use Rattle.device.specs.Limits.{record_size}
 use Rattle.device.specs.declared.Device.{Device}
@@ -30,33 +30,14 @@ use Rattle.board.specs.Board.{start, resized, is_high, attention, arrive, turn, 
 
 -- ---- what is lent
 
--- so many bytes are lent
-pub taken : (s : ℕ) (m : List ℕ) → s ≤ length m → s ≡ length (take s m)
-taken s m h = rw (length-take s m) (omega arith)
-
--- of a memory that is shorter than N all is lent, and nothing left
-pub take_least : (n : ℕ) (xs : List ℕ) → take (min n (length xs)) xs ≡ take n xs
-take_least zero xs = let e : min 0 (length xs) ≡ 0 = omega arith in ap (λ (k : ℕ). take k xs) e
-take_least (suc n) [] = let e : min (suc n) 0 ≡ 0 = omega arith in ap (λ (k : ℕ). take k []) e
-take_least (suc n) (x ∷ xs) =
-    let e : min (suc n) (suc (length xs)) ≡ suc (min n (length xs)) = omega arith in
-    ap (λ (k : ℕ). take k (x ∷ xs)) e ∙ ap (λ (ys : List ℕ). x ∷ ys) (take_least n xs)
-
-pub drop_least : (n : ℕ) (xs : List ℕ) → drop (min n (length xs)) xs ≡ drop n xs
-drop_least zero xs = let e : min 0 (length xs) ≡ 0 = omega arith in ap (λ (k : ℕ). drop k xs) e
-drop_least (suc n) [] = let e : min (suc n) 0 ≡ 0 = omega arith in ap (λ (k : ℕ). drop k []) e
-drop_least (suc n) (x ∷ xs) =
-    let e : min (suc n) (suc (length xs)) ≡ suc (min n (length xs)) = omega arith in
-    ap (λ (k : ℕ). drop k (x ∷ xs)) e ∙ drop_least n xs
-
 -- a call that was lent the first n bytes, n being N or the length of a shorter memory, has done what it does of the first N
 leaves : (x : exported.Areas → exported.Called) (b : Board) (n : ℕ) (m h out : List ℕ) (r : Returned) (m' h' out' : List ℕ)
     → n ≡ min b.size (length m)
     → Fronted (x (areas_with b.kept (take n m) h out)) r.kept r.answer m' h' out'
     → left_as (said_of b r.kept r.answer) (m' ++ drop n m) h' out' ≡ left_by b m (x (lent b m h out))
 leaves x b n m h out r m' h' out' e f =
-    let t : take n m ≡ take b.size m = ap (λ (k : ℕ). take k m) e ∙ take_least b.size m in
-    let d : drop n m ≡ drop b.size m = ap (λ (k : ℕ). drop k m) e ∙ drop_least b.size m in
+    let t : take n m ≡ take b.size m = ap (λ (k : ℕ). take k m) e ∙ take_min b.size m in
+    let d : drop n m ≡ drop b.size m = ap (λ (k : ℕ). drop k m) e ∙ drop_min b.size m in
     let k : Fronted (x (lent b m h out)) r.kept r.answer m' h' out' =
     subst (λ (ys : List ℕ). Fronted (x (areas_with b.kept ys h out)) r.kept r.answer m' h' out') t f in
     λ i. left_as (said_of b (record { bytes = k.kept i }) (k.answer i)) (k.memory i ++ d i) (k.holding i) (k.outgoing i)

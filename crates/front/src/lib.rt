@@ -12,46 +12,39 @@ use board::{Areas, Record, Returned};
 // ---- the core: the calls of C, on a record by value
 
 // Reset takes the record alone.
-pub fn reset(d: Record) -> Returned
+pub fn reset(mut d: Record) -> Returned
     ensures { calls.Renews (calls.reset_call d.bytes) result.answer result.kept.bytes }
 {
-    let mut bytes = d.bytes;
-    let answer = lentoquist::lq_reset(&mut bytes);
-    Returned {
-        kept: Record { bytes },
-        answer,
-    }
+    let answer = lentoquist::lq_reset(&mut d.bytes);
+    Returned { kept: d, answer }
 }
 
 // A channel attention to the device of a record.
-fn attention_on(d: Record, areas: &mut Areas<'_>) -> Returned
+fn attention_on(mut d: Record, areas: &mut Areas<'_>) -> Returned
     ensures { front.Attends d areas.old result.kept result.answer areas.new }
 {
-    let mut bytes = d.bytes;
-    let answer = lentoquist::lq_attention(areas.memory, areas.holding, areas.outgoing, &mut bytes);
-    Returned {
-        kept: Record { bytes },
-        answer,
-    }
+    let answer = lentoquist::lq_attention(
+        areas.memory,
+        areas.holding,
+        areas.outgoing,
+        &mut d.bytes,
+    );
+    Returned { kept: d, answer }
 }
 
 // A frame's arrival at the device of a record.
-fn arrival_on(d: Record, areas: &mut Areas<'_>, frame: &[u8], verdict: u32) -> Returned
+fn arrival_on(mut d: Record, areas: &mut Areas<'_>, frame: &[u8], verdict: u32) -> Returned
     ensures { front.Receives frame.now verdict d areas.old result.kept result.answer areas.new }
 {
-    let mut bytes = d.bytes;
     let answer = lentoquist::lq_arrival(
         areas.memory,
         areas.holding,
         areas.outgoing,
-        &mut bytes,
+        &mut d.bytes,
         frame,
         verdict,
     );
-    Returned {
-        kept: Record { bytes },
-        answer,
-    }
+    Returned { kept: d, answer }
 }
 
 // ---- the record in place
@@ -77,19 +70,22 @@ pub fn receive(d: &mut Record, areas: &mut Areas<'_>, frame: &[u8], verdict: u32
 // ---- the lenders: the same calls for a caller that holds the record by value, in a loop or not
 
 // A channel attention, through the front.
-pub fn attend_through(kept: Record, areas: &mut Areas<'_>) -> Returned
+pub fn attend_through(mut kept: Record, areas: &mut Areas<'_>) -> Returned
     ensures { front.Attends kept areas.old result.kept result.answer areas.new }
 {
-    let mut d = kept;
-    let answer = attend(&mut d, areas);
-    Returned { kept: d, answer }
+    let answer = attend(&mut kept, areas);
+    Returned { kept, answer }
 }
 
 // A frame's arrival, through the front.
-pub fn receive_through(kept: Record, areas: &mut Areas<'_>, frame: &[u8], verdict: u32) -> Returned
+pub fn receive_through(
+    mut kept: Record,
+    areas: &mut Areas<'_>,
+    frame: &[u8],
+    verdict: u32,
+) -> Returned
     ensures { front.Receives frame.now verdict kept areas.old result.kept result.answer areas.new }
 {
-    let mut d = kept;
-    let answer = receive(&mut d, areas, frame, verdict);
-    Returned { kept: d, answer }
+    let answer = receive(&mut kept, areas, frame, verdict);
+    Returned { kept, answer }
 }

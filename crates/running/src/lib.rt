@@ -30,6 +30,7 @@ fn judge(session: &mut Session<'_>)
         session.stop(fault);
         return;
     }
+    // The bytes are lent by themselves: what is taken of them where the scene is lent too has no rule in the proof.
     let bytes = &mut *session.bytes;
     obey(&mut session.scene, session.reader.line, bytes);
     session.line = session.line.wrapping_add(1);

@@ -17,13 +17,13 @@ use Rattle.wording.specs.declared.Verb.{Verb}
 use Rattle.wording.specs.declared.Verb.TheVariants as verb
 use Rattle.std.proofs.Common.{Option, Some, None}
 use Rattle.texts.specs.declared.Page.{Page}
-use Rattle.texts.specs.declared.Unit.{Unit}
-use Rattle.texts.specs.declared.Unit.TheVariants as unit
-use Rattle.texts.specs.Units.{stretch}
+use Rattle.texts.specs.declared.Item.{Item}
+use Rattle.texts.specs.declared.Item.TheVariants as item
+use Rattle.texts.specs.Items.{stretch}
 use Rattle.texts.specs.Page.{Prints}
 use Rattle.texts.specs.Texts.{answer_text}
 use Rattle.scene.specs.declared.Scene.{Scene as Held}
-use Rattle.scene.specs.Scene.{Scene, play_of, scene_of, scene_in, Plays, behind, printed, tell_by, called, turns_of, turn_count, areas_of, Writes, with_areas, wrote, shown, looked, obeyed, asked_by, calls_of, named, stretch_by, hosted, done_by}
+use Rattle.scene.specs.Scene.{Scene, play_of, scene_of, scene_in, Plays, printed, tell_by, called, turns_of, turn_count, areas_of, Writes, with_areas, wrote, shown, looked, obeyed, asked_by, calls_of, named, stretch_by, hosted, done_by}
 
 -- ---- what is left of the scene
 
@@ -52,15 +52,15 @@ pub writes : (l : Line) (own : List ℕ) (c : Held) (q : Lent) → Writes l.area
 writes l own c q w = ((w.0, refl), ap (with_areas (scene_in c)) w.1)
 
 -- a stretch of the area that is named
-pub stretch_named : (u : Unit) (a : Area) (m h og : List ℕ) (place count : ℕ)
+pub stretch_named : (u : Item) (a : Area) (m h og : List ℕ) (place count : ℕ)
     → stretch u (named a (areas_of m h og)) place count ≡ stretch_by u a m h og place count
 unfolding shown looked
-stretch_named unit.Byte area.Memory m h og place count = refl
-stretch_named unit.Byte area.Holding m h og place count = refl
-stretch_named unit.Byte area.Outgoing m h og place count = refl
-stretch_named unit.Word area.Memory m h og place count = refl
-stretch_named unit.Word area.Holding m h og place count = refl
-stretch_named unit.Word area.Outgoing m h og place count = refl
+stretch_named item.Byte area.Memory m h og place count = refl
+stretch_named item.Byte area.Holding m h og place count = refl
+stretch_named item.Byte area.Outgoing m h og place count = refl
+stretch_named item.Word area.Memory m h og place count = refl
+stretch_named item.Word area.Holding m h og place count = refl
+stretch_named item.Word area.Outgoing m h og place count = refl
 
 -- ---- one thing after another
 

@@ -14,8 +14,8 @@ use Rattle.wording.specs.declared.Line.{Line}
 use Rattle.wording.specs.declared.Verb.{Verb}
 use Rattle.wording.specs.declared.Verb.TheVariants as verb
 use Rattle.texts.specs.Texts.{answer_text, interrupt_text, show_text, look_text}
-use Rattle.texts.specs.declared.Unit.{Unit}
-use Rattle.texts.specs.declared.Unit.TheVariants as unit
+use Rattle.texts.specs.declared.Item.{Item}
+use Rattle.texts.specs.declared.Item.TheVariants as item
 use Rattle.scene.specs.declared.Scene.{Scene as Held}
 
 -- ---- the scene
@@ -184,11 +184,11 @@ named area.Memory a = a.memory
 named area.Holding a = a.holding
 named area.Outgoing a = a.outgoing
 
-abbrev pub stretch_by : Unit → Area → List ℕ → List ℕ → List ℕ → ℕ → ℕ → List ℕ
-stretch_by unit.Byte = shown
-stretch_by unit.Word = looked
+abbrev pub stretch_by : Item → Area → List ℕ → List ℕ → List ℕ → ℕ → ℕ → List ℕ
+stretch_by item.Byte = shown
+stretch_by item.Word = looked
 
-abbrev pub showed : Unit → Line → Scene → Scene
+abbrev pub showed : Item → Line → Scene → Scene
 showed u l s = printed (stretch_by u l.area s.memory s.holding s.outgoing (l.first % many) (l.second % many)) s
 
 -- a line that makes no call
@@ -196,8 +196,8 @@ unfoldable pub hosted : Verb → Line → List ℕ → Scene → Scene
 hosted verb.Size l own s = scene_of (play_of (resized s.play.board l.first) s.play.at) s.memory s.holding s.outgoing s.out
 hosted verb.Bytes l own s = wrote l own s
 hosted verb.Words l own s = wrote l own s
-hosted verb.Show l own s = showed unit.Byte l s
-hosted verb.Look l own s = showed unit.Word l s
+hosted verb.Show l own s = showed item.Byte l s
+hosted verb.Look l own s = showed item.Word l s
 hosted verb.Interrupt l own s = printed (interrupt_text (is_high s.play.board)) s
 hosted verb.Record l own s = printed (record_text s.play.board) s
 hosted verb.Say l own s = printed (say_text own) s

@@ -10,7 +10,7 @@ ghost use Rattle.scene.specs.Scene.{Plays, Writes};
 ghost use Rattle.scene.specs.Scene as scene;
 
 use board::{Areas, Asked, Board};
-use texts::{Page, Unit};
+use texts::{Item, Page};
 use wording::{Area, Line, Verb};
 
 // The board, the areas that its calls are lent, and the page.
@@ -23,6 +23,9 @@ pub struct Scene<'a> {
 
 // ---- calls
 
+// Counts and reports are below this.
+const SHORT: u64 = 1 << 16;
+
 // How many turns a line asks for, each for itself or as a run: one, if it does not say.
 fn turn_count(line: Line) -> u16
     ensures { result ≡ scene.turn_count line }
@@ -30,7 +33,7 @@ fn turn_count(line: Line) -> u16
     if line.taken == 0 {
         return 1;
     }
-    (line.first % 65536) as u16
+    (line.first % SHORT) as u16
 }
 
 // How often a line makes its call: once, or so many turns.
@@ -48,7 +51,7 @@ pub fn asked(verb: Verb, line: Line) -> Option<Asked>
     ensures { result ≡ scene.asked_by verb line }
 {
     let verdict = (line.first % wording::MANY) as u32;
-    let report = (line.second % 65536) as u16;
+    let report = (line.second % SHORT) as u16;
     let budget = turn_count(line);
     match verb {
         Verb::Reset => Some(Asked::Reset),
@@ -91,7 +94,7 @@ fn write(areas: &mut Areas<'_>, area: Area, place: usize, own: &[u8])
 fn put_record(page: &mut Page<'_>, b: Board)
     ensures { Prints (scene.record_text b) page.old page.new }
 {
-    page.put_stretch(Unit::Byte, &b.kept.bytes, 0, 256);
+    page.put_stretch(Item::Byte, &b.kept.bytes, 0, b.kept.bytes.len() as u32);
 }
 
 // A text, and the line's end.
@@ -104,13 +107,13 @@ fn put_said(page: &mut Page<'_>, own: &[u8])
 
 impl Scene<'_> {
     // A stretch of the area that a line names.
-    fn show(&mut self, unit: Unit, line: Line)
-        ensures { Plays (scene.showed unit line) self.old self.new }
+    fn show(&mut self, item: Item, line: Line)
+        ensures { Plays (scene.showed item line) self.old self.new }
     {
         let place = (line.first % wording::MANY) as u32;
         let count = (line.second % wording::MANY) as u32;
         let area = named(&self.areas, line.area);
-        self.page.put_stretch(unit, area, place, count);
+        self.page.put_stretch(item, area, place, count);
     }
 
     // A line that makes no call; own: the bytes or the text that it brought.
@@ -122,8 +125,8 @@ impl Scene<'_> {
             Verb::Bytes | Verb::Words => {
                 write(&mut self.areas, line.area, line.first as usize, own);
             }
-            Verb::Show => self.show(Unit::Byte, line),
-            Verb::Look => self.show(Unit::Word, line),
+            Verb::Show => self.show(Item::Byte, line),
+            Verb::Look => self.show(Item::Word, line),
             Verb::Interrupt => self.page.put_interrupt(board::interrupt(self.board)),
             Verb::Record => put_record(&mut self.page, self.board),
             Verb::Say => put_said(&mut self.page, own),

@@ -1,18 +1,18 @@
 -- What the proofs of the session share: one thing after another, a line, a character, a stretch character by character. Assumes nothing.
-use Rattle.std.proofs.Common.{◌≡◌, ℕ, zero, suc, ◌+◌, ◌%◌, ◌^◌, ◌<◌, min, Bool, true, false, cond, eqb, List, [], ◌∷◌, ◌++◌, length, get_or, take, sym, refl, ap, ◌∙◌, arith, Option, Some, None}
+use Rattle.std.proofs.Common.{◌≡◌, ℕ, zero, suc, ◌+◌, ◌%◌, ◌^◌, ◌<◌, Bool, true, false, cond, eqb, List, [], ◌∷◌, ◌++◌, length, get_or, take, sym, refl, ap, ◌∙◌, arith, Option, Some, None}
+use Rattle.std.proofs.Math.Seq.{take-length}
 use borrow.Author.Tests.{eq-eqb, ne_eqb}
 use Rattle.std.specs.Option.{option_map_or}
 use Rattle.wording.specs.declared.Fault.{Fault}
-use Rattle.wording.specs.declared.Line.{Line}
 use Rattle.lines.specs.declared.Reader.{Reader}
 use Rattle.lines.specs.Reader as lines
 use Rattle.texts.specs.declared.Page.{Page}
 use Rattle.texts.specs.Page.{Prints}
 use Rattle.faults.specs.Faults.{fault_text}
 use Rattle.scene.specs.declared.Scene.{Scene as Staged}
-use Rattle.scene.specs.Scene.{Scene, scene_in, Plays, obeyed}
+use Rattle.scene.specs.Scene.{Plays, obeyed}
 use Rattle.session.specs.declared.Session.{Session as Held}
-use Rattle.session.specs.Run.{Session, State, state_of, halted_in, stopped_at, stopped_in, stopped_by, behind_line, line_obeyed, judged, judged_in, ended_by, line_ended, read_by, fed, ran}
+use Rattle.session.specs.Run.{State, state_of, halted_in, stopped_at, stopped_in, stopped_by, behind_line, line_obeyed, judged, judged_in, ended_by, line_ended, read_by, fed, ran}
 use Rattle.session.specs.Held.{session_in, state_in, Runs}
 
 -- ---- one thing after another
@@ -128,10 +128,6 @@ unfolding ran
 ran_append t [] ys = refl
 ran_append t (x ∷ xs) ys = ran_append (fed t x) xs ys
 
-take_all : (xs : List ℕ) → take (length xs) xs ≡ xs
-take_all [] = refl
-take_all (x ∷ xs) = ap (λ (ys : List ℕ). x ∷ ys) (take_all xs)
-
 -- one character more
 ran_take : (t : State) (xs : List ℕ) (i : ℕ) → i < length xs → fed (ran t (take i xs)) (get_or xs i 0) ≡ ran t (take (suc i) xs)
 unfolding ran
@@ -154,4 +150,4 @@ ran_more xs i h k j l p q =
 pub ran_all : (xs : List ℕ) (i : ℕ) (h k : Held) → i ≡ length xs → Runs (λ t. ran t (take i xs)) h k → Runs (λ t. ran t xs) h k
 ran_all xs i h k l p =
     runs_is (λ t. ran t (take i xs)) (λ t. ran t xs) h k
-    (ap (λ (ys : List ℕ). ran (state_in h) ys) (ap (λ (m : ℕ). take m xs) l ∙ take_all xs)) p
+    (ap (λ (ys : List ℕ). ran (state_in h) ys) (ap (λ (m : ℕ). take m xs) l ∙ take-length xs)) p

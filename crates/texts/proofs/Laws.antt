@@ -10,10 +10,10 @@ use lib.ListN.{length, length-append}
 use lib.Seq.{sets, length-sets}
 use Rattle.memory.proofs.Laws.{below_or_not, sets-append, sets_past}
 use Rattle.texts.specs.Codes.{codes}
-use Rattle.texts.specs.declared.Unit.{Unit}
-use Rattle.texts.specs.declared.Unit.TheVariants.{Byte, Word}
+use Rattle.texts.specs.declared.Item.{Item}
+use Rattle.texts.specs.declared.Item.TheVariants.{Byte, Word}
 use Rattle.texts.specs.Texts.{Puts, each, hex_digit, hex, decimal_by, decimal, show_line, look_line, show_text, look_text}
-use Rattle.texts.specs.Units.{per_line, unit_text, line, stretch}
+use Rattle.texts.specs.Items.{per_line, item_text, line, stretch}
 
 -- ---- texts one behind the other
 
@@ -74,16 +74,16 @@ prints_more f i p q = (q.0 ∙ p.0, puts_more f i p.1 q.1)
 
 -- ---- stretches, whatever their parts are
 
-pub line_is : (u : Unit) (area : List ℕ) (place n : ℕ) → hex 4 place ++ codes ":" ++ each (unit_text u area place) n ++ codes "\n" ≡ line u area place n
+pub line_is : (u : Item) (area : List ℕ) (place n : ℕ) → hex 4 place ++ codes ":" ++ each (item_text u area place) n ++ codes "\n" ≡ line u area place n
 unfolding show_line look_line
 line_is Byte area place n = refl
 line_is Word area place n = refl
 
 -- the line k of a stretch
-abbrev pub row : Unit → List ℕ → ℕ → ℕ → ℕ → List ℕ
+abbrev pub row : Item → List ℕ → ℕ → ℕ → ℕ → List ℕ
 row u area place count k = line u area (place + 16 * k) (min (per_line u) (count - per_line u * k))
 
-pub stretch_is : (u : Unit) (area : List ℕ) (place count k : ℕ) → k ≡ count / per_line u + min 1 (count % per_line u)
+pub stretch_is : (u : Item) (area : List ℕ) (place count k : ℕ) → k ≡ count / per_line u + min 1 (count % per_line u)
     → each (row u area place count) k ≡ stretch u area place count
 unfolding show_text look_text
 stretch_is Byte area place count k e = let f : k ≡ (count + 15) / 16 = omega arith in ap (each (row Byte area place count)) f

@@ -2,4 +2,4 @@
 pub mod Codes
 pub mod Texts
 pub mod Page
-pub mod Units
+pub mod Items

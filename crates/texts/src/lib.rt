@@ -7,7 +7,7 @@ ghost use Rattle.std.specs.Prelude.{◌≡◌, [], ◌∷◌, ◌++◌, ◌+◌,
 ghost use Rattle.texts.specs.Codes.{codes};
 ghost use Rattle.texts.specs.Page.{Prints};
 ghost use Rattle.texts.specs.Texts as texts;
-ghost use Rattle.texts.specs.Units as units;
+ghost use Rattle.texts.specs.Items as items;
 
 // The slice that texts are put into, and where the next one goes. What would pass the slice's end goes nowhere, and the place stays at the end.
 #[derive(Drop)]
@@ -18,14 +18,14 @@ pub struct Page<'a> {
 
 // What the parts of a line of memory are: bytes, or words, low byte first.
 #[derive(Clone, Copy)]
-pub enum Unit {
+pub enum Item {
     Byte,
     Word,
 }
 
 // ---- answers
 
-// The numbers of the reasons.
+// The numbers of the reasons: an answer of C's is one number, and its reason one in it.
 const TOO_FEW: u64 = 1;
 
 const NO_MATCH: u64 = 2;
@@ -64,16 +64,21 @@ const NUMBERS: u64 = 1 << 16;
 
 const REASONS: u64 = 1 << 8;
 
-// ---- units
+// ---- items
 
-impl Unit {
+// The bytes that a line shows, at most; the places that its four digits tell apart.
+const LINE: usize = 16;
+
+const PLACES: usize = 1 << 16;
+
+impl Item {
     // How many a line has, at most.
     fn per_line(self) -> usize
-        ensures { result ≡ units.per_line self }
+        ensures { result ≡ items.per_line self }
     {
         match self {
-            Unit::Byte => 16,
-            Unit::Word => 8,
+            Item::Byte => LINE,
+            Item::Word => LINE / 2,
         }
     }
 }
@@ -181,14 +186,14 @@ impl Page<'_> {
 
     // ---- stretches
 
-    // The unit i of those from a place on, a blank before it.
-    fn put_unit(&mut self, unit: Unit, area: &[u8], place: usize, i: u8)
-        ensures { Prints (units.unit_text unit area.now place i) self.old self.new }
+    // The item i of those from a place on, a blank before it.
+    fn put_item(&mut self, item: Item, area: &[u8], place: usize, i: u8)
+        ensures { Prints (items.item_text item area.now place i) self.old self.new }
     {
         self.put_byte(b' ');
-        match unit {
-            Unit::Byte => self.put_hex2(byte_behind(area, place, i as usize)),
-            Unit::Word => {
+        match item {
+            Item::Byte => self.put_hex2(byte_behind(area, place, i as usize)),
+            Item::Word => {
                 let low = byte_behind(area, place, 2 * i as usize);
                 let high = byte_behind(area, place, 2 * i as usize + 1);
                 self.put_hex4(u16::from_le_bytes([low, high]));
@@ -200,30 +205,30 @@ impl Page<'_> {
     fn put_place(&mut self, place: usize)
         ensures { Prints (texts.hex 4 place ++ codes ":") self.old self.new }
     {
-        self.put_hex4((place % 65536) as u16);
+        self.put_hex4((place % PLACES) as u16);
         self.put_byte(b':');
     }
 
-    // A line of n units, from a place on.
-    fn put_line(&mut self, unit: Unit, area: &[u8], place: usize, n: u8)
-        ensures { Prints (units.line unit area.now place n) self.old self.new }
+    // A line of n items, from a place on.
+    fn put_line(&mut self, item: Item, area: &[u8], place: usize, n: u8)
+        ensures { Prints (items.line item area.now place n) self.old self.new }
     {
         self.put_place(place);
         for i in 0..n {
-            self.put_unit(unit, area, place, i);
+            self.put_item(item, area, place, i);
         }
         self.put_byte(b'\n');
     }
 
-    // The lines of a stretch of units.
-    pub fn put_stretch(&mut self, unit: Unit, area: &[u8], place: u32, count: u32)
-        ensures { Prints (units.stretch unit area.now place count) self.old self.new }
+    // The lines of a stretch of items.
+    pub fn put_stretch(&mut self, item: Item, area: &[u8], place: u32, count: u32)
+        ensures { Prints (items.stretch item area.now place count) self.old self.new }
     {
         let n = count as usize;
-        let most = unit.per_line();
+        let most = item.per_line();
         for k in 0..n.div_ceil(most) {
             let here = most.min(n - most * k);
-            self.put_line(unit, area, place as usize + 16 * k, here as u8);
+            self.put_line(item, area, place as usize + LINE * k, here as u8);
         }
     }
 }

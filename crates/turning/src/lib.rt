@@ -11,40 +11,32 @@ use board::{Areas, Record, Returned};
 // ---- the core: the calls of C, on a record by value
 
 // A turn of the device of a record.
-fn turn_on(d: Record, areas: &mut Areas<'_>, report: u16) -> Returned
+fn turn_on(mut d: Record, areas: &mut Areas<'_>, report: u16) -> Returned
     ensures { front.Turns report d areas.old result.kept result.answer areas.new }
 {
-    let mut bytes = d.bytes;
     let answer = lentoquist::lq_turn(
         areas.memory,
         areas.holding,
         areas.outgoing,
-        &mut bytes,
+        &mut d.bytes,
         report,
     );
-    Returned {
-        kept: Record { bytes },
-        answer,
-    }
+    Returned { kept: d, answer }
 }
 
 // A run of turns, each with the same line report. It goes by value alone, as reset does.
-pub fn run(d: Record, areas: &mut Areas<'_>, report: u16, budget: u16) -> Returned
+pub fn run(mut d: Record, areas: &mut Areas<'_>, report: u16, budget: u16) -> Returned
     ensures { front.Runs report budget d areas.old result.kept result.answer areas.new }
 {
-    let mut bytes = d.bytes;
     let answer = lentoquist::lq_run(
         areas.memory,
         areas.holding,
         areas.outgoing,
-        &mut bytes,
+        &mut d.bytes,
         report,
         budget,
     );
-    Returned {
-        kept: Record { bytes },
-        answer,
-    }
+    Returned { kept: d, answer }
 }
 
 // ---- the record in place
@@ -61,10 +53,9 @@ pub fn turn(d: &mut Record, areas: &mut Areas<'_>, report: u16) -> u64
 // ---- the lender: the same call for a caller that holds the record by value, in a loop or not
 
 // A turn, through the front.
-pub fn turn_through(kept: Record, areas: &mut Areas<'_>, report: u16) -> Returned
+pub fn turn_through(mut kept: Record, areas: &mut Areas<'_>, report: u16) -> Returned
     ensures { front.Turns report kept areas.old result.kept result.answer areas.new }
 {
-    let mut d = kept;
-    let answer = turn(&mut d, areas, report);
-    Returned { kept: d, answer }
+    let answer = turn(&mut kept, areas, report);
+    Returned { kept, answer }
 }

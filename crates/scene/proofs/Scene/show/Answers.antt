@@ -6,4 +6,4 @@ use Rattle.scene.proofs.Scene.show.Goals as goal
 pub returns : goal.returns
 returns c =
     prints _ c.args.self.now c.put_stretch.new.self
-    (prints_is (stretch_named c.args.unit c.args.line.area _ _ _ _ _) (rw c.named-area.ensures at c.put_stretch.ensures))
+    (prints_is (stretch_named c.args.item c.args.line.area _ _ _ _ _) (rw c.named-area.ensures at c.put_stretch.ensures))

@@ -1,8 +1,8 @@
--- The invariant of `texts::Page::put_line`: the first i units are put behind the place. Assumes nothing.
+-- The invariant of `texts::Page::put_line`: the first i items are put behind the place. Assumes nothing.
 use Rattle.texts.specs.Page.{Prints}
 use Rattle.texts.specs.Texts.{each}
-use Rattle.texts.specs.Units.{unit_text}
+use Rattle.texts.specs.Items.{item_text}
 use Rattle.texts.proofs.Page.put_line.Given as goal
 
 abbrev pub invariant-loop-i : goal.invariant-loop-i
-invariant-loop-i l = Prints (each (unit_text l.unit l.area l.place) l.i) l.initial.self l.self
+invariant-loop-i l = Prints (each (item_text l.item l.area l.place) l.i) l.initial.self l.self

@@ -1,8 +1,8 @@
--- `texts::Page::put_unit` meets its contract: a blank and two digits, or four. Assumes nothing.
+-- `texts::Page::put_item` meets its contract: a blank and two digits, or four. Assumes nothing.
 use Rattle.std.proofs.Common.{◌≡◌, ◌+◌, ◌*◌, arith}
 use Rattle.texts.specs.Texts.{byte_text, word_text}
 use Rattle.texts.proofs.Laws.{prints_cat}
-use Rattle.texts.proofs.Page.put_unit.Goals as goal
+use Rattle.texts.proofs.Page.put_item.Goals as goal
 
 pub returns-in-Byte : goal.returns-in-Byte
 unfolding byte_text
