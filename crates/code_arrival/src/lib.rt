@@ -26,7 +26,7 @@ const LONGEST: usize = 2048;
 const FCS: u64 = 4;
 
 // Where in the holding area a held frame begins.
-const HELD_FROM: usize = 0;
+pub const HELD_FROM: usize = 0;
 
 // The length of a frame. One that exceeds 2,048 bytes is refused before anything here is asked.
 #[tactic(auto, unfolding(receive::specs::Arrival::length_of))]

@@ -23,7 +23,7 @@ ghost use Rattle.attention.specs.Status as statuses;
 ghost use Rattle.code_attention.specs.Attends as attends;
 
 use memory::{Offset, RealAddress};
-use packed::{Packed, cu, ru, setup};
+use packed::{CNA, CX, Packed, RNR, cu, ru, setup};
 
 // The SCB: +0 status, +2 command; its other fields are the rooms code_control's and code_receive's to say.
 const STATUS: u16 = 0;
@@ -57,14 +57,7 @@ const CODES: u16 = 0x0770;
 // RUS of Ready.
 const RUS_READY: u16 = 4;
 
-// The events in their number: CX, CNA, RNR.
-const CX: u64 = 8;
-
-const CNA: u64 = 2;
-
-const RNR: u64 = 1;
-
-// Those of an initialisation.
+// The events of an initialisation.
 const INITIAL_EVENTS: u64 = CX + CNA;
 
 // The setup after reset: the minimum length, and each byte of the own address.

@@ -21,7 +21,7 @@ ghost use Rattle.code_command.specs.Inner as inner;
 use code_actions::Done;
 use copies::{Any, Few};
 use memory::{Offset, RealAddress};
-use packed::{cu, form, setup};
+use packed::{CNA, CX, cu, form, setup};
 
 // What a service comes to besides the lent bytes: the unit, the events as a number below 16, the length sent.
 #[derive(Clone, Copy)]
@@ -74,11 +74,6 @@ const BUFFER: u16 = 4;
 const COUNTS: u16 = 1 << 14;
 
 const EOF: u16 = 1 << 15;
-
-// Events as a number: 8 CX, 2 CNA.
-const CX: u64 = 8;
-
-const CNA: u64 = 2;
 
 // A service that leaves the unit so, raises so much and sends so much.
 fn served(tag: u64, word: u64, raised: u64, length: u16) -> Commanded

@@ -21,10 +21,11 @@ ghost use Rattle.code_arrival.specs.Arrives.{frame_in};
 ghost use Rattle.code_receive.specs.Receives as receives;
 ghost use Rattle.code_receive.specs.Receives.{part_by, Quietly, Serves};
 
+use code_arrival::HELD_FROM;
 use copies::{Any, Few};
 use device::Counter;
 use memory::{Offset, RealAddress};
-use packed::{form, ru};
+use packed::{FR, RNR, form, ru};
 
 // What a service comes to, besides the lent bytes: the unit, and the events that came up.
 #[derive(Clone, Copy)]
@@ -49,14 +50,6 @@ fn quiet(tag: u64, word: u64, rest: u64) -> Received
 {
     served(tag, word, rest, 0)
 }
-
-// The events FR and RNR.
-const FR: u64 = 4;
-
-const RNR: u64 = 1;
-
-// Where in the holding area a held frame begins.
-const HELD_FROM: usize = 0;
 
 // The frame descriptor: +0 status, +2 EL and S, +4 link, +6 first buffer descriptor, +8 the header.
 const STATUS: u16 = 0;

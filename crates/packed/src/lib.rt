@@ -56,6 +56,15 @@ const INITIALISED: u64 = 1 << 0;
 
 const RU_LAST: u64 = 1 << 1;
 
+// The events, as they stand in a number of them: the highest is bit 15 of the SCB's status.
+pub const CX: u64 = 1 << 3;
+
+pub const FR: u64 = 1 << 2;
+
+pub const CNA: u64 = 1 << 1;
+
+pub const RNR: u64 = 1 << 0;
+
 // How many numbers a field holds.
 const EVENT_SETS: u64 = 1 << 4;
 

@@ -42,7 +42,9 @@ pub fn times(verb: Verb, line: Line) -> u16
 {
     match verb {
         Verb::Turn => turn_count(line),
-        _ => 1,
+        Verb::Size | Verb::Reset | Verb::Attention | Verb::Arrival | Verb::Run => 1,
+        Verb::Bytes | Verb::Words | Verb::Show | Verb::Look => 1,
+        Verb::Interrupt | Verb::Record | Verb::Say => 1,
     }
 }
 
