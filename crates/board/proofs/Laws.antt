@@ -23,7 +23,7 @@ use Rattle.calls.specs.Calls as exported
 use Rattle.calls.specs.Refusals.{Lengths}
 use Rattle.calls.proofs.Rows.{LengthsRight}
 use Rattle.calls.proofs.Laws.{no_image}
-use Rattle.board.specs.declared.Returned.{Returned}
+use Rattle.board.specs.declared.Record.{Record}
 use Rattle.board.specs.Front.{areas_with, Fronted}
 use Rattle.board.specs.declared.Board.{Board}
 use Rattle.board.specs.Board.{start, resized, is_high, attention, arrive, turn, run, said_of, lent, Left, left_as, left_by, on_board, Call, reset, exported_of}
@@ -31,16 +31,16 @@ use Rattle.board.specs.Board.{start, resized, is_high, attention, arrive, turn, 
 -- ---- what is lent
 
 -- a call that was lent the first n bytes, n being N or the length of a shorter memory, has done what it does of the first N
-leaves : (x : exported.Areas → exported.Called) (b : Board) (n : ℕ) (m h out : List ℕ) (r : Returned) (m' h' out' : List ℕ)
+leaves : (x : exported.Areas → exported.Called) (b : Board) (n : ℕ) (m h out : List ℕ) (d : Record) (a : ℕ) (m' h' out' : List ℕ)
     → n ≡ min b.size (length m)
-    → Fronted (x (areas_with b.kept (take n m) h out)) r.kept r.answer m' h' out'
-    → left_as (said_of b r.kept r.answer) (m' ++ drop n m) h' out' ≡ left_by b m (x (lent b m h out))
-leaves x b n m h out r m' h' out' e f =
+    → Fronted (x (areas_with b.kept (take n m) h out)) d a m' h' out'
+    → left_as (said_of b d a) (m' ++ drop n m) h' out' ≡ left_by b m (x (lent b m h out))
+leaves x b n m h out d a m' h' out' e f =
     let t : take n m ≡ take b.size m = ap (λ (k : ℕ). take k m) e ∙ take_min b.size m in
-    let d : drop n m ≡ drop b.size m = ap (λ (k : ℕ). drop k m) e ∙ drop_min b.size m in
-    let k : Fronted (x (lent b m h out)) r.kept r.answer m' h' out' =
-    subst (λ (ys : List ℕ). Fronted (x (areas_with b.kept ys h out)) r.kept r.answer m' h' out') t f in
-    λ i. left_as (said_of b (record { bytes = k.kept i }) (k.answer i)) (k.memory i ++ d i) (k.holding i) (k.outgoing i)
+    let s : drop n m ≡ drop b.size m = ap (λ (k : ℕ). drop k m) e ∙ drop_min b.size m in
+    let k : Fronted (x (lent b m h out)) d a m' h' out' =
+    subst (λ (ys : List ℕ). Fronted (x (areas_with b.kept ys h out)) d a m' h' out') t f in
+    λ i. left_as (said_of b (record { bytes = k.kept i }) (k.answer i)) (k.memory i ++ s i) (k.holding i) (k.outgoing i)
 
 -- reset leaves memory and areas as they were
 pub reset_leaves : (b : Board) (m h out : List ℕ)
@@ -51,11 +51,11 @@ reset_leaves b m h out =
     let r = exported.reset_call b.kept.bytes in
     ap (λ (ys : List ℕ). left_as (said_of b (record { bytes = r.kept }) r.answer) ys h out) (take-append-drop b.size m)
 
-pub leaves_call : (c : Call) (b : Board) (n : ℕ) (m h out : List ℕ) (r : Returned) (m' h' out' : List ℕ) → n ≡ min b.size (length m)
-    → Fronted (exported_of c (areas_with b.kept (take n m) h out)) r.kept r.answer m' h' out'
-    → left_as (said_of b r.kept r.answer) (m' ++ drop n m) h' out' ≡ on_board c b m h out
+pub leaves_call : (c : Call) (b : Board) (n : ℕ) (m h out : List ℕ) (d : Record) (a : ℕ) (m' h' out' : List ℕ) → n ≡ min b.size (length m)
+    → Fronted (exported_of c (areas_with b.kept (take n m) h out)) d a m' h' out'
+    → left_as (said_of b d a) (m' ++ drop n m) h' out' ≡ on_board c b m h out
 unfolding on_board
-leaves_call c b n m h out r m' h' out' e f = leaves (exported_of c) b n m h out r m' h' out' e f
+leaves_call c b n m h out d a m' h' out' e f = leaves (exported_of c) b n m h out d a m' h' out' e f
 
 -- ---- what is shown
 

@@ -4,7 +4,6 @@ use Rattle.device.specs.Limits.{record_size}
 use Rattle.calls.specs.Calls as exported
 use Rattle.board.specs.declared.Record.{Record}
 use Rattle.board.specs.declared.Areas.{Areas}
-use Rattle.board.specs.declared.Returned.{Returned}
 use Rattle.board.specs.Front.{areas_with, Stays}
 use Rattle.board.specs.declared.Board.{Board}
 use Rattle.board.specs.declared.Asked.{Asked}
@@ -83,9 +82,9 @@ exported_of (run report budget) a = exported.run_call a report budget
 unfoldable pub on_board : Call → Board → List ℕ → List ℕ → List ℕ → Left
 on_board c b m h out = left_by b m (exported_of c (lent b m h out))
 
--- what the code that makes a call leaves: r is what it gives back, p and q are the areas before it and after it
-abbrev pub Leaves : Call → Board → Areas → Returned → Areas → Type 0
-Leaves c b p r q =
+-- what the code that makes a call leaves: b and p are the board and the areas before it, b' and q after it, a is the answer
+abbrev pub Leaves : Call → Board → Areas → Board → ℕ → Areas → Type 0
+Leaves c b p b' a q =
     Stays p q
-    × (left_as (said_of b r.kept r.answer) q.memory.now q.holding.now q.outgoing.now
+    × (left_as (record { board = b'; answer = a }) q.memory.now q.holding.now q.outgoing.now
     ≡ on_board c b p.memory.now p.holding.now p.outgoing.now)

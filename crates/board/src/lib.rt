@@ -27,7 +27,7 @@ pub struct Areas<'a> {
     pub outgoing: &'a mut [u8],
 }
 
-// What a call gives back to a program that holds its record by value: the record, and the answer as one number.
+// What a call on a record by value gives: the record, and the answer as one number.
 #[derive(Clone, Copy)]
 pub struct Returned {
     pub kept: Record,

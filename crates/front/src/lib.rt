@@ -1,6 +1,6 @@
 // The thin front: attention and arrival on one device record that is lent and changed in place; the third, turn, is in the room `turning`.
-// Each hands the record by value to the core, which is the call that C makes, and stores the record that it gives. Above each stands a
-// lender, for a program that holds its record by value: it lends it for one call and gives it back. Reset goes by value alone.
+// Each hands the record by value to the core, which is the call that C makes, and stores the record that it gives. Reset goes by value alone.
+// The front is to be functions over a device record in place, above a core by value: the form is laid down, so each call has its own.
 
 #![tactic(auto)]
 
@@ -65,27 +65,4 @@ pub fn receive(d: &mut Record, areas: &mut Areas<'_>, frame: &[u8], verdict: u32
     let arrived = arrival_on(*d, areas, frame, verdict);
     *d = arrived.kept;
     arrived.answer
-}
-
-// ---- the lenders: the same calls for a caller that holds the record by value, in a loop or not
-
-// A channel attention, through the front.
-pub fn attend_through(mut kept: Record, areas: &mut Areas<'_>) -> Returned
-    ensures { front.Attends kept areas.old result.kept result.answer areas.new }
-{
-    let answer = attend(&mut kept, areas);
-    Returned { kept, answer }
-}
-
-// A frame's arrival, through the front.
-pub fn receive_through(
-    mut kept: Record,
-    areas: &mut Areas<'_>,
-    frame: &[u8],
-    verdict: u32,
-) -> Returned
-    ensures { front.Receives frame.now verdict kept areas.old result.kept result.answer areas.new }
-{
-    let answer = receive(&mut kept, areas, frame, verdict);
-    Returned { kept, answer }
 }

@@ -8,8 +8,7 @@ use native.Mathlib.Omega.{arith}
 use Rattle.board.specs.declared.Areas.{Areas as Lent}
 use Rattle.board.specs.declared.Asked.{Asked}
 use Rattle.board.specs.declared.Board.{Board}
-use Rattle.board.specs.declared.Returned.{Returned}
-use Rattle.board.specs.Board.{Call, turn, call_of, left_as, said_of, Leaves}
+use Rattle.board.specs.Board.{Call, turn, call_of, left_as, Leaves}
 use Rattle.wording.specs.declared.Area.{Area}
 use Rattle.wording.specs.declared.Area.TheVariants as area
 use Rattle.wording.specs.declared.Line.{Line}
@@ -36,13 +35,12 @@ prints text c q p = (
 )
 
 -- a call that was made, and whose answer was printed
-pub call_told : (x : Call) (c : Held) (r : Returned) (q : Lent) (g : Page) → Leaves x c.board c.areas r q → Prints (answer_text r.answer) c.page g
-    → Plays (called x) c (record { board = record { kept = r.kept; size = c.board.size }; areas = q; page = g })
+pub call_told : (x : Call) (c : Held) (b : Board) (a : ℕ) (q : Lent) (g : Page) → Leaves x c.board c.areas b a q
+    → Prints (answer_text a) c.page g → Plays (called x) c (record { board = b; areas = q; page = g })
 unfolding called
-call_told x c r q g l t =
-    let b : Board = record { kept = r.kept; size = c.board.size } in
+call_told x c b a q g l t =
     let told : scene_of (play_of b g.at) q.memory.now q.holding.now q.outgoing.now g.out.now
-    ≡ tell_by c.page.at c.page.out.now (left_as (said_of c.board r.kept r.answer) q.memory.now q.holding.now q.outgoing.now) =
+    ≡ tell_by c.page.at c.page.out.now (left_as (record { board = b; answer = a }) q.memory.now q.holding.now q.outgoing.now) =
     λ i. scene_of (play_of b (t.1.next i)) q.memory.now q.holding.now q.outgoing.now (t.1.bytes i) in
     ((l.0, t.0), told ∙ ap (tell_by c.page.at c.page.out.now) l.1)
 

@@ -1,5 +1,6 @@
-// The thin front, as in the room `front`: turn, on one device record that is lent and changed in place, with its core and its lender; and a
-// run of turns, which goes by value.
+// The thin front, as in the room `front`: turn, on one device record that is lent and changed in place, with its core; and a run of turns,
+// which goes by value. The front is to be functions over a device record in place, above a core by value: the form is laid down, so each
+// call has its own.
 
 #![tactic(auto)]
 
@@ -48,14 +49,4 @@ pub fn turn(d: &mut Record, areas: &mut Areas<'_>, report: u16) -> u64
     let turned = turn_on(*d, areas, report);
     *d = turned.kept;
     turned.answer
-}
-
-// ---- the lender: the same call for a caller that holds the record by value, in a loop or not
-
-// A turn, through the front.
-pub fn turn_through(mut kept: Record, areas: &mut Areas<'_>, report: u16) -> Returned
-    ensures { front.Turns report kept areas.old result.kept result.answer areas.new }
-{
-    let answer = turn(&mut kept, areas, report);
-    Returned { kept, answer }
 }
