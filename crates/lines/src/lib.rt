@@ -19,7 +19,7 @@ pub enum Part {
 }
 
 // The reader: where it stands, the column of the next character, the column behind the last word, the word, the line, and what is wrong with it,
-// if something is.
+// if something is. By value, so that each step is one expression, as in specs/Reader; the bytes change in place, since a line may bring 65,536.
 #[derive(Clone, Copy)]
 pub struct Reader {
     pub part: Part,

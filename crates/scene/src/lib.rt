@@ -23,9 +23,6 @@ pub struct Scene<'a> {
 
 // ---- calls
 
-// Counts and reports are below this.
-const SHORT: u64 = 1 << 16;
-
 // How many turns a line asks for, each for itself or as a run: one, if it does not say.
 fn turn_count(line: Line) -> u16
     ensures { result ≡ scene.turn_count line }
@@ -33,7 +30,7 @@ fn turn_count(line: Line) -> u16
     if line.taken == 0 {
         return 1;
     }
-    (line.first % SHORT) as u16
+    (line.first % wording::SHORT) as u16
 }
 
 // How often a line makes its call: once, or so many turns.
@@ -53,7 +50,7 @@ pub fn asked(verb: Verb, line: Line) -> Option<Asked>
     ensures { result ≡ scene.asked_by verb line }
 {
     let verdict = (line.first % wording::MANY) as u32;
-    let report = (line.second % SHORT) as u16;
+    let report = (line.second % wording::SHORT) as u16;
     let budget = turn_count(line);
     match verb {
         Verb::Reset => Some(Asked::Reset),
@@ -79,7 +76,7 @@ fn named<'a>(areas: &'a Areas<'_>, area: Area) -> &'a [u8]
     }
 }
 
-// The host writes.
+// The host writes. It chooses for itself: a loan to write out of the three would have to say what each is when it is given back.
 #[tactic(auto, unfolding(crate::specs::Scene::areas_by))]
 fn write(areas: &mut Areas<'_>, area: Area, place: usize, own: &[u8])
     ensures { Writes area place own.now areas.old areas.new }

@@ -4,7 +4,7 @@
 
 #![tactic(auto)]
 
-ghost use Rattle.std.specs.Prelude.{◌⊎◌, ◌≡◌, ◌<◌, true, false, length, OnOk, IfOk, IsNone};
+ghost use Rattle.std.specs.Prelude.{◌⊎◌, ◌≡◌, ◌<◌, ◌≤◌, true, false, length, OnOk, IfOk, IsNone};
 ghost use Rattle.std.specs.Iterator.{item_count};
 ghost use Rattle.std.specs.Io.KnownBytes.{Appends, Consumes, IsAtEnd};
 ghost use Rattle.session.specs.Held.{Runs, session_in, state_in};
@@ -20,6 +20,7 @@ use std::io;
 use std::io::{Read, Write};
 
 // The stretches of a piece of input, in order: each ends behind a newline, or at the end of the piece. So at most one line ends in each.
+// The library's cuts, with what a stretch is as its law.
 #[derive(Drop)]
 pub struct Stretches<'a>(pub &'a [u8]);
 
@@ -30,6 +31,7 @@ impl<'a> Iterator for Stretches<'a> {
 
     ghost remaining = { item_count (λ s. s.0.now) };
 
+    // The next stretch; none behind the last.
     fn next(&mut self) -> Option<&'a [u8]> {
         let stretch = self.0.split_inclusive(|c| *c == b'\n').next()?;
         self.0 = &self.0[stretch.len()..];
@@ -37,10 +39,11 @@ impl<'a> Iterator for Stretches<'a> {
     }
 }
 
-// The next piece of input, or nothing at its end.
+// The next piece of input, or nothing at its end. An error is answered: who calls it tells it and ends the run.
 pub fn read_piece<'a, R: Read>(list: &mut R, input: &'a mut [u8]) -> io::Result<Option<&'a [u8]>>
     ensures bytes { IfOk result (λ p. Consumes (R.remaining list.old) (R.remaining list.new) (piece_bytes p)) }
     ensures end { IfOk result (λ p. 0 < length input.old → IsNone p → IsAtEnd (R.remaining list.new)) }
+    ensures length { IfOk result (λ p. length (piece_bytes p) ≤ length input.old) }
 {
     match list.read(input)? {
         0 => Ok(None),
@@ -48,6 +51,7 @@ pub fn read_piece<'a, R: Read>(list: &mut R, input: &'a mut [u8]) -> io::Result<
     }
 }
 
+// Standard output, the error stream.
 #[derive(Clone, Copy)]
 enum Stream {
     Output,

@@ -28,6 +28,7 @@ fn brought(line: Line, n: u64) -> Result<Line, Fault>
     })
 }
 
+// What was expected instead of the word that begins in a column.
 fn refused(wrong: Wrong, column: u32) -> Result<Line, Fault>
     ensures { result ≡ take.refused wrong column }
 {
@@ -45,6 +46,7 @@ fn with_number(line: Line, n: u64) -> Line
     Line { second: n, ..line }
 }
 
+// A line's first word, which names its verb.
 #[tactic(auto, unfolding(wording::specs::Take::take_verb))]
 fn take_verb(line: Line, verb: Option<Verb>, start: u32) -> Result<Line, Fault>
     ensures { result ≡ take.take_verb verb line start }
@@ -74,6 +76,7 @@ fn take_number(
     refused(beyond, start)
 }
 
+// The area that a word names.
 #[tactic(auto, unfolding(wording::specs::Take::take_area))]
 fn take_area(line: Line, named: Option<Area>, start: u32) -> Result<Line, Fault>
     ensures { result ≡ take.take_area named line start }
@@ -121,16 +124,18 @@ fn take_bytes(bytes: &mut [u8], line: Line, p: Piece, start: u32) -> Result<Line
 fn put_value(bytes: &mut [u8], i: u32, n: u64)
     ensures { bytes.new ≡ take.put_value i n bytes.old }
 {
-    wording::put(bytes, i as usize, (n % 256) as u8);
-    wording::put(bytes, i as usize + 1, (n / 256 % 256) as u8);
+    let [low, high] = ((n % wording::SHORT) as u16).to_le_bytes();
+    wording::put(bytes, i as usize, low);
+    wording::put(bytes, i as usize + 1, high);
 }
 
+// A word of 16 bits, which is stored.
 #[tactic(auto, unfolding(wording::specs::Take::take_value))]
 fn take_value(bytes: &mut [u8], line: Line, found: Option<u64>, start: u32) -> Result<Line, Fault>
     ensures { take.Takes (take.take_value found line start bytes.old) result bytes.new }
 {
     let n = found.ok_or(wording::fault_at(Wrong::Number, start))?;
-    if n < 65536 {
+    if n < wording::SHORT {
         put_value(bytes, line.filled, n);
         return brought(line, 2);
     }
@@ -145,8 +150,8 @@ pub fn take(bytes: &mut [u8], line: Line, w: Word, want: Want) -> Result<Line, F
     let found = wording::number_of(w.digits);
     match want {
         Want::First => take_verb(line, wording::verb_of(w.letters), w.start),
-        Want::Size => take_number(line, found, w.start, 65537, Wrong::Size),
-        Want::Short => take_number(line, found, w.start, 65536, Wrong::Short),
+        Want::Size => take_number(line, found, w.start, wording::SHORT + 1, Wrong::Size),
+        Want::Short => take_number(line, found, w.start, wording::SHORT, Wrong::Short),
         Want::Number => take_number(line, found, w.start, wording::MANY, Wrong::Number),
         Want::Area => take_area(line, wording::area_of(w.letters), w.start),
         Want::Place => take_place(line, found, w.start, wording::size_of(line.area)),

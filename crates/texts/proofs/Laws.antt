@@ -99,11 +99,11 @@ four : (a b c d a' b' c' d' : ℕ) → a ≡ a' → b ≡ b' → c ≡ c' → d 
     → hex_digit a ∷ hex_digit b ∷ hex_digit c ∷ hex_digit d ∷ [] ≡ hex_digit a' ∷ hex_digit b' ∷ hex_digit c' ∷ hex_digit d' ∷ []
 four a b c d a' b' c' d' p q r s = rw (p, q, r, s)
 
-pub hex_four : (w : ℕ) → hex 2 (w / 256) ++ hex 2 (w % 256) ≡ hex 4 w
+pub hex_four : (w : ℕ) → hex 2 (w / 256 % 256) ++ hex 2 (w % 256) ≡ hex 4 w
 unfolding hex
 hex_four w =
-    let a : w / 256 / 16 % 16 ≡ w / 16 / 16 / 16 % 16 = omega arith in
-    let b : w / 256 % 16 ≡ w / 16 / 16 % 16 = omega arith in
+    let a : w / 256 % 256 / 16 % 16 ≡ w / 16 / 16 / 16 % 16 = omega arith in
+    let b : w / 256 % 256 % 16 ≡ w / 16 / 16 % 16 = omega arith in
     let c : w % 256 / 16 % 16 ≡ w / 16 % 16 = omega arith in
     let d : w % 256 % 16 ≡ w % 16 = omega arith in
     four _ _ _ _ _ _ _ _ a b c d

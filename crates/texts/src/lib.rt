@@ -108,7 +108,7 @@ impl Page<'_> {
         ensures { Prints text.now self.old self.new }
     {
         memory::put_run(self.out, self.at, text);
-        self.at += text.len().min(self.out.len().saturating_sub(self.at));
+        self.at += memory::room(self.out.len(), self.at, text.len());
     }
 
     // A byte.
@@ -132,8 +132,9 @@ impl Page<'_> {
     fn put_hex4(&mut self, w: u16)
         ensures { Prints (texts.hex 4 w) self.old self.new }
     {
-        self.put_hex2((w / 256) as u8);
-        self.put_hex2((w % 256) as u8);
+        let [high, low] = w.to_be_bytes();
+        self.put_hex2(high);
+        self.put_hex2(low);
     }
 
     // Decimal digits, no zero in front. It calls itself at most 19 times.

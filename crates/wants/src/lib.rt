@@ -27,17 +27,16 @@ pub fn wanted(verb: Option<Verb>, taken: u32) -> Want
     match verb {
         None => Want::First,
         Some(Verb::Size) => want_by(taken, Want::Size, Want::End, Want::End, Want::End),
-        Some(Verb::Reset) => Want::End,
-        Some(Verb::Attention) => Want::End,
+        Some(Verb::Reset | Verb::Attention | Verb::Interrupt | Verb::Record) => Want::End,
         Some(Verb::Arrival) => want_by(taken, Want::Number, Want::Bytes, Want::Bytes, Want::Bytes),
-        Some(Verb::Turn) => want_by(taken, Want::Short, Want::Short, Want::End, Want::End),
-        Some(Verb::Run) => want_by(taken, Want::Short, Want::Short, Want::End, Want::End),
+        Some(Verb::Turn | Verb::Run) => {
+            want_by(taken, Want::Short, Want::Short, Want::End, Want::End)
+        }
         Some(Verb::Bytes) => want_by(taken, Want::Area, Want::Place, Want::Bytes, Want::Bytes),
         Some(Verb::Words) => want_by(taken, Want::Area, Want::Place, Want::Value, Want::Value),
-        Some(Verb::Show) => want_by(taken, Want::Area, Want::Place, Want::Number, Want::End),
-        Some(Verb::Look) => want_by(taken, Want::Area, Want::Place, Want::Number, Want::End),
-        Some(Verb::Interrupt) => Want::End,
-        Some(Verb::Record) => Want::End,
+        Some(Verb::Show | Verb::Look) => {
+            want_by(taken, Want::Area, Want::Place, Want::Number, Want::End)
+        }
         Some(Verb::Say) => Want::Text,
     }
 }

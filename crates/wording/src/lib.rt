@@ -89,6 +89,7 @@ pub enum Piece {
 }
 
 // The word that is being read: the column of its first character, its letters as one number, its digits, its piece.
+// One number and no slice: a word's letters go on from stretch to stretch, in fixed memory.
 #[derive(Clone, Copy)]
 pub struct Word {
     pub start: u32,
@@ -98,6 +99,7 @@ pub struct Word {
 }
 
 // What a line brought so far: its verb, if it has one, how many further words, the area, two numbers, the bytes stored, the column of the place.
+// A line is read word by word, so it has what came so far.
 #[derive(Clone, Copy)]
 pub struct Line {
     pub verb: Option<Verb>,
@@ -119,6 +121,9 @@ pub struct Fault {
 // Numbers are told apart up to this one; it stands for all above.
 pub const MANY: u64 = 0x1_0000_0000;
 
+// Counts, reports and words are below this one; a size may be it.
+pub const SHORT: u64 = 1 << 16;
+
 // Bytes and words of a line are counted up to this one.
 const MOST: u64 = 65537;
 
@@ -134,7 +139,7 @@ pub fn is_blank(c: u8) -> bool
     c == b' ' || c == b'\t'
 }
 
-// What `digit` answers of a character that is no digit.
+// What `digit` answers of a character that is no digit: as large as any base, so the test for the base's digits is the test for this.
 const NO_DIGIT: u8 = 16;
 
 // The value of a hex digit in either case; 16 for every other character.
@@ -166,11 +171,14 @@ pub fn counted(sofar: u32, n: u64) -> u32
 
 // ---- a word's letters
 
-// A word that has other characters than small letters, or too many.
+// A word that has other characters than small letters, or too many. It has no room for a letter, so the test for room keeps it.
 const NO_WORD: u64 = 0x1000_0000_0000_0000;
 
-// Letters up to here have room for one more, five bits each.
+// Letters up to here have room for one more.
 const ROOM: u64 = 0x80_0000_0000_0000;
+
+// Each letter has five bits.
+const LETTERS: u64 = 1 << 5;
 
 // A further letter.
 #[tactic(auto, unfolding(crate::specs::Names::more_letters))]
@@ -178,15 +186,15 @@ fn more_letters(letters: u64, c: u8) -> u64
     ensures { result ≡ names.more_letters letters c }
 {
     match c {
-        b'a'..=b'z' if letters < ROOM => letters * 32 + (c - b'a' + 1) as u64,
+        b'a'..=b'z' if letters < ROOM => letters * LETTERS + (c - b'a' + 1) as u64,
         _ => NO_WORD,
     }
 }
 
-// The number of a word, from its letters: five bits to each.
+// The number of a word, from its letters.
 macro_rules! spelled {
     ($n:expr;) => { $n };
-    ($n:expr; $letter:literal $($rest:literal)*) => { spelled!($n * 32 + ($letter - b'a' + 1) as u64; $($rest)*) };
+    ($n:expr; $letter:literal $($rest:literal)*) => { spelled!($n * LETTERS + ($letter - b'a' + 1) as u64; $($rest)*) };
 }
 
 const SIZE: u64 = spelled!(0; b's' b'i' b'z' b'e');
@@ -257,18 +265,23 @@ pub fn area_of(letters: u64) -> Option<Area>
     }
 }
 
+const MEMORY_SIZE: u64 = 1 << 16;
+
+const FRAME_SIZE: u64 = 2048;
+
 // How many bytes an area has.
 pub fn size_of(area: Area) -> u64
     ensures { result ≡ names.size_of area }
 {
     match area {
-        Area::Memory => 65536,
-        Area::Holding | Area::Outgoing => 2048,
+        Area::Memory => MEMORY_SIZE,
+        Area::Holding | Area::Outgoing => FRAME_SIZE,
     }
 }
 
 // ---- a word's digits
 
+// Before a word's first character.
 fn no_digits() -> Digits
     ensures { result ≡ words.no_digits }
 {
@@ -444,6 +457,7 @@ pub fn more_word(w: Word, c: u8) -> Word
 
 // ---- a line
 
+// Before a line's first word.
 pub fn no_line() -> Line
     ensures { result ≡ lines.no_line }
 {
@@ -458,6 +472,7 @@ pub fn no_line() -> Line
     }
 }
 
+// What is wrong, and in which column.
 pub fn fault_at(wrong: Wrong, column: u32) -> Fault
     ensures { result ≡ lines.fault_at wrong column }
 {
