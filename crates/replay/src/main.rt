@@ -29,9 +29,8 @@ fn run_lines<O: Write, E: Write>(
 // How many bytes are read at a time.
 const PIECE: usize = 4096;
 
-// All of the input, piece by piece. A proved loop has to end, and nothing says that a file does: the loop has a number of turns that no run uses
-// up. The last line needs no newline: behind the end of the input is one. Where it cannot be read there is none: a line that is not there whole is
-// not obeyed.
+// All of the input, piece by piece. The loop has a number of turns that no run uses up, so that it ends. The last line needs no newline: behind the
+// end of the input is one. Where it cannot be read there is none: a line that is not there whole is not obeyed.
 fn run_pieces<R: Read, O: Write, E: Write>(
     streams: &mut Streams<O, E>,
     list: &mut R,
@@ -51,25 +50,25 @@ fn run_pieces<R: Read, O: Write, E: Write>(
 // Room for what one line prints, by the longest answer, of 30 characters: 65,535 of them are the most.
 const ROOM: usize = 30 << 16;
 
+// The page of a session, with nothing on it.
 fn room() -> [u8; ROOM]
     ensures { program_room ≡ length result }
 {
     [0; ROOM]
 }
 
-// How many bytes each area has, and how many a line may bring.
+// How many bytes memory has, and each area for a frame, and how many a line may bring.
 const MEMORY: usize = 1 << 16;
 
-const HOLDING: usize = 2048;
-
-const OUTGOING: usize = 2048;
+const FRAME: usize = 2048;
 
 const BYTES: usize = 1 << 16;
 
+// A session of its own for a list.
 fn run_list<R: Read, O: Write, E: Write>(streams: &mut Streams<O, E>, list: &mut R) {
     let mut memory = [0; MEMORY];
-    let mut holding = [0; HOLDING];
-    let mut outgoing = [0; OUTGOING];
+    let mut holding = [0; FRAME];
+    let mut outgoing = [0; FRAME];
     let mut bytes = [0; BYTES];
     let mut out = room();
     let areas = Areas {
@@ -101,6 +100,7 @@ fn list_name<'a>(rt: &impl Env, name: &'a mut [u8]) -> io::Result<Option<&'a str
     }
 }
 
+// The list is what the argument names, or standard input.
 fn main(rt: HostRuntime) {
     let mut streams = Streams {
         alloc: rt.alloc(),
