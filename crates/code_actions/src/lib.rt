@@ -234,7 +234,7 @@ fn filter_of(memory: &[u8], first: RealAddress, l: u64, count: u16) -> u64
         return 0;
     }
     let mut filter: u64 = 0;
-    // i goes through the bytes of all addresses, so no range is its own.
+    // No range of addresses: how many there are would take a division, and the archive has none. i goes through the bytes of all of them.
     let mut i: u16 = 0;
     'addresses: while i < count {
         let mut register = hash::ONES;

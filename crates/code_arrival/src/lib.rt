@@ -1,6 +1,5 @@
-// An arriving frame over numbers: how it is judged, whether the unit holds it, which counter goes up, and why it is dropped. An arrival assumes a
-// setup's bytes, and is made of a frame that has its header and matched. receive's specs/ say what is done, and specs/Arrives.antt that the
-// numbers afterwards are those.
+// An arriving frame over numbers: how it is judged, whether the unit holds it, which counter goes up, and why it is dropped. An arrival is made of a
+// frame that has its header and matched. receive's specs/ say what is done, and specs/Arrives.antt that the numbers afterwards are those.
 
 #![tactic(auto)]
 
@@ -36,15 +35,12 @@ fn length_of(frame: &[u8]) -> u64
     frame.len().min(LONGEST) as u64
 }
 
-// The line side's verdict: 0 good, 1 CRC, any other value misaligned, which is 2.
-const MISALIGNED: u32 = 2;
-
-// Its number.
+// The number of the line side's verdict: 0 good, 1 CRC, any other value misaligned.
 #[tactic(auto, unfolding(device::specs::Numbers::verdict_of))]
 fn verdict_number(v: u32) -> u64
     ensures { (result ≡ verdict_number (verdict_of v)) × (result < 3) }
 {
-    v.min(MISALIGNED) as u64
+    v.min(ru::MISALIGNED as u32) as u64
 }
 
 // Short, bad and good are judged once, by the settings at arrival. Short: bytes plus 4 below the minimum.
@@ -67,7 +63,7 @@ fn judge(setup: &[u8; setup::SIZE], frame: &[u8], verdict: u32) -> u64
 pub fn is_good(f: u64) -> bool
     ensures { result ≡ is_good (frame_in f) }
 {
-    !ru::short(f) & (ru::verdict(f) == 0)
+    !ru::short(f) & (ru::verdict(f) == ru::GOOD)
 }
 
 // Short: no counter whatever the verdict. Misaligned verdict: ALNERRS. CRC verdict: CRCERRS.
@@ -78,8 +74,8 @@ fn counter_of(f: u64) -> Option<Counter>
         return None;
     }
     match ru::verdict(f) {
-        0 => None,
-        1 => Some(Counter::Crc),
+        ru::GOOD => None,
+        ru::CRC => Some(Counter::Crc),
         _ => Some(Counter::Alignment),
     }
 }

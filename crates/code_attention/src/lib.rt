@@ -25,7 +25,7 @@ ghost use Rattle.code_attention.specs.Attends as attends;
 use memory::{Offset, RealAddress};
 use packed::{CNA, CX, Packed, RNR, cu, ru, setup};
 
-// The SCB: +0 status, +2 command; its other fields are the rooms code_control's and code_receive's to say.
+// The SCB: +0 status, +2 command; CBL and RFA offset are the room code_control's to say, the error counters `device`'s.
 const STATUS: u16 = 0;
 
 const COMMAND: u16 = 2;
@@ -147,7 +147,8 @@ fn acknowledge(k: Packed, command: u16) -> Packed
     packed::without_events(k, (command >> ACKNOWLEDGED) as u64)
 }
 
-// CNA if the command unit left Active.
+// CNA if the command unit left Active. Not one with `left_ready`: over both it would speak of tags alone, and what they say of each unit would take
+// two functions all the same.
 fn left_active(before: u64, after: u64) -> u64
     ensures { (result < 3) × ((b a : Cu) → before ≡ cu_tag b → after ≡ cu_tag a → result ≡ 2 * words.one (attends.left_active b a)) }
 {

@@ -46,23 +46,18 @@ impl Asked<'_> {
 
 // ---- the answer as one number
 
-// The number of a refusal, 0 if a call is not refused; of a reason, 0 if no frame was dropped.
+// The number of a refusal, 0 if a call is not refused.
 fn refusal_or_0(refusal: Option<Refusal>) -> u16
     ensures { result ≡ numbers.refusal_or_0 refusal }
 {
-    match refusal {
-        None => 0,
-        Some(r) => u16::from(r),
-    }
+    refusal.map_or(0, |r| u16::from(r))
 }
 
+// The number of a reason, 0 if no frame was dropped.
 fn reason_or_0(reason: Option<Reason>) -> u8
     ensures { result ≡ numbers.reason_or_0 reason }
 {
-    match reason {
-        None => 0,
-        Some(r) => u8::from(r),
-    }
+    reason.map_or(0, |r| u8::from(r))
 }
 
 // What the length, the edge, the reason and the turns of a run count in an answer: bits 16, 32, 40 and 48.
@@ -146,8 +141,9 @@ fn answer_of(edge: bool, reason: Option<Reason>) -> u64
 
 // ---- the calls on a record that is an image: the setup is lent as it stands there, the units' numbers go back at the end
 
-// The areas stand beside each other and not in a struct: with one a turn takes 27 instructions more (docs/bench.md), and an inner function takes
-// those alone that it uses.
+// The areas stand beside each other and not in a struct: an inner function takes those alone that it uses.
+
+// The record is a slice and no array: what is lent is a slice, and its length was just asked.
 
 // An attention to the device of the numbers k.
 fn attention_on(memory: &mut [u8], kept: &mut [u8], k: Packed) -> u64

@@ -14,8 +14,8 @@ use code_arrival::Arrived;
 use device::Reason;
 use packed::{Packed, cu, form, ru, setup};
 
-// What a turn comes to, besides the lent bytes; `told` is the length that it sent, with TOLD_EDGE above it if it reports an edge. A turn that sends a
-// frame, reports an edge or has no work ends a run.
+// What a turn comes to, besides the lent bytes; `told` is the length that it sent, with TOLD_EDGE above it if it reports an edge: one number, since
+// it goes into the answer as it stands and through a run in a register. A turn that sends a frame, reports an edge or has no work ends a run.
 #[derive(Clone, Copy)]
 pub struct Turned {
     pub packed: Packed,

@@ -23,7 +23,8 @@ use copies::{Any, Few};
 use memory::{Offset, RealAddress};
 use packed::{CNA, CX, cu, form, setup};
 
-// What a service comes to besides the lent bytes: the unit, the events as a number below 16, the length sent.
+// What a service comes to besides the lent bytes: the unit, the events as a number below 16, the length sent. Not one with code_receive's, which has
+// no length, and a unit of two words.
 #[derive(Clone, Copy)]
 pub struct Commanded {
     pub unit: cu::Unit,
@@ -300,6 +301,7 @@ fn done_by(
     match unit.tag {
         cu::ACTING => code_actions::act(memory, base, setup, packed::kind_of(n), packed::at_of(n)),
         cu::ENDING => code_actions::send(packed::size_of(n) as u16, report),
+        // What is left is Failing.
         _ => code_actions::plainly(UNSENT, 0),
     }
 }
@@ -323,6 +325,7 @@ pub fn serve(
         cu::IDLE | cu::SUSPENDED => quiet(unit.tag, n),
         cu::WAITING => begin(memory, outgoing, setup, base, packed::at_of(n)),
         cu::SENDING => buffer(memory, outgoing, base, n),
+        // What is left has its end next: Acting, Ending, Failing.
         _ => {
             let done = done_by(memory, setup, base, unit, report);
             end(memory, base, done, n)

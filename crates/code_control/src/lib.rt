@@ -70,14 +70,14 @@ fn first_of(
 
 // ---- the command unit
 
+// The units are two and not one over a type: a trait would name each unit's tags, makers and definitions once more, and what it would have once is a
+// few comparisons.
+
 // The number of its state, as CUS has it: what is past Waiting is Active too.
 pub fn cu_number(tag: u64) -> u8
     ensures { (result < 4) × ((c : Cu) → tag ≡ cu_tag c → result ≡ words.cu_number (states.cu_state c)) }
 {
-    if cu::WAITING < tag {
-        return scb::ACTIVE;
-    }
-    tag as u8
+    tag.min(scb::ACTIVE as u64) as u8
 }
 
 // SUSPEND: at the end of a begun command, else at once; a unit that is not Active stays as it is.
@@ -133,6 +133,7 @@ pub fn obey_cuc(
             }
         }
         scb::SUSPENDED => cu_suspended(unit),
+        // What is left is Active.
         _ => {
             let start = scb::cu_control(command) == START;
             let first = first_of(memory, base, scb, start, CBL, unit.word);
@@ -147,10 +148,7 @@ pub fn obey_cuc(
 fn ru_column(tag: u64) -> u8
     ensures { (result < 4) × ((v : Ru) → tag ≡ ru_tag v → result ≡ numbers.ru_column (states.ru_state v)) }
 {
-    if ru::READY < tag {
-        return scb::READY;
-    }
-    tag as u8
+    tag.min(scb::READY as u64) as u8
 }
 
 // SUSPEND: at the end of a held frame, else at once; a unit that is not Ready stays as it is.
@@ -209,6 +207,7 @@ pub fn obey_ruc(
         }
         scb::SUSPENDED => ru_suspended(unit),
         scb::NO_RESOURCES => unit,
+        // What is left is Ready.
         _ => {
             let start = scb::ru_control(command) == START;
             let first = first_of(memory, base, scb, start, RFA, unit.word);

@@ -1,5 +1,5 @@
 // Is this frame for us: the one question that an arrival asks of the settings, the own address and the filter, which are lent as the record
-// keeps them. It assumes all their bytes, and a frame that has an address. filter's Match says the answer.
+// keeps them. It assumes a frame that has an address of at most six bytes. filter's Match says the answer.
 
 #![tactic(auto)]
 

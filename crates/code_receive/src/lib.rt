@@ -27,7 +27,8 @@ use device::Counter;
 use memory::{Offset, RealAddress};
 use packed::{FR, RNR, form, ru};
 
-// What a service comes to, besides the lent bytes: the unit, and the events that came up.
+// What a service comes to, besides the lent bytes: the unit, and the events that came up. Not one with code_command's, which has a length besides,
+// and a unit of one word.
 #[derive(Clone, Copy)]
 pub struct Received {
     pub unit: ru::Unit,
@@ -98,9 +99,6 @@ const ALIGNMENT_BIT: u16 = 0x0400;
 const LACKING_BIT: u16 = 0x0200;
 
 const SHORT_BIT: u16 = 0x0080;
-
-// The offset that stands for none.
-const NONE: u16 = 0xFFFF;
 
 // At most so many buffers are filled with one frame.
 const MOST_BUFFERS: u64 = 64;
@@ -213,8 +211,8 @@ fn verdict_bit(kind: u64) -> u16
     ensures { (result ≡ ends.verdict_bit (verdict_of kind)) × (result ≤ 0x0800) }
 {
     match kind {
-        0 => 0,
-        1 => CRC_BIT,
+        ru::GOOD => 0,
+        ru::CRC => CRC_BIT,
         _ => ALIGNMENT_BIT,
     }
 }
@@ -244,7 +242,7 @@ fn mark_bare(memory: &mut [u8], base: RealAddress, fd: Offset, bare: bool)
     ensures { memory.new ≡ apply (ends.bare_mark bare (place base fd first_at)) memory.old }
 {
     if bare {
-        memory::put_word(memory, memory::place(base, fd, FIRST), NONE);
+        memory::put_word(memory, memory::place(base, fd, FIRST), memory::NONE);
     }
 }
 
@@ -359,6 +357,7 @@ pub fn serve(
     match unit.tag {
         ru::HELD => begin(memory, base, n),
         ru::FILLING => buffer(memory, holding, base, n, unit.rest),
+        // What is left is Closing and Lacking.
         _ => end(memory, holding, base, scb, unit.tag == ru::LACKING, n),
     }
 }

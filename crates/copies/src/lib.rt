@@ -28,6 +28,7 @@ pub struct Any;
 impl Run for Any {
     ghost most = { 2 ^ 64 };
 
+    // One after another.
     fn run(dst: &mut [u8], to: usize, src: &[u8], from: usize, k: usize) {
         memory::copy_run(dst, to, src, from, k);
     }
@@ -57,6 +58,7 @@ pub struct Few;
 impl Run for Few {
     ghost most = { 16 };
 
+    // By the largest number that has no more bytes, and a single one by itself.
     fn run(dst: &mut [u8], to: usize, src: &[u8], from: usize, k: usize) {
         if 8 <= k {
             ends::<8>(dst, to, src, from, k);
@@ -82,7 +84,8 @@ pub fn put_few(dst: &mut [u8], at: usize, src: &[u8])
 // ---- out of memory
 
 // What `copy_out` does where bytes pass the end of memory: up to the end, then on from the start, as often as it takes. No copy of the chip takes
-// more than two stretches, since memory has more bytes than a frame, and most take one: so this is not inlined there.
+// more than two stretches, since memory has more bytes than a frame. It is written in place, so that the compiler knows N for a power of two there:
+// no division.
 #[inline(always)]
 fn copy_stretches(m: &[u8], i: usize, k: usize, dst: &mut [u8], at: usize)
     requires { (i < length m.now) × (k ≤ length dst.old - at) }
@@ -120,8 +123,8 @@ pub fn copy_out<R: Run>(m: &[u8], a: RealAddress, n: usize, dst: &mut [u8], at: 
 
 // ---- into memory
 
-// What `copy_in` does where bytes pass the end of memory. Not one with `copy_stretches`: there the slice that is read goes round, here the one that is
-// written, and a loop over both would take a closure that copies.
+// What `copy_in` does where bytes pass the end of memory. Not one with `copy_stretches`: there the slice that is read goes round, here the one that
+// is written, and a loop over both would take a closure that copies. It is written in place for the same reason.
 #[inline(always)]
 fn put_stretches(m: &mut [u8], i: usize, src: &[u8], at: usize, k: usize)
     requires { (i < length m.old) × (k ≤ length src.now - at) }
@@ -129,6 +132,7 @@ fn put_stretches(m: &mut [u8], i: usize, src: &[u8], at: usize, k: usize)
 {
     let mut to = i;
     let mut done = 0;
+    // A `while`, as in `copy_stretches`.
     while done < k {
         let run = memory::room(m.len(), to, k - done);
         memory::copy_run(m, to, src, at + done, run);

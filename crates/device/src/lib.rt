@@ -205,6 +205,7 @@ pub enum Fate {
 impl From<Refusal> for u16 {
     ghost from_gives = { λ r n. n ≡ numbers.refusal_number r };
 
+    // As the table of refusals has it.
     fn from(r: Refusal) -> u16 {
         match r {
             Refusal::Memory => 1,
@@ -220,6 +221,7 @@ impl From<Refusal> for u16 {
 impl From<Reason> for u8 {
     ghost from_gives = { λ r n. n ≡ numbers.reason_number r };
 
+    // From 1 on, in the order of the rules.
     fn from(r: Reason) -> u8 {
         match r {
             Reason::TooFew => 1,

@@ -25,6 +25,7 @@ static DRAINED: [u32; 16] = [
     0xEDB88320, 0xF00F9344, 0xD6D6A3E8, 0xCB61B38C, 0x9B64C2B0, 0x86D3D2D4, 0xA00AE278, 0xBDBDF21C,
 ];
 
+// What they make of the register x.
 fn drained(x: u32) -> u32
     requires { x < 16 }
     ensures { result ≡ numbers.drained 4 x }

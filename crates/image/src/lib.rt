@@ -24,10 +24,8 @@ const LONGEST: u64 = 2048;
 
 const LAST: u64 = 63;
 
-// A Transmit is never Acting. A verdict is 0 if it is good, and below 3.
+// A Transmit is never Acting. A verdict is below 3.
 const TRANSMIT: u64 = 4;
-
-const GOOD: u64 = 0;
 
 const VERDICTS: u64 = 3;
 
@@ -56,6 +54,7 @@ fn offset_most(none: bool) -> u64
 
 // ---- the command unit
 
+// A command whose end is next: its number, which is no Transmit's, and nothing above it.
 #[tactic(auto, unfolding(crate::specs::Numbers::acting_is))]
 fn acting_is(n: u64) -> bool
     ensures { result ≡ numbers.acting_is n }
@@ -76,6 +75,7 @@ fn sending_is(f: u64, n: u64) -> bool
     false
 }
 
+// A Transmit whose end is next, with no descriptor counted or next: the outgoing area has what it had at its descriptors at least.
 #[tactic(auto, unfolding(crate::specs::Numbers::ending_is))]
 fn ending_is(f: u64, n: u64) -> bool
     ensures { result ≡ numbers.ending_is f n }
@@ -136,7 +136,7 @@ fn frame_is(n: u64, most: u64) -> bool
     if kind_is(n) {
         if (packed::flags_of(n) < most)
             & is_within(n)
-            & (ru::save_bad(n) | (!ru::short(n) & (ru::verdict(n) == GOOD)))
+            & (ru::save_bad(n) | (!ru::short(n) & (ru::verdict(n) == ru::GOOD)))
         {
             return form::has_header(ru::form(n), packed::size_of(n));
         }
@@ -151,6 +151,7 @@ fn has_data(n: u64) -> bool
     form::has_data(ru::form(n), packed::size_of(n))
 }
 
+// A frame is held: it waits for its descriptor, and nothing of it is stored.
 #[tactic(auto, unfolding(crate::specs::Numbers::held_is))]
 fn held_is(n: u64, rest: u64) -> bool
     ensures { result ≡ numbers.held_is n rest }
@@ -177,6 +178,7 @@ fn filling_is(n: u64, rest: u64) -> bool
     false
 }
 
+// All is stored. Only a frame that has data filled a buffer, which may have had EL.
 #[tactic(auto, unfolding(crate::specs::Numbers::closing_is))]
 fn closing_is(n: u64, rest: u64) -> bool
     ensures { result ≡ numbers.closing_is n rest }
@@ -189,6 +191,7 @@ fn closing_is(n: u64, rest: u64) -> bool
     false
 }
 
+// Buffers were lacking: the frame has data, and no offset is next.
 #[tactic(auto, unfolding(crate::specs::Numbers::lacking_is))]
 fn lacking_is(n: u64, rest: u64) -> bool
     ensures { result ≡ numbers.lacking_is n rest }
@@ -201,6 +204,7 @@ fn lacking_is(n: u64, rest: u64) -> bool
     false
 }
 
+// A unit that holds a frame, by its tag.
 #[tactic(auto, unfolding(crate::specs::Numbers::holding_is))]
 fn holding_is(tag: u64, n: u64, rest: u64) -> bool
     ensures { result ≡ numbers.holding_is tag n rest }
@@ -230,36 +234,42 @@ fn ru_is(tag: u64, n: u64, rest: u64) -> bool
 
 // ---- reading a record: each word by a function of its own, so that it becomes one load
 
+// The letters and the version, and above them three bytes of the status.
 fn front_at(r: &[u8; record::SIZE]) -> u64
     ensures { result ≡ field r.now letters_at 8 }
 {
     numerals::read::<8>(r, record::LETTERS)
 }
 
+// The status.
 fn status_at(r: &[u8; record::SIZE]) -> u64
     ensures { result ≡ field r.now status_at 8 }
 {
     numerals::read::<8>(r, record::STATUS)
 }
 
+// The command unit's word.
 fn cu_at(r: &[u8; record::SIZE]) -> u64
     ensures { result ≡ field r.now cu_at 8 }
 {
     numerals::read::<8>(r, record::CU)
 }
 
+// The receive unit's first word.
 fn ru_at(r: &[u8; record::SIZE]) -> u64
     ensures { result ≡ field r.now ru_at 8 }
 {
     numerals::read::<8>(r, record::RU)
 }
 
+// The receive unit's second word.
 fn rest_at(r: &[u8; record::SIZE]) -> u64
     ensures { result ≡ field r.now rest_at 8 }
 {
     numerals::read::<8>(r, record::REST)
 }
 
+// The four numbers of a record.
 #[tactic(auto, unfolding(crate::specs::Image::packed_at))]
 fn packed_at(r: &[u8; record::SIZE]) -> Packed
     ensures { result ≡ image.packed_at r.now }
@@ -280,12 +290,14 @@ fn form_at(r: &[u8; record::SIZE]) -> u64
     setup::form_of(r[record::SETTINGS])
 }
 
+// Whether the letters are BGT and the version is 1.
 fn front_is(n: u64) -> bool
     ensures { result ≡ image.front_is n }
 {
     n % record::FRONT_END == record::FRONT
 }
 
+// Whether the front and the four numbers are those of a state in range, by the form in force.
 #[tactic(auto, unfolding(crate::specs::Numbers::words_are))]
 fn words_are(front: u64, f: u64, k: Packed) -> bool
     ensures { result ≡ numbers.words_are front f k }
@@ -298,6 +310,7 @@ fn words_are(front: u64, f: u64, k: Packed) -> bool
     false
 }
 
+// Whether the spare bytes are zero.
 #[tactic(auto, unfolding(crate::specs::Image::spare_zero))]
 fn spare_zero(r: &[u8; record::SIZE]) -> bool
     ensures { result ≡ image.spare_zero r.now }
@@ -306,6 +319,7 @@ fn spare_zero(r: &[u8; record::SIZE]) -> bool
         & numerals::is_zero(r, record::SPARE, record::SPARE_WORDS)
 }
 
+// Whether status and setup are those after reset.
 #[tactic(auto, using(numerals::proofs::Laws::one), unfolding(crate::specs::Numbers::fresh_at))]
 fn is_fresh(r: &[u8; record::SIZE]) -> bool
     ensures { result ≡ numbers.fresh_at r.now }
@@ -339,9 +353,7 @@ pub fn is_image(r: &[u8; record::SIZE]) -> bool
 pub fn decode(r: &[u8]) -> Option<Packed>
     ensures { result ≡ image.decoded_by (image.decode_of r.now) }
 {
-    let Some(kept) = r.as_array::<{ record::SIZE }>() else {
-        return None;
-    };
+    let kept = r.as_array::<{ record::SIZE }>()?;
     if is_image(kept) {
         return Some(packed_at(kept));
     }
@@ -364,6 +376,7 @@ pub fn store(r: &mut [u8], k: Packed)
     numerals::put::<8>(kept, record::REST, k.rest);
 }
 
+// The image of the fresh state, over a whole record.
 #[tactic(auto, using(crate::proofs::Steps::fresh_stores))]
 fn renew_full(r: &mut [u8; record::SIZE])
     ensures { r.new ≡ image.image_of device.fresh }

@@ -1,4 +1,5 @@
-// What C links: the five calls by their C names, each the library's.
+// What C links: the five calls by their C names, each the library's. A crate is a library or an archive, and the replay program needs the one, C the
+// other: so the five stand here once more.
 
 #![tactic(auto)]
 

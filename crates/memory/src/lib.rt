@@ -19,7 +19,7 @@ const LEAST: usize = 8192;
 const MOST: usize = 16777216;
 
 // The offset that stands for none.
-const NONE: u16 = 0xFFFF;
+pub const NONE: u16 = 0xFFFF;
 
 // The bytes of a word and its bits.
 const WORD: u16 = 2;

@@ -66,6 +66,7 @@ pub fn suspend(n: u64) -> bool
     crate::has::<SUSPEND>(n)
 }
 
+// EL.
 #[tactic(auto, using(crate::proofs::Words::third_in))]
 pub fn el(n: u64) -> bool
     ensures { result ≡ (begun_of (word_of n)).el }

@@ -1,7 +1,7 @@
 // The record's layout, for all of the code: the units' state as four numbers, which a call carries from end to end without taking it apart, and what
-// the commands set up. It reads a field where one is needed and puts a unit back; specs/Packed.antt says which numbers are a state's, specs/SetUp.antt
-// which bytes a setup's. The units' tags and words are in `cu` and `ru`, a frame's form in `form`, a setup's places in `setup`, the record's in
-// `record`.
+// the commands set up. It reads a field where one is needed and puts a unit back; specs/Packed.antt says which numbers are a state's,
+// specs/SetUp.antt which bytes a setup's. The units' tags and words are in `cu` and `ru`, a frame's form in `form`, a setup's places in `setup`, the
+// record's in `record`. As enums the units took 547 instructions a call to read and write back, as numbers 99 (docs/bench.md).
 
 #![tactic(auto)]
 
@@ -80,12 +80,14 @@ const OFFSETS: u64 = 1 << 16;
 
 const BASES: u64 = 1 << 24;
 
+// The SCB's base.
 pub fn base(k: Packed) -> RealAddress
     ensures { result.0 ≡ packed.base_in k }
 {
     memory::recalled((k.status / BASE) as u32)
 }
 
+// The SCB's offset.
 pub fn scb(k: Packed) -> Offset
     ensures { result.0 ≡ packed.scb_in k }
 {
@@ -120,19 +122,21 @@ pub fn ru_last(k: Packed) -> bool
     has::<RU_LAST>(marks(k))
 }
 
+// The command unit's tag.
 pub fn cu_tag(k: Packed) -> u64
     ensures { result ≡ packed.cu_tag_in k }
 {
     k.status / CU % CU_TAGS
 }
 
+// The receive unit's tag.
 pub fn ru_tag(k: Packed) -> u64
     ensures { result ≡ packed.ru_tag_in k }
 {
     k.status / RU % RU_TAGS
 }
 
-// Each unit: its tag, and its word or two.
+// The command unit: its tag and its word.
 pub fn cu_unit(k: Packed) -> cu::Unit
     ensures { result ≡ packed.cu_unit_in k }
 {
@@ -142,6 +146,7 @@ pub fn cu_unit(k: Packed) -> cu::Unit
     }
 }
 
+// The receive unit: its tag and its two words.
 pub fn ru_unit(k: Packed) -> ru::Unit
     ensures { result ≡ packed.ru_unit_in k }
 {
@@ -195,6 +200,7 @@ fn has<const FLAG: u64>(n: u64) -> bool
     n / FLAG % 2 == 1
 }
 
+// The offset of the block or the descriptor that the unit is at.
 pub fn at_of(n: u64) -> Offset
     ensures { result.0 ≡ fields.offset_in n }
 {
@@ -208,24 +214,28 @@ pub fn above_offset(n: u64) -> u64
     n / FLAGS
 }
 
+// The byte of flags.
 pub fn flags_of(n: u64) -> u64
     ensures { result ≡ fields.flags_in n }
 {
     n / FLAGS % FLAG_SETS
 }
 
+// The byte of kind: a command's number, how many descriptors a Transmit used, a held frame's verdict and form.
 pub fn kind_of(n: u64) -> u64
     ensures { result ≡ fields.kind_in n }
 {
     n / KIND % KINDS
 }
 
+// The size: the bytes of a Transmit in the outgoing area, or a held frame's length.
 pub fn size_of(n: u64) -> u64
     ensures { result ≡ fields.size_in n }
 {
     n / SIZE % SIZES
 }
 
+// The next offset.
 pub fn next_of(n: u64) -> Offset
     ensures { result.0 ≡ fields.next_in n }
 {
@@ -271,8 +281,7 @@ pub fn after_cu(k: Packed, unit: cu::Unit, raised: u64) -> Packed
     Packed {
         status: status_of(k.status / SCB, marks, unit.tag, ru_tag(k), k.status / BASE),
         cu: unit.word,
-        ru: k.ru,
-        rest: k.rest,
+        ..k
     }
 }
 
@@ -283,9 +292,9 @@ pub fn after_ru(k: Packed, unit: ru::Unit, raised: u64) -> Packed
     let marks = marks(k) % RU_LAST + RU_LAST + EVENTS * raise(events(k), raised % EVENT_SETS);
     Packed {
         status: status_of(k.status / SCB, marks, cu_tag(k), unit.tag, k.status / BASE),
-        cu: k.cu,
         ru: unit.word,
         rest: unit.rest,
+        ..k
     }
 }
 
@@ -301,9 +310,9 @@ pub fn with_ru(k: Packed, unit: ru::Unit) -> Packed
             unit.tag,
             k.status / BASE,
         ),
-        cu: k.cu,
         ru: unit.word,
         rest: unit.rest,
+        ..k
     }
 }
 
@@ -337,9 +346,7 @@ pub fn without_events(k: Packed, cleared: u64) -> Packed
     let stood = events(k) & cleared;
     Packed {
         status: k.status - EVENTS * stood,
-        cu: k.cu,
-        ru: k.ru,
-        rest: k.rest,
+        ..k
     }
 }
 

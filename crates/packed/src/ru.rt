@@ -59,6 +59,13 @@ pub const STORING_FLAGS: u64 = 1 << 5;
 
 pub const CLOSING_FLAGS: u64 = 1 << 6;
 
+// The verdicts, as the record has them.
+pub const GOOD: u64 = 0;
+
+pub const CRC: u64 = 1;
+
+pub const MISALIGNED: u64 = 2;
+
 // The number between flags and length: the verdict in two bits, and above it the frame's form.
 const VERDICTS: u64 = 1 << 2;
 
@@ -88,6 +95,7 @@ pub fn pausing(n: u64) -> bool
     crate::has::<PAUSING>(n)
 }
 
+// Whether the frame is short.
 #[tactic(auto, using(crate::proofs::Words::second_in))]
 pub fn short(n: u64) -> bool
     ensures { result ≡ (frame_of (word_of n)).short }
@@ -95,6 +103,7 @@ pub fn short(n: u64) -> bool
     crate::has::<SHORT>(n)
 }
 
+// Whether bad frames were saved at its arrival.
 #[tactic(auto, using(crate::proofs::Words::third_in))]
 pub fn save_bad(n: u64) -> bool
     ensures { result ≡ (frame_of (word_of n)).savebad }
@@ -206,6 +215,7 @@ pub fn with_next(n: u64, next: Offset) -> u64
 
 // ---- the second word
 
+// How many bytes are stored.
 pub fn filled(rest: u64) -> u64
     ensures { result ≡ filled_in rest }
 {
@@ -219,12 +229,14 @@ pub fn above_filled(rest: u64) -> u64
     rest / USED
 }
 
+// The buffers used, in any word.
 pub fn used(rest: u64) -> u64
     ensures { result ≡ used_in rest }
 {
     rest / USED % USED_COUNTS
 }
 
+// Both, put together.
 pub fn rest_of(filled: u64, used: u64) -> u64
     requires { (filled < 2 ^ 16) × (used < 2 ^ 8) }
     ensures { result ≡ rest_by filled used }

@@ -1,5 +1,5 @@
 // What the commands set up, as the record keeps it and a call is lent it: a byte of settings, one of the minimum length, the own address, the
-// filter. docs/record.md, bytes 240 to 255. It asks for all of them.
+// filter. docs/record.md, bytes 240 to 255.
 ghost use Rattle.std.specs.Prelude.{◌≡◌, ◌<◌, ◌^◌};
 ghost use Rattle.actions.specs.Setup.{Setup};
 ghost use Rattle.phases.specs.Forms.{form_number};
@@ -29,6 +29,7 @@ const MODE_SETS: u8 = 1 << 2;
 
 const FORM: u8 = 1 << 3;
 
+// Whether bad frames are saved.
 #[tactic(auto, using(crate::proofs::SetUps::saves_is))]
 pub fn saves_bad(setup: &[u8; SIZE]) -> bool
     ensures { (s : Setup) → SetIs s setup.now → result ≡ s.settings.savebad }
@@ -36,6 +37,7 @@ pub fn saves_bad(setup: &[u8; SIZE]) -> bool
     crate::has::<SAVES_BAD>(setup[SETTINGS] as u64)
 }
 
+// Whether every frame is for us.
 #[tactic(auto, using(crate::proofs::SetUps::promiscuous_is))]
 pub fn promiscuous(setup: &[u8; SIZE]) -> bool
     ensures { (s : Setup) → SetIs s setup.now → result ≡ s.settings.promiscuous }
@@ -43,6 +45,7 @@ pub fn promiscuous(setup: &[u8; SIZE]) -> bool
     crate::has::<PROMISCUOUS>(setup[SETTINGS] as u64)
 }
 
+// Whether broadcast is disabled.
 #[tactic(auto, using(crate::proofs::SetUps::broadcast_is))]
 pub fn no_broadcast(setup: &[u8; SIZE]) -> bool
     ensures { (s : Setup) → SetIs s setup.now → result ≡ s.settings.nobroadcast }
@@ -82,13 +85,14 @@ pub fn settings(save_bad: u8, modes: u8, form: u8) -> u8
     save_bad + MODES * modes + FORM * form
 }
 
-// The modes of a byte of settings, and its form.
+// The modes of a byte of settings.
 pub fn modes(settings: u8) -> u8
     ensures { (result ≡ modes_in settings) × (result < 2 ^ 2) }
 {
     settings / MODES % MODE_SETS
 }
 
+// The form of a byte of settings.
 pub fn form_of(settings: u8) -> u64
     ensures { (result ≡ form_at settings) × (result < 2 ^ 5) }
 {
