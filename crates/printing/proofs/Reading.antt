@@ -52,11 +52,11 @@ store_by (piece.Low stored high) at d by b = set_brought by (at + stored) (joine
 store_by (piece.TimesHigh times) at d by b = b
 store_by (piece.TimesLow times high) at d by b = b
 store_by (piece.Times times byte) at d by b = b
-store_by piece.Bad at d by b = b
 
-store_brought : (p : Piece) (at c : ℕ) (by : List ℕ) → Brought by → Brought (store p at c by)
+store_brought : (p : Option Piece) (at c : ℕ) (by : List ℕ) → Brought by → Brought (store p at c by)
 unfolding store
-store_brought p at c by b = brought_if (ltb (digit c) 16) _ _ (store_by p _ _ by b) b
+store_brought None at c by b = b
+store_brought (Some p) at c by b = brought_if (ltb (digit c) 16) _ _ (store_by p _ _ by b) b
 
 -- ---- a word that is taken
 
@@ -101,14 +101,14 @@ fine_if : (x : Bool) (a b : Took) → Fine a → Fine b → Fine (cond x a b)
 fine_if true a b p q = p
 fine_if false a b p q = q
 
-bytes_fine : (p : Piece) (l : Line) (k : ℕ) (by : List ℕ) → l.placed < 2147483648 → k < 2147483648 → Brought by → Fine (take_bytes p l k by)
+bytes_fine : (p : Option Piece) (l : Line) (k : ℕ) (by : List ℕ) → l.placed < 2147483648 → k < 2147483648 → Brought by → Fine (take_bytes p l k by)
 unfolding take_bytes
-bytes_fine (piece.High stored) l k by m q b = record { small = m; brought = b }
-bytes_fine (piece.Low stored high) l k by m q b = record { small = q; brought = b }
-bytes_fine (piece.TimesHigh times) l k by m q b = record { small = q; brought = b }
-bytes_fine (piece.TimesLow times high) l k by m q b = record { small = q; brought = b }
-bytes_fine (piece.Times times byte) l k by m q b = record { small = m; brought = sets_brought by l.filled times byte b }
-bytes_fine piece.Bad l k by m q b = record { small = q; brought = b }
+bytes_fine (Some (piece.High stored)) l k by m q b = record { small = m; brought = b }
+bytes_fine (Some (piece.Low stored high)) l k by m q b = record { small = q; brought = b }
+bytes_fine (Some (piece.TimesHigh times)) l k by m q b = record { small = q; brought = b }
+bytes_fine (Some (piece.TimesLow times high)) l k by m q b = record { small = q; brought = b }
+bytes_fine (Some (piece.Times times byte)) l k by m q b = record { small = m; brought = sets_brought by l.filled times byte b }
+bytes_fine None l k by m q b = record { small = q; brought = b }
 
 value_brought : (i n : ℕ) (by : List ℕ) → Brought by → Brought (put_value i n by)
 unfolding put_value
