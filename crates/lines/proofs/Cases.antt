@@ -18,7 +18,7 @@ use Rattle.wording.specs.declared.Fault.{Fault}
 use Rattle.wording.specs.declared.Line.{Line}
 use Rattle.wording.specs.declared.Wrong.{Wrong}
 use Rattle.wording.specs.declared.Wrong.TheVariants as wrong
-use Rattle.lines.specs.Reader.{Read, left, start, is_right, past, with_word, with_line, with_fault, with_taken, end_word, begin_word, more_text, first_of, between, further_of, past_word, in_word, in_text, read_in, read, last_word, judge, end}
+use Rattle.lines.specs.Reader.{Read, left, start, is_right, past, with_line, with_fault, with_taken, end_word, begin_word, more_text, first_of, between, further_of, past_word, in_word, in_text, read_in, read, last_word, judge, end}
 
 -- a line, from its first character to its end, with eight bytes lent
 abbrev pub onward : Read → String → Read
@@ -95,7 +95,7 @@ bad_lines =
     ∷ []
 
 pub bad_lines_lem : T (all_told bad_lines)
-unfolding digit more_letters verb_of area_of more_digits number_of after_count more_piece store more_word judged_by with_number take_verb take_number take_area take_place take_bytes put_value take_value take_word start is_right past with_word with_line with_fault with_taken end_word begin_word more_text first_of between further_of past_word in_word in_text read_in read last_word judge end
+unfolding digit more_letters verb_of area_of more_digits number_of after_count more_piece store more_word judged_by with_number take_verb take_number take_area take_place take_bytes put_value take_value take_word start is_right past with_line with_fault with_taken end_word begin_word more_text first_of between further_of past_word in_word in_text read_in read last_word judge end
 bad_lines_lem = tt
 
 -- ---- good lines
@@ -143,5 +143,5 @@ good_lines =
     ∷ []
 
 pub good_lines_lem : T (all_right good_lines)
-unfolding digit more_letters verb_of area_of more_digits number_of after_count more_piece store more_word judged_by with_number take_verb take_number take_area take_place take_bytes put_value take_value take_word start is_right past with_word with_line with_fault with_taken end_word begin_word more_text first_of between further_of past_word in_word in_text read_in read last_word judge end
+unfolding digit more_letters verb_of area_of more_digits number_of after_count more_piece store more_word judged_by with_number take_verb take_number take_area take_place take_bytes put_value take_value take_word start is_right past with_line with_fault with_taken end_word begin_word more_text first_of between further_of past_word in_word in_text read_in read last_word judge end
 good_lines_lem = tt

@@ -24,7 +24,7 @@ left r bytes = record { reader = r; bytes = bytes }
 
 -- before a line's first character
 unfoldable pub start : Reader
-start = record { part = part.Between; column = 1; behind = 1; word = word_at 1; line = no_line; fault = None }
+start = record { part = part.Between; column = 1; behind = 1; line = no_line; fault = None }
 
 -- nothing is wrong so far
 unfoldable pub is_right : Reader → Bool
@@ -34,21 +34,18 @@ is_right r = is_none r.fault
 
 -- behind a character
 unfoldable pub past : Reader → Part → Reader
-past r p = record { part = p; column = further r.column; behind = r.behind; word = r.word; line = r.line; fault = r.fault }
-
-unfoldable pub with_word : Reader → Word → Reader
-with_word r w = record { part = r.part; column = r.column; behind = r.behind; word = w; line = r.line; fault = r.fault }
+past r p = record { part = p; column = further r.column; behind = r.behind; line = r.line; fault = r.fault }
 
 unfoldable pub with_line : Reader → Line → Reader
-with_line r l = record { part = r.part; column = r.column; behind = r.behind; word = r.word; line = l; fault = r.fault }
+with_line r l = record { part = r.part; column = r.column; behind = r.behind; line = l; fault = r.fault }
 
 unfoldable pub with_fault : Reader → Option Fault → Reader
-with_fault r f = record { part = r.part; column = r.column; behind = r.behind; word = r.word; line = r.line; fault = f }
+with_fault r f = record { part = r.part; column = r.column; behind = r.behind; line = r.line; fault = f }
 
 -- behind a word, with what it made of its line, or with what is wrong
 unfoldable pub with_taken : Reader → Taken → Reader
-with_taken r (Ok l) = record { part = r.part; column = r.column; behind = r.column; word = r.word; line = l; fault = None }
-with_taken r (Err f) = record { part = r.part; column = r.column; behind = r.column; word = r.word; line = r.line; fault = Some f }
+with_taken r (Ok l) = record { part = r.part; column = r.column; behind = r.column; line = l; fault = None }
+with_taken r (Err f) = record { part = r.part; column = r.column; behind = r.column; line = r.line; fault = Some f }
 
 -- ---- a character
 
@@ -56,12 +53,12 @@ with_taken r (Err f) = record { part = r.part; column = r.column; behind = r.col
 abbrev pub took_by : Reader → Took → Read
 took_by r t = left (with_taken r t.taken) t.bytes
 
-unfoldable pub end_word : Reader → List ℕ → Read
-end_word r bytes = took_by r (take_word (wanted r.line.verb r.line.taken) r.line r.word bytes)
+unfoldable pub end_word : Reader → Word → List ℕ → Read
+end_word r w bytes = took_by r (take_word (wanted r.line.verb r.line.taken) r.line w bytes)
 
 -- a word begins
 unfoldable pub begin_word : Reader → ℕ → Reader
-begin_word r c = past (with_word r (more_word (word_at r.column) c)) part.Word
+begin_word r c = past r (part.Word (more_word (word_at r.column) c))
 
 -- a character of a line's text
 unfoldable pub more_text : Reader → ℕ → List ℕ → Read
@@ -89,20 +86,22 @@ between r c bytes =
     (first_of (wanted r.line.verb r.line.taken) r c bytes))
 
 -- a further character of a word
-unfoldable pub further_of : Reader → ℕ → List ℕ → Read
-further_of r c bytes =
-    left (past (with_word r (more_word r.word c)) part.Word) (store r.word.piece r.line.filled c bytes)
+unfoldable pub further_of : Reader → Word → ℕ → List ℕ → Read
+further_of r w c bytes = left (past r (part.Word (more_word w c))) (store w.piece r.line.filled c bytes)
 
 -- a character that ends a word
 abbrev pub past_all : Part → Read → Read
 past_all p e = left (past e.reader p) e.bytes
 
-unfoldable pub past_word : Reader → Part → List ℕ → Read
-past_word r p bytes = past_all p (end_word r bytes)
+unfoldable pub past_word : Reader → Word → Part → List ℕ → Read
+past_word r w p bytes = past_all p (end_word r w bytes)
 
 -- a character behind a word's first
-unfoldable pub in_word : Reader → ℕ → List ℕ → Read
-in_word r c bytes = cond (blank c) (past_word r part.Between bytes) (cond (eqb c hash) (past_word r part.Comment bytes) (further_of r c bytes))
+unfoldable pub in_word : Reader → Word → ℕ → List ℕ → Read
+in_word r w c bytes =
+    cond (blank c) (past_word r w part.Between bytes)
+    (cond (eqb c hash) (past_word r w part.Comment bytes)
+    (further_of r w c bytes))
 
 -- a character of a text, which runs up to the line's end or a `#`
 unfoldable pub in_text : Reader → ℕ → List ℕ → Read
@@ -110,7 +109,7 @@ in_text r c bytes = cond (eqb c hash) (left (past r part.Comment) bytes) (more_t
 
 unfoldable pub read_in : Part → Reader → ℕ → List ℕ → Read
 read_in part.Between r c bytes = between r c bytes
-read_in part.Word r c bytes = in_word r c bytes
+read_in (part.Word w) r c bytes = in_word r w c bytes
 read_in part.Text r c bytes = in_text r c bytes
 read_in part.Comment r c bytes = left (past r part.Comment) bytes
 
@@ -123,7 +122,7 @@ read r c bytes = cond (is_right r) (read_in r.part r c bytes) (left r bytes)
 -- a word that the line ends with is taken
 unfoldable pub last_word : Part → Reader → List ℕ → Read
 last_word part.Between r bytes = left r bytes
-last_word part.Word r bytes = end_word r bytes
+last_word (part.Word w) r bytes = end_word r w bytes
 last_word part.Text r bytes = left r bytes
 last_word part.Comment r bytes = left r bytes
 

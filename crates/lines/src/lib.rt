@@ -9,23 +9,22 @@ ghost use Rattle.lines.specs.Reader as reader;
 
 use wording::{Fault, Line, Want, Word, Wrong};
 
-// Where in a line a character stands.
+// Where in a line a character stands; in a word, the word that is being read.
 #[derive(Clone, Copy)]
 pub enum Part {
     Between,
-    Word,
+    Word(Word),
     Text,
     Comment,
 }
 
-// The reader: where it stands, the column of the next character, the column behind the last word, the word, the line, and what is wrong with it,
-// if something is. By value, so that each step is one expression, as in specs/Reader; the bytes change in place, since a line may bring 65,536.
+// The reader: where it stands, the column of the next character, the column behind the last word, the line, and what is wrong with it, if
+// something is. By value, so that each step is one expression, as in specs/Reader; the bytes change in place, since a line may bring 65,536.
 #[derive(Clone, Copy)]
 pub struct Reader {
     pub part: Part,
     pub column: u32,
     pub behind: u32,
-    pub word: Word,
     pub line: Line,
     pub fault: Option<Fault>,
 }
@@ -41,7 +40,6 @@ pub fn start() -> Reader
         part: Part::Between,
         column: 1,
         behind: 1,
-        word: wording::word_at(1),
         line: wording::no_line(),
         fault: None,
     }
@@ -89,20 +87,20 @@ fn with_taken(r: Reader, taken: Result<Line, Fault>) -> Reader
 
 // The word that was read is taken.
 #[tactic(auto, unfolding(crate::specs::Reader::end_word))]
-fn end_word(bytes: &mut [u8], r: Reader) -> Reader
-    ensures { reader.Reads (reader.end_word r bytes.old) result bytes.new }
+fn end_word(bytes: &mut [u8], r: Reader, word: Word) -> Reader
+    ensures { reader.Reads (reader.end_word r word bytes.old) result bytes.new }
 {
     let want = wants::wanted(r.line.verb, r.line.taken);
-    with_taken(r, taking::take(bytes, r.line, r.word, want))
+    with_taken(r, taking::take(bytes, r.line, word, want))
 }
 
 // A word begins, where one may stand.
-#[tactic(auto, unfolding(crate::specs::Reader::begin_word, crate::specs::Reader::with_word))]
+#[tactic(auto, unfolding(crate::specs::Reader::begin_word))]
 fn begin_word(r: Reader, c: u8) -> Reader
     ensures { result ≡ reader.begin_word r c }
 {
     let word = wording::more_word(wording::word_at(r.column), c);
-    past(Reader { word, ..r }, Part::Word)
+    past(r, Part::Word(word))
 }
 
 // A character of a line's text.
@@ -155,35 +153,34 @@ fn between(bytes: &mut [u8], r: Reader, c: u8) -> Reader
 }
 
 // A further character of a word.
-#[tactic(auto, unfolding(crate::specs::Reader::further_of, crate::specs::Reader::with_word))]
-fn further_of(bytes: &mut [u8], r: Reader, c: u8) -> Reader
-    ensures { reader.Reads (reader.further_of r c bytes.old) result bytes.new }
+#[tactic(auto, unfolding(crate::specs::Reader::further_of))]
+fn further_of(bytes: &mut [u8], r: Reader, word: Word, c: u8) -> Reader
+    ensures { reader.Reads (reader.further_of r word c bytes.old) result bytes.new }
 {
-    wording::store(bytes, r.word.piece, r.line.filled, c);
-    let word = wording::more_word(r.word, c);
-    past(Reader { word, ..r }, Part::Word)
+    wording::store(bytes, word.piece, r.line.filled, c);
+    past(r, Part::Word(wording::more_word(word, c)))
 }
 
 // The word that was read is taken, and the reader goes past what ended it.
 #[tactic(auto, unfolding(crate::specs::Reader::past_word))]
-fn past_word(bytes: &mut [u8], r: Reader, part: Part) -> Reader
-    ensures { reader.Reads (reader.past_word r part bytes.old) result bytes.new }
+fn past_word(bytes: &mut [u8], r: Reader, word: Word, part: Part) -> Reader
+    ensures { reader.Reads (reader.past_word r word part bytes.old) result bytes.new }
 {
-    past(end_word(bytes, r), part)
+    past(end_word(bytes, r, word), part)
 }
 
 // A character behind a word's first.
 #[tactic(auto, unfolding(crate::specs::Reader::in_word))]
-fn in_word(bytes: &mut [u8], r: Reader, c: u8) -> Reader
-    ensures { reader.Reads (reader.in_word r c bytes.old) result bytes.new }
+fn in_word(bytes: &mut [u8], r: Reader, word: Word, c: u8) -> Reader
+    ensures { reader.Reads (reader.in_word r word c bytes.old) result bytes.new }
 {
     if wording::is_blank(c) {
-        return past_word(bytes, r, Part::Between);
+        return past_word(bytes, r, word, Part::Between);
     }
     if c == b'#' {
-        return past_word(bytes, r, Part::Comment);
+        return past_word(bytes, r, word, Part::Comment);
     }
-    further_of(bytes, r, c)
+    further_of(bytes, r, word, c)
 }
 
 // A character of a text.
@@ -204,7 +201,7 @@ fn read_in(bytes: &mut [u8], r: Reader, c: u8, part: Part) -> Reader
 {
     match part {
         Part::Between => between(bytes, r, c),
-        Part::Word => in_word(bytes, r, c),
+        Part::Word(word) => in_word(bytes, r, word, c),
         Part::Text => in_text(bytes, r, c),
         Part::Comment => past(r, Part::Comment),
     }
@@ -227,7 +224,7 @@ fn last_word(bytes: &mut [u8], r: Reader, part: Part) -> Reader
     ensures { reader.Reads (reader.last_word part r bytes.old) result bytes.new }
 {
     match part {
-        Part::Word => end_word(bytes, r),
+        Part::Word(word) => end_word(bytes, r, word),
         Part::Between | Part::Text | Part::Comment => r,
     }
 }

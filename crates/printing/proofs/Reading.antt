@@ -29,7 +29,7 @@ use Rattle.lines.specs.declared.Part.{Part}
 use Rattle.lines.specs.declared.Part.TheVariants as part
 use Rattle.lines.specs.declared.Reader.{Reader}
 use Rattle.lines.specs.Reader as lines
-use Rattle.printing.specs.Sane.{Narrow}
+use Rattle.printing.specs.Sane.{Starts, Narrow}
 
 -- ---- what is brought is at most so long
 
@@ -52,11 +52,11 @@ store_by (piece.Low stored high) at d by b = set_brought by (at + stored) (joine
 store_by (piece.TimesHigh times) at d by b = b
 store_by (piece.TimesLow times high) at d by b = b
 store_by (piece.Times times byte) at d by b = b
-store_by piece.Bad at d by b = b
 
-store_brought : (p : Piece) (at c : ℕ) (by : List ℕ) → Brought by → Brought (store p at c by)
+store_brought : (p : Option Piece) (at c : ℕ) (by : List ℕ) → Brought by → Brought (store p at c by)
 unfolding store
-store_brought p at c by b = brought_if (ltb (digit c) 16) _ _ (store_by p _ _ by b) b
+store_brought None at c by b = b
+store_brought (Some p) at c by b = brought_if (ltb (digit c) 16) _ _ (store_by p _ _ by b) b
 
 -- ---- a word that is taken
 
@@ -101,14 +101,14 @@ fine_if : (x : Bool) (a b : Took) → Fine a → Fine b → Fine (cond x a b)
 fine_if true a b p q = p
 fine_if false a b p q = q
 
-bytes_fine : (p : Piece) (l : Line) (k : ℕ) (by : List ℕ) → l.placed < 2147483648 → k < 2147483648 → Brought by → Fine (take_bytes p l k by)
+bytes_fine : (p : Option Piece) (l : Line) (k : ℕ) (by : List ℕ) → l.placed < 2147483648 → k < 2147483648 → Brought by → Fine (take_bytes p l k by)
 unfolding take_bytes
-bytes_fine (piece.High stored) l k by m q b = record { small = m; brought = b }
-bytes_fine (piece.Low stored high) l k by m q b = record { small = q; brought = b }
-bytes_fine (piece.TimesHigh times) l k by m q b = record { small = q; brought = b }
-bytes_fine (piece.TimesLow times high) l k by m q b = record { small = q; brought = b }
-bytes_fine (piece.Times times byte) l k by m q b = record { small = m; brought = sets_brought by l.filled times byte b }
-bytes_fine piece.Bad l k by m q b = record { small = q; brought = b }
+bytes_fine (Some (piece.High stored)) l k by m q b = record { small = m; brought = b }
+bytes_fine (Some (piece.Low stored high)) l k by m q b = record { small = q; brought = b }
+bytes_fine (Some (piece.TimesHigh times)) l k by m q b = record { small = q; brought = b }
+bytes_fine (Some (piece.TimesLow times high)) l k by m q b = record { small = q; brought = b }
+bytes_fine (Some (piece.Times times byte)) l k by m q b = record { small = m; brought = sets_brought by l.filled times byte b }
+bytes_fine None l k by m q b = record { small = q; brought = b }
 
 value_brought : (i n : ℕ) (by : List ℕ) → Brought by → Brought (put_value i n by)
 unfolding put_value
@@ -142,7 +142,7 @@ start_narrow by m =
     record {
       column = omega arith;
       behind = omega arith;
-      start = omega arith;
+      start = tt;
       placed = omega arith;
       fault = tt;
       most = m;
@@ -152,13 +152,13 @@ narrow_if : (x : Bool) (a b : lines.Read) → Narrow a → Narrow b → Narrow (
 narrow_if true a b p q = p
 narrow_if false a b p q = q
 
-past_narrow : (p : Part) (e : lines.Read) → Narrow e → Narrow (lines.left (lines.past e.reader p) e.bytes)
+past_narrow : (p : Part) (e : lines.Read) → Starts p → Narrow e → Narrow (lines.left (lines.past e.reader p) e.bytes)
 unfolding lines.past
-past_narrow p e n =
+past_narrow p e b n =
     record {
       column = omega arith;
       behind = n.behind;
-      start = n.start;
+      start = b;
       placed = n.placed;
       fault = n.fault;
       most = n.most;
@@ -186,10 +186,10 @@ module _ (r : Reader) (by : List ℕ) (n : Narrow (lines.left r by)) where
         most = b;
       }
 
-  word_narrow : Narrow (lines.end_word r by)
+  word_narrow : (w : Word) → w.start < 2147483648 → Narrow (lines.end_word r w by)
   unfolding lines.end_word
-  word_narrow =
-      let f = word_fine (wanted r.line.verb r.line.taken) r.line r.word by n.placed n.start n.most in
+  word_narrow w s =
+      let f = word_fine (wanted r.line.verb r.line.taken) r.line w by n.placed s n.most in
       taken_narrow _ _ f.small f.brought
 
   text_narrow : (c : ℕ) → Narrow (lines.more_text r c by)
@@ -198,14 +198,14 @@ module _ (r : Reader) (by : List ℕ) (n : Narrow (lines.left r by)) where
       record {
         column = omega arith;
         behind = n.behind;
-        start = n.start;
+        start = tt;
         placed = n.placed;
         fault = n.fault;
         most = set_brought by r.line.filled c n.most;
       }
 
   begin_narrow : (c : ℕ) → Narrow (lines.left (lines.begin_word r c) by)
-  unfolding lines.begin_word lines.with_word lines.past more_word
+  unfolding lines.begin_word lines.past more_word
   begin_narrow c =
       record {
         column = omega arith;
@@ -244,51 +244,52 @@ module _ (r : Reader) (by : List ℕ) (n : Narrow (lines.left r by)) where
   between_narrow : (c : ℕ) → Narrow (lines.between r c by)
   unfolding lines.between
   between_narrow c =
-      narrow_if (blank c) _ _ (past_narrow part.Between (lines.left r by) n)
-      (narrow_if (eqb c hash) _ _ (past_narrow part.Comment (lines.left r by) n) (first_narrow (wanted r.line.verb r.line.taken) c))
+      narrow_if (blank c) _ _ (past_narrow part.Between (lines.left r by) tt n)
+      (narrow_if (eqb c hash) _ _ (past_narrow part.Comment (lines.left r by) tt n) (first_narrow (wanted r.line.verb r.line.taken) c))
 
-  further_narrow : (c : ℕ) → Narrow (lines.further_of r c by)
-  unfolding lines.further_of lines.with_word lines.past more_word
-  further_narrow c =
+  further_narrow : (w : Word) (c : ℕ) → w.start < 2147483648 → Narrow (lines.further_of r w c by)
+  unfolding lines.further_of lines.past more_word
+  further_narrow w c s =
       record {
         column = omega arith;
         behind = n.behind;
-        start = n.start;
+        start = s;
         placed = n.placed;
         fault = n.fault;
-        most = store_brought r.word.piece r.line.filled c by n.most;
+        most = store_brought w.piece r.line.filled c by n.most;
       }
 
-  past_word_narrow : (p : Part) → Narrow (lines.past_word r p by)
+  past_word_narrow : (w : Word) (p : Part) → w.start < 2147483648 → Starts p → Narrow (lines.past_word r w p by)
   unfolding lines.past_word
-  past_word_narrow p = past_narrow p (lines.end_word r by) word_narrow
+  past_word_narrow w p s b = past_narrow p (lines.end_word r w by) b (word_narrow w s)
 
-  in_word_narrow : (c : ℕ) → Narrow (lines.in_word r c by)
+  in_word_narrow : (w : Word) (c : ℕ) → w.start < 2147483648 → Narrow (lines.in_word r w c by)
   unfolding lines.in_word
-  in_word_narrow c =
-      narrow_if (blank c) _ _ (past_word_narrow part.Between) (narrow_if (eqb c hash) _ _ (past_word_narrow part.Comment) (further_narrow c))
+  in_word_narrow w c s =
+      narrow_if (blank c) _ _ (past_word_narrow w part.Between s tt)
+      (narrow_if (eqb c hash) _ _ (past_word_narrow w part.Comment s tt) (further_narrow w c s))
 
   in_text_narrow : (c : ℕ) → Narrow (lines.in_text r c by)
   unfolding lines.in_text
-  in_text_narrow c = narrow_if (eqb c hash) _ _ (past_narrow part.Comment (lines.left r by) n) (text_narrow c)
+  in_text_narrow c = narrow_if (eqb c hash) _ _ (past_narrow part.Comment (lines.left r by) tt n) (text_narrow c)
 
-  read_in_lem : (p : Part) (c : ℕ) → Narrow (lines.read_in p r c by)
+  read_in_lem : (p : Part) (c : ℕ) → Starts p → Narrow (lines.read_in p r c by)
   unfolding lines.read_in
-  read_in_lem part.Between c = between_narrow c
-  read_in_lem part.Word c = in_word_narrow c
-  read_in_lem part.Text c = in_text_narrow c
-  read_in_lem part.Comment c = past_narrow part.Comment (lines.left r by) n
+  read_in_lem part.Between c b = between_narrow c
+  read_in_lem (part.Word w) c b = in_word_narrow w c b
+  read_in_lem part.Text c b = in_text_narrow c
+  read_in_lem part.Comment c b = past_narrow part.Comment (lines.left r by) tt n
 
   pub read_narrow : (c : ℕ) → Narrow (lines.read r c by)
   unfolding lines.read
-  read_narrow c = narrow_if (lines.is_right r) _ _ (read_in_lem r.part c) n
+  read_narrow c = narrow_if (lines.is_right r) _ _ (read_in_lem r.part c n.start) n
 
-  last_narrow : (p : Part) → Narrow (lines.last_word p r by)
+  last_narrow : (p : Part) → Starts p → Narrow (lines.last_word p r by)
   unfolding lines.last_word
-  last_narrow part.Between = n
-  last_narrow part.Word = word_narrow
-  last_narrow part.Text = n
-  last_narrow part.Comment = n
+  last_narrow part.Between b = n
+  last_narrow (part.Word w) b = word_narrow w b
+  last_narrow part.Text b = n
+  last_narrow part.Comment b = n
 
 -- ---- a line's end
 
@@ -324,7 +325,7 @@ judge_narrow e n =
 
 pub end_narrow : (r : Reader) (by : List ℕ) → Narrow (lines.left r by) → Narrow (lines.end r by)
 unfolding lines.end
-end_narrow r by n = narrow_if (lines.is_right r) _ _ (judge_narrow (lines.last_word r.part r by) (last_narrow r by n r.part)) n
+end_narrow r by n = narrow_if (lines.is_right r) _ _ (judge_narrow (lines.last_word r.part r by) (last_narrow r by n r.part n.start)) n
 
 -- ---- a line that is right
 

@@ -13,7 +13,7 @@ use texts::Page;
 use wording::Fault;
 
 // The scene; the bytes that the line brings; the number of the line that is being read; its reader; whether it has stopped, as it does at a line
-// that is wrong.
+// that is wrong. The bytes are lent whole, beside their count in the reader's line: a part of them could not grow as the line brings more.
 #[derive(Drop)]
 pub struct Session<'a> {
     pub scene: Scene<'a>,

@@ -103,19 +103,18 @@ fn take_place(line: Line, found: Option<u64>, start: u32, size: u64) -> Result<L
 
 // Bytes that were stored digit by digit, or one byte so often.
 #[tactic(auto, unfolding(wording::specs::Take::take_bytes))]
-fn take_bytes(bytes: &mut [u8], line: Line, p: Piece, start: u32) -> Result<Line, Fault>
+fn take_bytes(bytes: &mut [u8], line: Line, p: Option<Piece>, start: u32) -> Result<Line, Fault>
     ensures { take.Takes (take.take_bytes p line start bytes.old) result bytes.new }
 {
     match p {
-        Piece::High(stored) => brought(line, stored as u64),
-        Piece::Times(times, byte) => {
+        Some(Piece::High(stored)) => brought(line, stored as u64),
+        Some(Piece::Times(times, byte)) => {
             wording::fill(bytes, line.filled as usize, times as usize, byte);
             brought(line, times)
         }
-        Piece::Low(_, _) | Piece::TimesHigh(_) | Piece::TimesLow(_, _) | Piece::Bad => refused(
-            Wrong::Bytes,
-            start,
-        ),
+        Some(Piece::Low(_, _) | Piece::TimesHigh(_) | Piece::TimesLow(_, _)) | None => {
+            refused(Wrong::Bytes, start)
+        }
     }
 }
 

@@ -55,34 +55,34 @@ abbrev pub joined : ℕ → ℕ → ℕ
 joined high low = high % 16 * 16 + low % 16
 
 -- digits that are a COUNT
-abbrev pub times_of : Option ℕ → Piece
-times_of None = piece.Bad
-times_of (Some n) = piece.TimesHigh n
+abbrev pub times_of : Option ℕ → Option Piece
+times_of None = None
+times_of (Some n) = Some (piece.TimesHigh n)
 
 -- `x`, 120, behind them
-unfoldable pub after_count : Digits → ℕ → Piece
+unfoldable pub after_count : Digits → ℕ → Option Piece
 after_count n c = times_of (only_if (eqb c 120 && n.any) n.decimal)
 
 -- a further character that is no digit; the digits before it
-abbrev pub with_other : Piece → Digits → ℕ → Piece
+abbrev pub with_other : Piece → Digits → ℕ → Option Piece
 with_other (piece.High stored) n c = after_count n c
 with_other (piece.Low stored high) n c = after_count n c
-with_other (piece.TimesHigh times) n c = piece.Bad
-with_other (piece.TimesLow times high) n c = piece.Bad
-with_other (piece.Times times byte) n c = piece.Bad
-with_other piece.Bad n c = piece.Bad
+with_other (piece.TimesHigh times) n c = None
+with_other (piece.TimesLow times high) n c = None
+with_other (piece.Times times byte) n c = None
 
 -- a further digit
-abbrev pub with_digit : Piece → ℕ → Piece
-with_digit (piece.High stored) d = piece.Low stored d
-with_digit (piece.Low stored high) d = piece.High (counted stored 1)
-with_digit (piece.TimesHigh times) d = piece.TimesLow times d
-with_digit (piece.TimesLow times high) d = piece.Times times (joined high d)
-with_digit (piece.Times times byte) d = piece.Bad
-with_digit piece.Bad d = piece.Bad
+abbrev pub with_digit : Piece → ℕ → Option Piece
+with_digit (piece.High stored) d = Some (piece.Low stored d)
+with_digit (piece.Low stored high) d = Some (piece.High (counted stored 1))
+with_digit (piece.TimesHigh times) d = Some (piece.TimesLow times d)
+with_digit (piece.TimesLow times high) d = Some (piece.Times times (joined high d))
+with_digit (piece.Times times byte) d = None
 
-unfoldable pub more_piece : Piece → Digits → ℕ → Piece
-more_piece p n c = cond (ltb (digit c) 16) (with_digit p (digit c)) (with_other p n c)
+-- what is no piece stays none
+unfoldable pub more_piece : Option Piece → Digits → ℕ → Option Piece
+more_piece None n c = None
+more_piece (Some p) n c = cond (ltb (digit c) 16) (with_digit p (digit c)) (with_other p n c)
 
 -- the second digit of a byte stores it at its place
 abbrev pub store_digit : Piece → ℕ → ℕ → List ℕ → List ℕ
@@ -91,16 +91,16 @@ store_digit (piece.Low stored high) at d bytes = set bytes (at + stored) (joined
 store_digit (piece.TimesHigh times) at d bytes = bytes
 store_digit (piece.TimesLow times high) at d bytes = bytes
 store_digit (piece.Times times byte) at d bytes = bytes
-store_digit piece.Bad at d bytes = bytes
 
--- what a further character stores of a piece that begins at a place
-unfoldable pub store : Piece → ℕ → ℕ → List ℕ → List ℕ
-store p at c bytes = cond (ltb (digit c) 16) (store_digit p at (digit c) bytes) bytes
+-- what a further character stores of a piece that begins at a place, if it is one
+unfoldable pub store : Option Piece → ℕ → ℕ → List ℕ → List ℕ
+store None at c bytes = bytes
+store (Some p) at c bytes = cond (ltb (digit c) 16) (store_digit p at (digit c) bytes) bytes
 
 -- ---- a word
 
 abbrev pub word_at : ℕ → Word
-word_at column = record { start = column; letters = 0; digits = no_digits; piece = piece.High 0 }
+word_at column = record { start = column; letters = 0; digits = no_digits; piece = Some (piece.High 0) }
 
 unfoldable pub more_word : Word → ℕ → Word
 more_word w c =

@@ -92,13 +92,13 @@ abbrev pub took : Taken → List ℕ → Took
 took t bytes = record { taken = t; bytes = bytes }
 
 -- digits have stored their bytes already; COUNTxHH is the byte HH so often
-unfoldable pub take_bytes : Piece → Line → ℕ → List ℕ → Took
-take_bytes (piece.High stored) line start bytes = took (brought line stored) bytes
-take_bytes (piece.Low stored high) line start bytes = took (refused wrong.Bytes start) bytes
-take_bytes (piece.TimesHigh times) line start bytes = took (refused wrong.Bytes start) bytes
-take_bytes (piece.TimesLow times high) line start bytes = took (refused wrong.Bytes start) bytes
-take_bytes (piece.Times times byte) line start bytes = took (brought line times) (sets bytes line.filled (replicate times byte))
-take_bytes piece.Bad line start bytes = took (refused wrong.Bytes start) bytes
+unfoldable pub take_bytes : Option Piece → Line → ℕ → List ℕ → Took
+take_bytes (Some (piece.High stored)) line start bytes = took (brought line stored) bytes
+take_bytes (Some (piece.Low stored high)) line start bytes = took (refused wrong.Bytes start) bytes
+take_bytes (Some (piece.TimesHigh times)) line start bytes = took (refused wrong.Bytes start) bytes
+take_bytes (Some (piece.TimesLow times high)) line start bytes = took (refused wrong.Bytes start) bytes
+take_bytes (Some (piece.Times times byte)) line start bytes = took (brought line times) (sets bytes line.filled (replicate times byte))
+take_bytes None line start bytes = took (refused wrong.Bytes start) bytes
 
 -- a word of 16 bits, low byte first
 unfoldable pub put_value : ℕ → ℕ → List ℕ → List ℕ

@@ -77,7 +77,7 @@ pub struct Digits {
 }
 
 // A piece of bytes, by what stands next, with the bytes of it that are stored, or how often a byte is repeated: a byte's first digit; its second,
-// behind the first; after COUNTx the first digit; the second; nothing more, with the byte that is repeated. Or it is no piece.
+// behind the first; after COUNTx the first digit; the second; nothing more, with the byte that is repeated.
 #[derive(Clone, Copy)]
 pub enum Piece {
     High(u32),
@@ -85,17 +85,16 @@ pub enum Piece {
     TimesHigh(u64),
     TimesLow(u64, u8),
     Times(u64, u8),
-    Bad,
 }
 
-// The word that is being read: the column of its first character, its letters as one number, its digits, its piece.
+// The word that is being read: the column of its first character, its letters as one number, its digits, its piece, if it is one.
 // One number and no slice: a word's letters go on from stretch to stretch, in fixed memory.
 #[derive(Clone, Copy)]
 pub struct Word {
     pub start: u32,
     pub letters: u64,
     pub digits: Digits,
-    pub piece: Piece,
+    pub piece: Option<Piece>,
 }
 
 // What a line brought so far: its verb, if it has one, how many further words, the area, two numbers, the bytes stored, the column of the place.
@@ -340,48 +339,48 @@ fn joined(high: u8, low: u8) -> u8
 
 // What is no digit: the x of COUNTx, behind digits that are a COUNT. n: the digits before it.
 #[tactic(auto, unfolding(crate::specs::Spelling::after_count))]
-fn after_count(n: Digits, c: u8) -> Piece
+fn after_count(n: Digits, c: u8) -> Option<Piece>
     ensures { result ≡ words.after_count n c }
 {
-    match n.decimal.filter(|_| n.any && c == b'x') {
-        Some(times) => Piece::TimesHigh(times),
-        None => Piece::Bad,
-    }
+    n.decimal
+        .filter(|_| n.any && c == b'x')
+        .map(Piece::TimesHigh)
 }
 
 // A further character of a piece that is no digit.
-fn with_other(p: Piece, n: Digits, c: u8) -> Piece
+fn with_other(p: Piece, n: Digits, c: u8) -> Option<Piece>
     ensures { result ≡ words.with_other p n c }
 {
     match p {
         Piece::High(_) | Piece::Low(_, _) => after_count(n, c),
-        Piece::TimesHigh(_) | Piece::TimesLow(_, _) | Piece::Times(_, _) | Piece::Bad => Piece::Bad,
+        Piece::TimesHigh(_) | Piece::TimesLow(_, _) | Piece::Times(_, _) => None,
     }
 }
 
 // A further digit of a piece.
-fn with_digit(p: Piece, d: u8) -> Piece
+fn with_digit(p: Piece, d: u8) -> Option<Piece>
     ensures { result ≡ words.with_digit p d }
 {
     match p {
-        Piece::High(stored) => Piece::Low(stored, d),
-        Piece::Low(stored, _) => Piece::High(counted(stored, 1)),
-        Piece::TimesHigh(times) => Piece::TimesLow(times, d),
-        Piece::TimesLow(times, high) => Piece::Times(times, joined(high, d)),
-        Piece::Times(_, _) | Piece::Bad => Piece::Bad,
+        Piece::High(stored) => Some(Piece::Low(stored, d)),
+        Piece::Low(stored, _) => Some(Piece::High(counted(stored, 1))),
+        Piece::TimesHigh(times) => Some(Piece::TimesLow(times, d)),
+        Piece::TimesLow(times, high) => Some(Piece::Times(times, joined(high, d))),
+        Piece::Times(_, _) => None,
     }
 }
 
-// A further character of a piece. n: the word's digits before it.
+// A further character of what is a piece so far, if it is one. n: the word's digits before it.
 #[tactic(auto, unfolding(crate::specs::Spelling::more_piece))]
-fn more_piece(p: Piece, n: Digits, c: u8) -> Piece
+fn more_piece(p: Option<Piece>, n: Digits, c: u8) -> Option<Piece>
     ensures { result ≡ words.more_piece p n c }
 {
+    let sofar = p?;
     let d = digit(c);
     if d < NO_DIGIT {
-        return with_digit(p, d);
+        return with_digit(sofar, d);
     }
-    with_other(p, n, c)
+    with_other(sofar, n, c)
 }
 
 // The byte goes to place i, if there is such a place.
@@ -409,22 +408,19 @@ fn store_digit(bytes: &mut [u8], p: Piece, at: u32, d: u8)
 {
     match p {
         Piece::Low(stored, high) => put(bytes, at as usize + stored as usize, joined(high, d)),
-        Piece::High(_)
-        | Piece::TimesHigh(_)
-        | Piece::TimesLow(_, _)
-        | Piece::Times(_, _)
-        | Piece::Bad => {}
+        Piece::High(_) | Piece::TimesHigh(_) | Piece::TimesLow(_, _) | Piece::Times(_, _) => {}
     }
 }
 
-// What a further character of a piece stores; the piece begins at place `at`.
+// What a further character of a piece stores, if it is one; the piece begins at place `at`.
 #[tactic(auto, unfolding(crate::specs::Spelling::store))]
-pub fn store(bytes: &mut [u8], p: Piece, at: u32, c: u8)
+pub fn store(bytes: &mut [u8], p: Option<Piece>, at: u32, c: u8)
     ensures { bytes.new ≡ words.store p at c bytes.old }
 {
     let d = digit(c);
-    if d < NO_DIGIT {
-        store_digit(bytes, p, at, d);
+    match p {
+        Some(sofar) if d < NO_DIGIT => store_digit(bytes, sofar, at, d),
+        _ => {}
     }
 }
 
@@ -438,7 +434,7 @@ pub fn word_at(column: u32) -> Word
         start: column,
         letters: 0,
         digits: no_digits(),
-        piece: Piece::High(0),
+        piece: Some(Piece::High(0)),
     }
 }
 
