@@ -105,11 +105,12 @@ fn begun_by(block: Offset, word: u16) -> u64
 }
 
 // A Transmit goes on to its first descriptor, or to its end where there is none; so many bytes of the frame are in the outgoing area.
-fn to_first(filled: u64, b: u64, first: Offset) -> Commanded
+// Whether there is none is asked by the caller: asked here, a Transmit takes an instruction more.
+fn to_first(none: bool, filled: u64, b: u64, first: Offset) -> Commanded
     requires { (b < 2 ^ 20) × (filled < 2 ^ 16) }
-    ensures { (v : Begun) → BegunIs v b → inner.Quiet (begins.to_first (address.is_none first) filled v first) result }
+    ensures { (v : Begun) → BegunIs v b → inner.Quiet (begins.to_first none filled v first) result }
 {
-    if memory::is_none(first) {
+    if none {
         return quiet(cu::ENDING, cu::ending(b, filled));
     }
     quiet(cu::SENDING, cu::sending(b, 0, filled, first))
@@ -183,7 +184,7 @@ fn begin_transmit(
     let first = memory::offset_at(memory, memory::place(base, block, ARGUMENT));
     let f = setup::form(setup);
     place_header(memory, outgoing, setup, f, base, block);
-    to_first(form::unbuffered(f), b, first)
+    to_first(memory::is_none(first), form::unbuffered(f), b, first)
 }
 
 // The command of a command word is begun.

@@ -10,6 +10,6 @@ returns c v u s hb e h =
     let f : c.place.result.0 ≡ place c.args.base v.block 6 = c.place.ensures ∙ rw e in
     let same : form_of c.form-f.result ≡ s.settings.form = rw (c.form-f.ensures.1 s h) (form_back s.settings.form h.form_wide) in
     record {
-      quiet = rw (c.offset_at-first.ensures, f, c.unbuffered.ensures.0, same) at (c.to_first.ensures v hb);
+      quiet = rw (c.is_none.ensures, c.offset_at-first.ensures, f, c.unbuffered.ensures.0, same) at (c.to_first.ensures v hb);
       outgoing = rw (e, ← same) (c.place_header.ensures s h);
     }

@@ -4,11 +4,11 @@ use Rattle.code_command.specs.Inner.{walk}
 use Rattle.packed.proofs.Words.{sending_is_lem, ending_is_lem}
 use Rattle.code_command.proofs.to_first.Goals as goal
 
-pub returns-then-is_none : goal.returns-then-is_none
-returns-then-is_none c v h =
-    rw (← c.is_none.ensures, c.if-is_none.true, c.quiet.ensures) (record { unit = ending_is_lem _ v c.args.filled (c.ending.ensures v h); raised = refl; length = refl })
+pub returns-then-none : goal.returns-then-none
+returns-then-none c v h =
+    rw (c.if-none.true, c.quiet.ensures) (record { unit = ending_is_lem _ v c.args.filled (c.ending.ensures v h); raised = refl; length = refl })
 
 pub returns : goal.returns
 returns c v h =
-    rw (← c.is_none.ensures, c.if-is_none.false, c.quiet-2.ensures)
+    rw (c.if-none.false, c.quiet-2.ensures)
     (record { unit = sending_is_lem _ v (walk c.args.first 0 c.args.filled) (c.sending.ensures v h); raised = refl; length = refl })
