@@ -107,6 +107,8 @@ fn commands(k: Packed) -> bool
     packed::ru_last(k)
 }
 
+// The areas stand beside each other, as in code_calls: with one value for all of them a turn takes more instructions.
+
 // A turn: RU has work while a frame is held, CU while Active; if both have, the one not served at the last working turn is served.
 pub fn turn(
     memory: &mut [u8],
@@ -187,7 +189,7 @@ pub fn arrival(
             reason: Some(Reason::TooFew),
         };
     }
-    if code_filter::matches(setup, form::length(f) as usize, frame) {
+    if code_filter::matches(setup, &frame[..form::length(f) as usize]) {
         return code_arrival::arrive(memory, holding, setup, k, frame, verdict);
     }
     Arrived {

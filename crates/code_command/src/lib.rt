@@ -105,6 +105,7 @@ fn begun_by(block: Offset, word: u16) -> u64
 }
 
 // A Transmit goes on to its first descriptor, or to its end where there is none; so many bytes of the frame are in the outgoing area.
+// Whether there is none is asked by the caller: asked here, a Transmit takes an instruction more.
 fn to_first(none: bool, filled: u64, b: u64, first: Offset) -> Commanded
     requires { (b < 2 ^ 20) × (filled < 2 ^ 16) }
     ensures { (v : Begun) → BegunIs v b → inner.Quiet (begins.to_first none filled v first) result }

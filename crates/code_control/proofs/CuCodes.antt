@@ -1,12 +1,13 @@
 -- CUC over the command unit's numbers: each case of a tag is a case of the unit. Assumes nothing.
 use mathlib.Core.Path.{◌≡◌, refl, sym, ap, subst, ◌∙◌}
 use mathlib.Core.Bool.{Bool, true, false, cond}
-use mathlib.Core.List.{List, [], ◌∷◌}
+use mathlib.Core.List.{List, []}
 use Prim.Native.Nat.{ℕ, ◌%◌, ◌<◌, ◌≤◌}
 use native.Mathlib.Omega.{arith}
 use lib.Dec.{eqb, ltb}
-use Rattle.memory.specs.Address.{place, offset_at}
-use Rattle.memory.specs.Memory.{Write, word_to, apply}
+use Rattle.std.specs.Bool.{then_some}
+use Rattle.memory.specs.Address.{offset_at}
+use Rattle.memory.specs.Memory.{Write, apply}
 use Rattle.memory.specs.declared.Offset.{Offset}
 use Rattle.memory.specs.declared.RealAddress.{RealAddress}
 use Rattle.scb.specs.Control.{Code, code_of, start, resume, suspend, abort, other, cu_next}
@@ -17,6 +18,7 @@ use Rattle.device.specs.State.{cu_state}
 use Rattle.device.specs.declared.Cu.{Cu}
 use Rattle.device.specs.declared.Cu.TheVariants as cu
 use Rattle.device.specs.declared.Units.{Units}
+use Rattle.phases.specs.Fields.{offset_in}
 use Rattle.phases.specs.Phases.{number_of, plain, cu_tag, cu_word}
 use Rattle.packed.specs.Packed.{WordIs, CuIs, begun_pausing}
 use Rattle.control.specs.Control.{cu_start, cu_suspend, cu_by, aborted_cu, cu_writes}
@@ -123,10 +125,10 @@ cu_at_lem (cu.Failing b) = refl
 pub word_at_lem : (c : Cu) (tag n : ℕ) → CuIs c tag n → of_word n ≡ at_of c
 word_at_lem c tag n h = offset_of_lem (at_of c) (n % 65536) (rw h.word_is (at_is (cu_word c) h.wide) ∙ sym (cu_at_lem c))
 
-pub aborts_cu : (base : RealAddress) (c : Cu) (tag n : ℕ) → CuIs c tag n → aborted base (ltb 2 tag) n 0x9000 ≡ aborted_cu base c
+pub aborts_cu : (base : RealAddress) (c : Cu) (tag n : ℕ) → CuIs c tag n → aborted base (then_some (ltb 2 tag) (of_word n)) 0x9000 ≡ aborted_cu base c
 aborts_cu base c tag n h = rw (word_at_lem c tag n h, h.tag_is) (by c)
   where
-    by : (x : Cu) → cond (ltb 2 (cu_tag x)) (word_to (place base (at_of x) 0) 0x9000 ∷ []) [] ≡ aborted_cu base x
+    by : (x : Cu) → aborted base (then_some (ltb 2 (cu_tag x)) (at_of x)) 0x9000 ≡ aborted_cu base x
     by cu.Idle = refl
     by (cu.Suspended o) = refl
     by (cu.Waiting o) = refl
@@ -236,10 +238,12 @@ module _ (u : Units) (base : RealAddress) (command tag n : ℕ) (m : List ℕ) (
         memory = subst (λ (x : Cu × List Write). left ≡ apply x.1 m) (sym t) w;
       }
 
-  pub cuc_idle : (left : List ℕ) → 0 ≡ cu_number next → left ≡ apply (aborted base (ltb 2 tag) n 0x9000) m
+  pub cuc_idle : (left : List ℕ) (block : Offset) → block.0 ≡ offset_in n → 0 ≡ cu_number next
+      → left ≡ apply (aborted base (then_some (ltb 2 tag) block) 0x9000) m
       → CuObeys (obey_cuc u command m) m (record { tag = 0; word = 0 }) left
-  cuc_idle left e f =
-      let w : aborted base (ltb 2 tag) n 0x9000 ≡ aborted_cu u.base u.cu = rw (real_of_lem base u.base b) (aborts_cu u.base u.cu tag n h) in
+  cuc_idle left block o e f =
+      let w : aborted base (then_some (ltb 2 tag) block) 0x9000 ≡ aborted_cu u.base u.cu =
+      rw (real_of_lem base u.base b, offset_of_lem (of_word n) block.0 o) (aborts_cu u.base u.cu tag n h) in
       obeys cus.Idle (record { tag = 0; word = 0 }) left (to_idle next e) cu_idle_is (f ∙ ap (λ (ws : List Write). apply ws m) w)
 
   pub cuc_suspended : (r : Unit) → 1 ≡ cu_number next → CuIs (cu_suspend u.cu) r.tag r.word → CuObeys (obey_cuc u command m) m r m

@@ -1,12 +1,13 @@
 -- RUC over the receive unit's numbers: each case of a tag is a case of the unit. Assumes nothing.
 use mathlib.Core.Path.{◌≡◌, refl, sym, ap, subst, ◌∙◌}
 use mathlib.Core.Bool.{Bool, true, false, cond}
-use mathlib.Core.List.{List, [], ◌∷◌}
+use mathlib.Core.List.{List, []}
 use Prim.Native.Nat.{ℕ, ◌%◌, ◌<◌, ◌≤◌}
 use native.Mathlib.Omega.{arith}
 use lib.Dec.{eqb, ltb}
-use Rattle.memory.specs.Address.{place, offset_at}
-use Rattle.memory.specs.Memory.{Write, word_to, apply}
+use Rattle.std.specs.Bool.{then_some}
+use Rattle.memory.specs.Address.{offset_at}
+use Rattle.memory.specs.Memory.{Write, apply}
 use Rattle.memory.specs.declared.Offset.{Offset}
 use Rattle.memory.specs.declared.RealAddress.{RealAddress}
 use Rattle.scb.specs.Control.{Code, code_of, start, resume, suspend, abort, other, ru_next}
@@ -18,6 +19,7 @@ use Rattle.device.specs.State.{ru_state}
 use Rattle.device.specs.declared.Ru.{Ru}
 use Rattle.device.specs.declared.Ru.TheVariants as ru
 use Rattle.device.specs.declared.Units.{Units}
+use Rattle.phases.specs.Fields.{offset_in}
 use Rattle.phases.specs.Phases.{number_of, plain, ru_tag, ru_word, ru_rest}
 use Rattle.packed.specs.Packed.{WordIs, RuIs, held_pausing}
 use Rattle.control.specs.Control.{ru_start, ru_suspend, ru_by, aborted_ru, ru_writes}
@@ -134,10 +136,10 @@ ru_at_lem (ru.Lacking s) = refl
 pub word_at_lem : (v : Ru) (tag n rest : ℕ) → RuIs v tag n rest → of_word n ≡ at_of v
 word_at_lem v tag n rest h = offset_of_lem (at_of v) (n % 65536) (rw h.word_is (at_is (ru_word v) h.wide) ∙ sym (ru_at_lem v))
 
-pub aborts_ru : (base : RealAddress) (v : Ru) (tag n rest : ℕ) → RuIs v tag n rest → aborted base (ltb 4 tag) n 0 ≡ aborted_ru base v
+pub aborts_ru : (base : RealAddress) (v : Ru) (tag n rest : ℕ) → RuIs v tag n rest → aborted base (then_some (ltb 4 tag) (of_word n)) 0 ≡ aborted_ru base v
 aborts_ru base v tag n rest h = rw (word_at_lem v tag n rest h, h.tag_is) (by v)
   where
-    by : (x : Ru) → cond (ltb 4 (ru_tag x)) (word_to (place base (at_of x) 0) 0 ∷ []) [] ≡ aborted_ru base x
+    by : (x : Ru) → aborted base (then_some (ltb 4 (ru_tag x)) (at_of x)) 0 ≡ aborted_ru base x
     by ru.Idle = refl
     by ru.NoResources = refl
     by (ru.Suspended o) = refl
@@ -264,10 +266,12 @@ module _ (u : Units) (base : RealAddress) (command tag n rest : ℕ) (m : List �
         memory = subst (λ (x : Ru × List Write). left ≡ apply x.1 m) (sym t) w;
       }
 
-  pub ruc_idle : (left : List ℕ) → 0 ≡ ru_column next → left ≡ apply (aborted base (ltb 4 tag) n 0) m
+  pub ruc_idle : (left : List ℕ) (block : Offset) → block.0 ≡ offset_in n → 0 ≡ ru_column next
+      → left ≡ apply (aborted base (then_some (ltb 4 tag) block) 0) m
       → RuObeys (obey_ruc u command m) m (record { tag = 0; word = 0; rest = 0 }) left
-  ruc_idle left e f =
-      let w : aborted base (ltb 4 tag) n 0 ≡ aborted_ru u.base u.ru = rw (real_of_lem base u.base b) (aborts_ru u.base u.ru tag n rest h) in
+  ruc_idle left block o e f =
+      let w : aborted base (then_some (ltb 4 tag) block) 0 ≡ aborted_ru u.base u.ru =
+      rw (real_of_lem base u.base b, offset_of_lem (of_word n) block.0 o) (aborts_ru u.base u.ru tag n rest h) in
       obeys rus.Idle (record { tag = 0; word = 0; rest = 0 }) left (ru_to_idle next e) ru_idle_is (f ∙ ap (λ (ws : List Write). apply ws m) w)
 
   pub ruc_suspended : (r : Unit) → 1 ≡ ru_column next → RuIs (ru_suspend u.ru) r.tag r.word r.rest

@@ -1,5 +1,5 @@
 -- A control code is obeyed over a unit's numbers: 01, "The SCB". What it comes to is what the room control says of the unit. Assumes nothing.
-use Rattle.std.specs.Prelude.{◌≡◌, Bool, cond, List, [], ◌∷◌, ℕ}
+use Rattle.std.specs.Prelude.{◌≡◌, Bool, cond, List, [], ◌∷◌, ℕ, Option, Some, None}
 use Rattle.memory.specs.Memory.{Write, word_at, word_to, apply}
 use Rattle.memory.specs.Address.{place}
 use Rattle.memory.specs.declared.Offset.{Offset}
@@ -16,9 +16,10 @@ use Rattle.control.specs.Obey.{Obeyed}
 abbrev pub of_word : ℕ → Offset
 of_word n = record { 0 = offset_in n }
 
--- an abort of a begun command or frame writes its status; it stands first in its block
-abbrev pub aborted : RealAddress → (begun : Bool) → (word status : ℕ) → List Write
-aborted base begun n status = cond begun (word_to (place base (of_word n) 0) status ∷ []) []
+-- an abort writes the status of what is begun, if anything is; it stands first in its block
+abbrev pub aborted : RealAddress → (begun : Option Offset) → (status : ℕ) → List Write
+aborted base None status = []
+aborted base (Some block) status = word_to (place base block 0) status ∷ []
 
 -- START at a field of the SCB, RESUME at the offset that the unit's word has
 abbrev pub first_of : RealAddress → Offset → (start : Bool) → (field word : ℕ) → List ℕ → ℕ

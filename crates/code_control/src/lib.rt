@@ -38,16 +38,12 @@ const ABORTED_DESCRIPTOR: u16 = 0;
 
 // ---- what both units do
 
-// A begun command or frame that is aborted gets its status; nothing else is written.
-fn abort(memory: &mut [u8], base: RealAddress, begun: bool, word: u64, status: u16)
-    ensures { memory.new ≡ bytes.apply (aborted base begun word status) memory.old }
+// The block or descriptor of what is begun, if anything is, gets its status; nothing else is written.
+fn abort(memory: &mut [u8], base: RealAddress, begun: Option<Offset>, status: u16)
+    ensures { memory.new ≡ bytes.apply (aborted base begun status) memory.old }
 {
-    if begun {
-        memory::put_word(
-            memory,
-            memory::place(base, packed::at_of(word), STATUS),
-            status,
-        );
+    if let Some(block) = begun {
+        memory::put_word(memory, memory::place(base, block, STATUS), status);
     }
 }
 
@@ -125,8 +121,8 @@ pub fn obey_cuc(
 {
     match scb::cu_goes(command, cu_number(unit.tag)) {
         scb::IDLE => {
-            let begun = cu::WAITING < unit.tag;
-            abort(memory, base, begun, unit.word, ABORTED_BLOCK);
+            let begun = (cu::WAITING < unit.tag).then_some(packed::at_of(unit.word));
+            abort(memory, base, begun, ABORTED_BLOCK);
             cu::Unit {
                 tag: cu::IDLE,
                 word: 0,
@@ -197,8 +193,8 @@ pub fn obey_ruc(
 {
     match scb::ru_goes(command, ru_column(unit.tag)) {
         scb::IDLE => {
-            let begun = ru::HELD < unit.tag;
-            abort(memory, base, begun, unit.word, ABORTED_DESCRIPTOR);
+            let begun = (ru::HELD < unit.tag).then_some(packed::at_of(unit.word));
+            abort(memory, base, begun, ABORTED_DESCRIPTOR);
             ru::Unit {
                 tag: ru::IDLE,
                 word: 0,

@@ -10,8 +10,7 @@ use borrow.Author.Tests.{eq-eqb, ne_eqb, eqb-true, eqb-false}
 use lib.Dec.{eqb}
 use lib.ListN.{get_or, replicate}
 use lib.ListN.{length, take, drop}
-use lib.Seq.{length-take-le}
-use Rattle.std.proofs.lemmas.List.{get_or-take}
+use lib.Seq.{take_all}
 use Rattle.std.specs.Bool.{Decides, MatchBool}
 use Rattle.std.specs.List.{AllWithin, HoldsAt}
 use Rattle.memory.specs.Memory.{value, digits}
@@ -77,10 +76,11 @@ module _ (a : List ℕ) (i : ℕ) (f : List ℕ) where
 -- ---- all bytes of a short address
 
 -- two slices that are equal
-pub agree_decides : (a : List ℕ) (i : ℕ) (f : List ℕ) (l : ℕ) → i + l ≤ length a → l ≤ length f
-    → Decides (agree a i f l) (take l f ≡ take l (drop i a))
-agree_decides a i f l h g =
-    let front : bytes_from f 0 l ≡ take l f = from_run f 0 l (rw zero-add g) in
+pub agree_decides : (a : List ℕ) (i : ℕ) (f : List ℕ) → i + length f ≤ length a
+    → Decides (agree a i f (length f)) (f ≡ take (length f) (drop i a))
+agree_decides a i f h =
+    let l = length f in
+    let front : bytes_from f 0 l ≡ f = from_run f 0 l (omega arith) ∙ take_all l f (omega arith) in
     let back : bytes_from a i l ≡ take l (drop i a) = from_run a i l h in (
       λ e.
           let same : bytes_from a i l ≡ bytes_from f 0 l =
@@ -93,19 +93,15 @@ agree_decides a i f l h g =
     )
 
 -- bytes that are each FFh
-pub ones_told : (f : List ℕ) (l : ℕ) (r : Bool) → l ≤ length f
-    → MatchBool r (AllWithin (λ x. x ≡ 255) (take l f) 0 (length (take l f)))
-    ((k : ℕ) × (k < length (take l f)) × HoldsAt (λ x. x ≡ 255 → ⊥) (take l f) k)
-    → r ≡ agree (replicate l 255) 0 f l
-ones_told f l true g h =
-    let e : length (take l f) ≡ l = length-take-le l f g in
-    sym (agree_all (replicate l 255) 0 f l
-    (λ k p. sym (get_or-take l f k 0 p) ∙ h k 0 (omega arith) (omega arith) ∙ sym (rw (zero-add, each_of l 255 k p))))
-ones_told f l false g (k, p, other) =
-    let e : length (take l f) ≡ l = length-take-le l f g in
-    let b : k < l = omega arith in
-    sym (refuted (agree (replicate l 255) 0 f l)
-    (λ t. other 0 (get_or-take l f k 0 b ∙ agree_each (replicate l 255) 0 f l k t b ∙ rw (zero-add, each_of l 255 k b))))
+pub ones_told : (f : List ℕ) (r : Bool)
+    → MatchBool r (AllWithin (λ x. x ≡ 255) f 0 (length f)) ((k : ℕ) × (k < length f) × HoldsAt (λ x. x ≡ 255 → ⊥) f k)
+    → r ≡ agree (replicate (length f) 255) 0 f (length f)
+ones_told f true h =
+    sym (agree_all (replicate (length f) 255) 0 f (length f)
+    (λ k p. h k 0 (omega arith) (omega arith) ∙ sym (rw (zero-add, each_of (length f) 255 k p))))
+ones_told f false (k, p, other) =
+    sym (refuted (agree (replicate (length f) 255) 0 f (length f))
+    (λ t. other 0 (agree_each (replicate (length f) 255) 0 f (length f) k t p ∙ rw (zero-add, each_of (length f) 255 k p))))
 
 -- ---- four bytes at once
 

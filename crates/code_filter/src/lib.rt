@@ -1,5 +1,5 @@
 // Is this frame for us: the one question that an arrival asks of the settings, the own address and the filter, which are lent as the record
-// keeps them. It assumes a frame that has an address of at most six bytes. filter's Match says the answer.
+// keeps them. It assumes a destination of at most six bytes. filter's Match says the answer.
 
 #![tactic(auto)]
 
@@ -21,87 +21,89 @@ const AT_ONCE: usize = 4;
 
 const ONES_AT_ONCE: u64 = 0xFFFFFFFF;
 
-// Whether the destination of a frame, l bytes, is all FFh.
-fn is_broadcast(l: usize, frame: &[u8]) -> bool
-    requires { (l ≤ longest_address) × (l ≤ length frame.now) }
-    ensures { result ≡ match.all_ones l frame.now }
+// Whether a destination is all FFh.
+fn is_broadcast(destination: &[u8]) -> bool
+    requires { length destination.now ≤ longest_address }
+    ensures { result ≡ match.all_ones (length destination.now) destination.now }
 {
+    let l = destination.len();
     if AT_ONCE <= l {
-        if numerals::read::<AT_ONCE>(frame, 0) == ONES_AT_ONCE {
-            return numerals::read::<AT_ONCE>(frame, l - AT_ONCE) == ONES_AT_ONCE;
+        if numerals::read::<AT_ONCE>(destination, 0) == ONES_AT_ONCE {
+            return numerals::read::<AT_ONCE>(destination, l - AT_ONCE) == ONES_AT_ONCE;
         }
         return false;
     }
-    frame[..l].iter().all(|byte| *byte == ONES)
+    destination.iter().all(|byte| *byte == ONES)
 }
 
-// Whether it is the own address, of which the first l bytes count.
-fn is_own(setup: &[u8; setup::SIZE], l: usize, frame: &[u8]) -> bool
-    requires { (l ≤ longest_address) × (l ≤ length frame.now) }
-    ensures { result ≡ match.agree setup.now own_at frame.now l }
+// Whether it is the own address, of which so many first bytes count.
+fn is_own(setup: &[u8; setup::SIZE], destination: &[u8]) -> bool
+    requires { length destination.now ≤ longest_address }
+    ensures { result ≡ match.agree setup.now own_at destination.now (length destination.now) }
 {
+    let l = destination.len();
     if AT_ONCE <= l {
-        if numerals::read::<AT_ONCE>(setup, setup::OWN) == numerals::read::<AT_ONCE>(frame, 0) {
+        if numerals::read::<AT_ONCE>(setup, setup::OWN)
+            == numerals::read::<AT_ONCE>(destination, 0)
+        {
             let rest = l - AT_ONCE;
             return numerals::read::<AT_ONCE>(setup, setup::OWN + rest)
-                == numerals::read::<AT_ONCE>(frame, rest);
+                == numerals::read::<AT_ONCE>(destination, rest);
         }
         return false;
     }
-    frame[..l] == setup[setup::OWN..setup::OWN + l]
+    destination == &setup[setup::OWN..setup::OWN + l]
 }
 
-// The hash of the destination.
+// Its hash.
 #[tactic(auto, using(hash::proofs::Faster::before))]
-fn hash_of(l: usize, frame: &[u8]) -> u64
-    requires { l ≤ length frame.now }
-    ensures { (result < filter_bits) × (result ≡ hash (take l frame.now)) }
+fn hash_of(destination: &[u8]) -> u64
+    ensures { (result < filter_bits) × (result ≡ hash destination.now) }
 {
     let mut register = hash::ONES;
-    for byte in &frame[..l] {
+    for byte in destination {
         register = hash::take(register, *byte);
     }
     hash::select(register)
 }
 
-// Whether its bit is set in the filter.
-fn is_filtered(setup: &[u8; setup::SIZE], l: usize, frame: &[u8]) -> bool
-    requires { l ≤ length frame.now }
-    ensures { (s : Setup) → SetIs s setup.now → result ≡ match.is_filtered l s.filter frame.now }
+// Whether the bit of its hash is set in the filter.
+fn is_filtered(setup: &[u8; setup::SIZE], destination: &[u8]) -> bool
+    ensures { (s : Setup) → SetIs s setup.now → result ≡ match.is_filtered (length destination.now) s.filter destination.now }
 {
-    setup::filter(setup) >> hash_of(l, frame) & 1 == 1
+    setup::filter(setup) >> hash_of(destination) & 1 == 1
 }
 
-// Whether the low bit of the first byte is set.
+// Whether the low bit of its first byte is set.
 #[tactic(auto, using(crate::proofs::Laws::low_bit))]
-fn is_group(frame: &[u8]) -> bool
-    requires { 0 < length frame.now }
-    ensures { result ≡ match.is_group frame.now }
+fn is_group(destination: &[u8]) -> bool
+    requires { 0 < length destination.now }
+    ensures { result ≡ match.is_group destination.now }
 {
-    frame[0] % 2 == 1
+    destination[0] % 2 == 1
 }
 
-// Match, by the address length in force: promiscuous; or all FFh with broadcast enabled; or not all FFh and either own address or, with the low bit
-// of the first byte set, a set bit of the filter. An empty address is nobody's.
-pub fn matches(setup: &[u8; setup::SIZE], l: usize, frame: &[u8]) -> bool
-    requires { (l ≤ longest_address) × (l ≤ length frame.now) }
-    ensures { (s : Setup) → SetIs s setup.now → l ≡ s.settings.form.length
-        → result ≡ match.matches s.settings s.own s.filter frame.now }
+// Match, by the destination, which has the address length in force: promiscuous; or all FFh with broadcast enabled; or not all FFh and either own
+// address or, with the low bit of the first byte set, a set bit of the filter. An empty address is nobody's.
+pub fn matches(setup: &[u8; setup::SIZE], destination: &[u8]) -> bool
+    requires { length destination.now ≤ longest_address }
+    ensures { (s : Setup) → SetIs s setup.now → length destination.now ≡ s.settings.form.length
+        → result ≡ match.matches s.settings s.own s.filter destination.now }
 {
     if setup::promiscuous(setup) {
         return true;
     }
-    if l == 0 {
+    if destination.is_empty() {
         return false;
     }
-    if is_broadcast(l, frame) {
+    if is_broadcast(destination) {
         return !setup::no_broadcast(setup);
     }
-    if is_own(setup, l, frame) {
+    if is_own(setup, destination) {
         return true;
     }
-    if is_group(frame) {
-        return is_filtered(setup, l, frame);
+    if is_group(destination) {
+        return is_filtered(setup, destination);
     }
     false
 }

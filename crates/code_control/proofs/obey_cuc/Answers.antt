@@ -6,8 +6,8 @@ use Rattle.code_control.proofs.obey_cuc.Goals as goal
 
 pub returns-in-0 : goal.returns-in-0
 returns-in-0 c u b s h =
-    cuc_idle u c.args.base c.args.command c.args.unit.tag c.args.unit.word c.args.memory.now b h _
-    (sym c.in-0.is ∙ c.cu_goes.ensures (cu_state u.cu) (c.cu_number.ensures.1 u.cu h.tag_is)) c.abort.ensures
+    cuc_idle u c.args.base c.args.command c.args.unit.tag c.args.unit.word c.args.memory.now b h _ c.at_of.result c.at_of.ensures
+    (sym c.in-0.is ∙ c.cu_goes.ensures (cu_state u.cu) (c.cu_number.ensures.1 u.cu h.tag_is)) (rw c.then_some-begun.ensures at c.abort.ensures)
 
 pub returns-in-1 : goal.returns-in-1
 returns-in-1 c u b s h =

@@ -6,8 +6,8 @@ use Rattle.code_control.proofs.obey_ruc.Goals as goal
 
 pub returns-in-0 : goal.returns-in-0
 returns-in-0 c u b s h =
-    ruc_idle u c.args.base c.args.command c.args.unit.tag c.args.unit.word c.args.unit.rest c.args.memory.now b h _
-    (sym c.in-0.is ∙ c.ru_goes.ensures (ru_state u.ru) (c.ru_column.ensures.1 u.ru h.tag_is)) c.abort.ensures
+    ruc_idle u c.args.base c.args.command c.args.unit.tag c.args.unit.word c.args.unit.rest c.args.memory.now b h _ c.at_of.result c.at_of.ensures
+    (sym c.in-0.is ∙ c.ru_goes.ensures (ru_state u.ru) (c.ru_column.ensures.1 u.ru h.tag_is)) (rw c.then_some-begun.ensures at c.abort.ensures)
 
 pub returns-in-1 : goal.returns-in-1
 returns-in-1 c u b s h =

@@ -4,4 +4,4 @@ use Rattle.hash.specs.Numbers.{behind}
 use Rattle.code_filter.proofs.hash_of.Given as goal
 
 abbrev pub invariant-loop-byte : goal.invariant-loop-byte
-invariant-loop-byte l = l.register ≡ behind (take l.byte-index (take l.l l.frame))
+invariant-loop-byte l = l.register ≡ behind (take l.byte-index l.destination)

@@ -11,28 +11,27 @@ use Rattle.code_filter.proofs.is_own.Goals as goal
 pub returns-then-read : goal.returns-then-read
 returns-then-read c =
     let b = c.args.setup.now in
-    let f = c.args.frame.now in
+    let f = c.args.destination.now in
     let x : Bytes b = record { each = λ i. search rules } in
-    let y : Bytes f = record { each = λ i. omega (arith, c.type_inv.frame i) } in
+    let y : Bytes f = record { each = λ i. search rules } in
     rw (c.read-then-read.ensures, c.read-then-read-2.ensures)
-    (last_decides b own_at f x y c.args.l c.if-l-ge-AT_ONCE.true (omega arith)
+    (last_decides b own_at f x y (length f) c.if-l-ge-AT_ONCE.true (omega arith)
     (sym c.read.ensures ∙ c.if-read.true ∙ c.read-then-l-ge-AT_ONCE.ensures))
 
 pub returns-then-l-ge-AT_ONCE : goal.returns-then-l-ge-AT_ONCE
 returns-then-l-ge-AT_ONCE c =
     let b = c.args.setup.now in
-    let f = c.args.frame.now in
+    let f = c.args.destination.now in
     let x : Bytes b = record { each = λ i. search rules } in
-    let y : Bytes f = record { each = λ i. omega (arith, c.type_inv.frame i) } in
-    first_differs b own_at f x y c.args.l c.if-l-ge-AT_ONCE.true (omega arith)
+    let y : Bytes f = record { each = λ i. search rules } in
+    first_differs b own_at f x y (length f) c.if-l-ge-AT_ONCE.true (omega arith)
     (λ e. c.if-read.false (c.read.ensures ∙ e ∙ sym c.read-then-l-ge-AT_ONCE.ensures))
 
 pub returns : goal.returns
 returns c =
     let b = c.args.setup.now in
-    let f = c.args.frame.now in
-    let l = c.args.l in
-    let n : own_at + l - own_at ≡ l = omega arith in
-    let same : Decides c.eq.result (take l f ≡ take l (drop own_at b)) = slice_eq-Decides Decides-eqb _ _ _ (rw n at c.eq.ensures) in
+    let f = c.args.destination.now in
+    let n : own_at + length f - own_at ≡ length f = omega arith in
+    let same : Decides c.eq.result (f ≡ take (length f) (drop own_at b)) = slice_eq-Decides Decides-eqb _ _ _ (rw n at c.eq.ensures) in
     let size : length b ≡ 16 = search rules in
-    same_from_decides c.eq.result _ same (agree_decides b own_at f l (omega (arith, c.requires, size)) c.requires.1)
+    same_from_decides c.eq.result _ same (agree_decides b own_at f (omega (arith, c.requires, size)))
