@@ -113,8 +113,8 @@ pub const NO_RESOURCES: u8 = RuState::NoResources as u8;
 
 pub const READY: u8 = RuState::Ready as u8;
 
-// The command unit has three: a fourth number is none's, and stays.
-const NO_STATE: u8 = 3;
+// The command unit has three: a fourth number is none's, and leads to Idle whatever the code.
+const NO_STATE: u8 = IDLE;
 
 // The command unit, from Idle, Suspended, Active, and the number that is no state's. Every code but four does nothing.
 const CU_STAYS: [u8; STATES] = [IDLE, SUSPENDED, ACTIVE, NO_STATE];
