@@ -38,3 +38,10 @@ matches_taken s own filter f = ap (λ (b : Bool). s.promiscuous || b) (addressed
 pub of_destination : (s : Settings) (own : List ℕ) (filter : ℕ) (f : List ℕ) (l : ℕ) (r : Bool) → l ≤ length f → l ≡ s.form.length
     → (length (take l f) ≡ s.form.length → r ≡ matches s own filter (take l f)) → r ≡ matches s own filter f
 of_destination s own filter f l r h e told = told (length-take-le l f h ∙ e) ∙ rw e (matches_taken s own filter f)
+
+-- and what is said of a destination is said of any frame that begins with it
+pub of_front : (s : Settings) (own : List ℕ) (filter : ℕ) (d f : List ℕ) (r : Bool) → length d ≡ s.form.length → d ≡ take (length d) f
+    → r ≡ matches s own filter d → r ≡ matches s own filter f
+of_front s own filter d f r h e told =
+    let same : d ≡ take s.form.length f = e ∙ ap (λ (n : ℕ). take n f) h in
+    told ∙ ap (λ (x : List ℕ). matches s own filter x) same ∙ matches_taken s own filter f

@@ -1,9 +1,12 @@
--- The low bit of a byte; an address whose bytes are all the same; a setup's own address. Assumes nothing.
-use mathlib.Core.Path.{◌≡◌, refl}
+-- The low bit of a byte; bytes that agree; an address whose bytes are all the same; a setup's own address. Assumes nothing.
+use mathlib.Core.Path.{◌≡◌, refl, sym}
+use mathlib.Core.Bool.{Bool, true, false, ◌&&◌}
 use mathlib.Core.List.{List}
-use Prim.Native.Nat.{ℕ, zero, suc, ◌+◌, ◌≤◌, ◌<◌}
-use native.Mathlib.Nat.{zero-add, div-one, not-suc-le-zero, le_of_suc-le-suc}
+use Prim.Native.Nat.{ℕ, zero, suc, ◌+◌, ◌-◌, ◌≤◌, ◌<◌}
+use native.Mathlib.Nat.{zero-add, suc-add, div-one, not-suc-le-zero, le_of_suc-le-suc}
+use native.Mathlib.Numerals.{add-one}
 use native.Mathlib.Omega.{arith}
+use borrow.Author.Tests.{eq-eqb, ne_eqb}
 use lib.ListN.{get_or, replicate}
 use Rattle.scb.specs.Words.{bits_at, bit}
 use Rattle.device.specs.Limits.{longest_address}
@@ -18,6 +21,37 @@ use Rattle.packed.proofs.SetUps.{own_byte}
 pub low_bit : (w : ℕ) → odd w ≡ bit w 0
 unfolding bits_at
 low_bit w = rw (div-one w)
+
+-- ---- bytes that agree, one by one
+
+and_false : (a : Bool) → (a && false) ≡ false
+and_false true = refl
+and_false false = refl
+
+module _ (a : List ℕ) (i : ℕ) (f : List ℕ) where
+  pub agree_none : agree a i f 0 ≡ true
+  unfolding agree
+  agree_none = refl
+
+  pub agree_more : (k : ℕ) → agree a i f k ≡ true → get_or f k 0 ≡ get_or a (i + k) 0 → agree a i f (k + 1) ≡ true
+  unfolding agree
+  agree_more k e same = rw (add-one, e, eq-eqb _ _ (sym same))
+
+  -- a byte that differs tells, however many follow
+  differs_longer : (n k : ℕ) → agree a i f k ≡ false → agree a i f (n + k) ≡ false
+  unfolding agree
+  differs_longer zero k e = rw (zero-add k) e
+  differs_longer (suc n) k e = rw (suc-add n k, differs_longer n k e)
+
+  differs_here : (k : ℕ) → (get_or f k 0 ≡ get_or a (i + k) 0 → ⊥) → agree a i f (suc k) ≡ false
+  unfolding agree
+  differs_here k other =
+      rw (ne_eqb (get_or a (i + k) 0) (get_or f k 0) (λ (e : get_or a (i + k) 0 ≡ get_or f k 0). other (sym e))) (and_false (agree a i f k))
+
+  pub differs : (k l : ℕ) → k < l → (get_or f k 0 ≡ get_or a (i + k) 0 → ⊥) → agree a i f l ≡ false
+  differs k l h other =
+      let e : l ≡ l - suc k + suc k = omega arith in
+      rw e (differs_longer (l - suc k) (suc k) (differs_here k other))
 
 -- ---- an address of one byte, so many times
 

@@ -3,7 +3,7 @@
 
 #![tactic(auto)]
 
-ghost use Rattle.std.specs.Prelude.{◌≡◌, ◌≤◌, ◌<◌, length, take};
+ghost use Rattle.std.specs.Prelude.{◌≡◌, ◌≤◌, ◌<◌, List, ℕ, length, take};
 ghost use Rattle.hash.specs.Hash.{hash};
 ghost use Rattle.device.specs.Limits.{longest_address, filter_bits};
 ghost use Rattle.filter.specs.Match as match;
@@ -52,7 +52,12 @@ fn is_own(setup: &[u8; setup::SIZE], destination: &[u8]) -> bool
         }
         return false;
     }
-    destination == &setup[setup::OWN..setup::OWN + l]
+    for i in 0..l {
+        if destination[i] != setup[setup::OWN + i] {
+            return false;
+        }
+    }
+    true
 }
 
 // Its hash.
@@ -83,12 +88,13 @@ fn is_group(destination: &[u8]) -> bool
     destination[0] % 2 == 1
 }
 
-// Match, by the destination, which has the address length in force: promiscuous; or all FFh with broadcast enabled; or not all FFh and either own
-// address or, with the low bit of the first byte set, a set bit of the filter. An empty address is nobody's.
+// Match, by the destination, with which a frame begins and which has the address length in force: promiscuous; or all FFh with broadcast
+// enabled; or not all FFh and either own address or, with the low bit of the first byte set, a set bit of the filter. An empty address is
+// nobody's.
 pub fn matches(setup: &[u8; setup::SIZE], destination: &[u8]) -> bool
     requires { length destination.now ≤ longest_address }
-    ensures { (s : Setup) → SetIs s setup.now → length destination.now ≡ s.settings.form.length
-        → result ≡ match.matches s.settings s.own s.filter destination.now }
+    ensures { (s : Setup) (f : List ℕ) → SetIs s setup.now → length destination.now ≡ s.settings.form.length
+        → destination.now ≡ take (length destination.now) f → result ≡ match.matches s.settings s.own s.filter f }
 {
     if setup::promiscuous(setup) {
         return true;

@@ -1,11 +1,9 @@
--- `code_filter::is_own` meets its contract: four bytes at once, or two slices that are equal. Assumes nothing.
-use Rattle.std.proofs.Common.{rules, ◌≡◌, ◌+◌, ◌-◌, length, take, drop, sym, ◌∙◌, arith}
-use Rattle.std.proofs.lemmas.Bool.Decides.{Decides-eqb, same_from_decides}
-use Rattle.std.proofs.lemmas.Slice.Eq.{slice_eq-Decides}
-use Rattle.std.specs.Bool.{Decides}
+-- `code_filter::is_own` meets its contract: four bytes at once, or one by one, where the first i agree. Assumes nothing.
+use Rattle.std.proofs.Common.{rules, length, sym, ◌∙◌, arith}
 use Rattle.memory.proofs.Bytes.{Bytes}
 use Rattle.packed.specs.SetUp.{own_at}
-use Rattle.code_filter.proofs.AtOnce.{first_differs, last_decides, agree_decides}
+use Rattle.code_filter.proofs.Laws.{agree_none, agree_more, differs}
+use Rattle.code_filter.proofs.AtOnce.{first_differs, last_decides}
 use Rattle.code_filter.proofs.is_own.Goals as goal
 
 pub returns-then-read : goal.returns-then-read
@@ -27,11 +25,11 @@ returns-then-l-ge-AT_ONCE c =
     first_differs b own_at f x y (length f) c.if-l-ge-AT_ONCE.true (omega arith)
     (λ e. c.if-read.false (c.read.ensures ∙ e ∙ sym c.read-then-l-ge-AT_ONCE.ensures))
 
-pub returns : goal.returns
-returns c =
-    let b = c.args.setup.now in
-    let f = c.args.destination.now in
-    let n : own_at + length f - own_at ≡ length f = omega arith in
-    let same : Decides c.eq.result (f ≡ take (length f) (drop own_at b)) = slice_eq-Decides Decides-eqb _ _ _ (rw n at c.eq.ensures) in
-    let size : length b ≡ 16 = search rules in
-    same_from_decides c.eq.result _ same (agree_decides b own_at f (omega (arith, c.requires, size)))
+pub loop-i-init : goal.loop-i-init
+loop-i-init c = agree_none _ _ _
+
+pub returns-then-destination-i : goal.returns-then-destination-i
+returns-then-destination-i c = sym (differs _ own_at _ _ _ c.loop-i-test.true c.if-destination-i.true)
+
+pub loop-i-preserved : goal.loop-i-preserved
+loop-i-preserved c = agree_more _ own_at _ c.loop-i.i c.loop-i.invariant c.if-destination-i.false
