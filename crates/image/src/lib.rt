@@ -310,12 +310,12 @@ fn words_are(front: u64, f: u64, k: Packed) -> bool
     false
 }
 
-// Whether the spare bytes are zero.
-#[tactic(auto, unfolding(crate::specs::Image::spare_zero))]
+// Whether the spare bytes are zero. Of the three in the gap the last goes by itself: as one number the three take three instructions more at every call.
 fn spare_zero(r: &[u8; record::SIZE]) -> bool
     ensures { result ≡ image.spare_zero r.now }
 {
-    (numerals::read::<3>(r, record::GAP) == 0)
+    (numerals::read::<2>(r, record::GAP) == 0)
+        & (r[record::GAP + 2] == 0)
         & numerals::is_zero(r, record::SPARE, record::SPARE_WORDS)
 }
 
