@@ -2,7 +2,7 @@
 use mathlib.Core.Path.{◌≡◌, refl, sym, ap, subst, ◌∙◌}
 use mathlib.Core.Bool.{Bool, true, false}
 use mathlib.Core.List.{List, ◌++◌}
-use Prim.Native.Nat.{ℕ, zero, suc, ◌+◌, ◌*◌, ◌-◌, ◌^◌}
+use Prim.Native.Nat.{ℕ, zero, suc, ◌+◌, ◌*◌, ◌-◌}
 use native.Mathlib.Omega.{arith}
 use lib.ListN.{length, take, drop, replicate, take-append-drop}
 use Rattle.std.specs.Prelude.{Option, Some, None}
@@ -32,34 +32,34 @@ use Rattle.calls.specs.Calls.{Areas, is_image, lengths_of, refusal_of, refused, 
 use Rattle.calls.proofs.Rows.{LengthsRight, rows_right, by_length_lem}
 use Rattle.calls.proofs.Laws.{no_image, accepted}
 use Rattle.code_calls.specs.declared.Asked.{Asked}
-use Rattle.code_calls.specs.Inner.{frame_of, by_lengths, Finds, turns_told, turns, asked_on, asked_call}
+use Rattle.code_calls.specs.Inner.{by_lengths, Finds, turns, asked_on, asked_call}
 
 -- ---- a call, whatever is asked
 
-abbrev by_lengths_of : Asked → Areas → Option Refusal
-by_lengths_of x a = by_lengths (length a.memory) (length a.holding) (length a.outgoing) (length a.kept) (frame_of x)
+abbrev by_lengths_of : Areas → List ℕ → Option Refusal
+by_lengths_of a f = by_lengths (length a.memory) (length a.holding) (length a.outgoing) (length a.kept) (length f)
 
-module _ (x : Asked) (a : Areas) where
+module _ (x : Asked) (a : Areas) (f : List ℕ) (line budget unit : ℕ) where
   -- refused for a length: the record was not looked at
-  pub asked_early : (r : Refusal) → by_lengths_of x a ≡ Some r → asked_call x a ≡ refused r a
+  pub asked_early : (r : Refusal) → by_lengths_of a f ≡ Some r → asked_call x a f line budget unit ≡ refused r a
   unfolding asked_call refusal_of
   asked_early r e =
-      let d : refusal_of a (frame_of x) ≡ Some r =
-      by_length_lem (lengths_of a (frame_of x)) (is_image (decode_of a.kept)) (λ z. none-some r (sym z ∙ e)) ∙ e in
-      ap (λ (y : Option Refusal). unless_refused y (asked_on x) a) d
+      let d : refusal_of a f ≡ Some r =
+      by_length_lem (lengths_of a f) (is_image (decode_of a.kept)) (λ z. none-some r (sym z ∙ e)) ∙ e in
+      ap (λ (y : Option Refusal). unless_refused y (asked_on x f line budget unit) a) d
 
-  module _ (n : by_lengths_of x a ≡ None) where
-    asked_right : LengthsRight (lengths_of a (frame_of x))
-    asked_right = (rows_right (lengths_of a (frame_of x)) true n).0
+  module _ (n : by_lengths_of a f ≡ None) where
+    pub asked_right : LengthsRight (lengths_of a f)
+    asked_right = (rows_right (lengths_of a f) true n).0
 
-    pub asked_foreign : decode_of a.kept ≡ is.Foreign → asked_call x a ≡ refused refusal.Foreign a
+    pub asked_foreign : decode_of a.kept ≡ is.Foreign → asked_call x a f line budget unit ≡ refused refusal.Foreign a
     unfolding asked_call
-    asked_foreign d = no_image a (frame_of x) asked_right (asked_on x) d
+    asked_foreign d = no_image a f asked_right (asked_on x f line budget unit) d
 
     pub asked_accepted : (u : Units) → decode_of a.kept ≡ is.Units u
-        → asked_call x a ≡ asked_on x (world_of (device_at a.kept u) a.memory a.holding a.outgoing)
+        → asked_call x a f line budget unit ≡ asked_on x f line budget unit (world_of (device_at a.kept u) a.memory a.holding a.outgoing)
     unfolding asked_call
-    asked_accepted u d = accepted a (frame_of x) asked_right (asked_on x) u d
+    asked_accepted u d = accepted a f asked_right (asked_on x f line budget unit) u d
 
 -- ---- numbers that go to a record
 
@@ -110,9 +110,9 @@ told_packed a p =
     let y = ap (λ (x : Answer). reason_or_0 x.reason) p in
     omega (arith, q, y)
 
-pub run_answer : (n : ℕ) (w : World) (report : ℕ) (counted : Bool) (told taken : ℕ) → told ≡ told_of (run_of n w report).answer → taken ≡ (run_of n w report).taken
-    → told * 65536 + turns_told counted taken * 2 ^ 48 ≡ (turns report n counted w).answer
-run_answer n w report counted told taken e t = rw (e, t, told_packed (run_of n w report).answer (run_plain n w report))
+pub run_answer : (n : ℕ) (w : World) (report unit : ℕ) (told taken : ℕ) → told ≡ told_of (run_of n w report).answer → taken ≡ (run_of n w report).taken
+    → told * 65536 + taken * unit ≡ (turns report n unit w).answer
+run_answer n w report unit told taken e t = rw (e, t, told_packed (run_of n w report).answer (run_plain n w report))
 
 -- it leaves the holding area alone
 holding_by : (s : Bool) (r : Ran) (rest : Run) (h : List ℕ) → r.holding ≡ h → rest.world.holding ≡ h → (continued s r rest).world.holding ≡ h

@@ -1,5 +1,5 @@
 -- The shapes of the contracts of the code's inner functions: what is asked, and a call on a record that is an image. Assumes nothing.
-use Rattle.std.specs.Prelude.{◌≡◌, Bool, true, List, Option, [], ℕ, cond, length}
+use Rattle.std.specs.Prelude.{◌≡◌, true, List, Option, ℕ, ◌+◌, ◌*◌, ◌%◌, ◌^◌}
 use Rattle.device.specs.declared.Refusal.{Refusal}
 use Rattle.device.specs.declared.Units.{Units}
 use Rattle.packed.specs.Packed.{packed_of}
@@ -10,22 +10,15 @@ use Rattle.chip.specs.World.{World, world_of}
 use Rattle.chip.specs.Attention.{attention_of}
 use Rattle.chip.specs.Arrival.{arrival_of}
 use Rattle.chip.specs.Run.{Run, run_of}
-use Rattle.calls.specs.Answer.{with_turns}
 use Rattle.calls.specs.Refusals.{is_right, rows, first_wrong}
 use Rattle.calls.specs.Calls.{Areas, Called, Calls, areas_of, answer_number, refusal_of, unless_refused, on_bytes}
 use Rattle.code_calls.specs.declared.Asked.{Asked}
 use Rattle.code_calls.specs.declared.Asked.TheVariants as asked
 
--- the arriving frame, empty for the other calls
-abbrev pub frame_of : Asked → List ℕ
-frame_of asked.Attention = []
-frame_of (asked.Arrival f v) = f.now
-frame_of (asked.Turns report budget counted) = []
-
 -- why a call is refused by the lengths alone, if it is: the record is not looked at
-abbrev pub by_lengths : (memory holding outgoing kept : ℕ) (f : List ℕ) → Option Refusal
-by_lengths memory holding outgoing kept f =
-    first_wrong (is_right (record { memory = memory; holding = holding; outgoing = outgoing; kept = kept; frame = length f }) true) rows
+abbrev pub by_lengths : (memory holding outgoing kept frame : ℕ) → Option Refusal
+by_lengths memory holding outgoing kept frame =
+    first_wrong (is_right (record { memory = memory; holding = holding; outgoing = outgoing; kept = kept; frame = frame }) true) rows
 
 -- ---- what is asked of a world
 
@@ -35,28 +28,26 @@ attends w = on_bytes (attention_of w)
 abbrev pub arrives : (f : List ℕ) (v : ℕ) → World → Called
 arrives f v w = on_bytes (arrival_of w f v)
 
--- how many turns an answer tells of: those of a run, none of a turn
-abbrev pub turns_told : (counted : Bool) (taken : ℕ) → ℕ
-turns_told counted taken = cond counted taken 0
-
-abbrev pub kept_turns : (counted : Bool) → Run → Called
-kept_turns counted r =
+-- turns in a row, each of which adds a unit to the answer: none for a turn, 2 ^ 48 for a run
+abbrev pub kept_turns : (unit : ℕ) → Run → Called
+kept_turns unit r =
     record {
-      answer = with_turns (answer_number r.answer) (turns_told counted r.taken);
+      answer = answer_number r.answer + r.taken * unit;
       areas = areas_of r.world.memory r.world.holding r.world.outgoing (image_of r.world.device);
     }
 
-abbrev pub turns : (report budget : ℕ) (counted : Bool) → World → Called
-turns report budget counted w = kept_turns counted (run_of budget w report)
+abbrev pub turns : (report budget unit : ℕ) → World → Called
+turns report budget unit w = kept_turns unit (run_of budget w report)
 
-abbrev pub asked_on : Asked → World → Called
-asked_on asked.Attention w = attends w
-asked_on (asked.Arrival f v) w = arrives f.now v w
-asked_on (asked.Turns report budget counted) w = turns report budget counted w
+-- `line` is what the line side tells, a verdict or a report of 16 bits
+abbrev pub asked_on : Asked → (f : List ℕ) (line budget unit : ℕ) → World → Called
+asked_on asked.Attention f line budget unit w = attends w
+asked_on asked.Arrival f line budget unit w = arrives f line w
+asked_on asked.Turns f line budget unit w = turns (line % 2 ^ 16) budget unit w
 
 -- every call but reset
-unfoldable pub asked_call : Asked → Areas → Called
-asked_call x a = unless_refused (refusal_of a (frame_of x)) (asked_on x) a
+unfoldable pub asked_call : Asked → Areas → (f : List ℕ) (line budget unit : ℕ) → Called
+asked_call x a f line budget unit = unless_refused (refusal_of a f) (asked_on x f line budget unit) a
 
 -- ---- a call on a record that is an image
 

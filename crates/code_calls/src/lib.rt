@@ -3,7 +3,7 @@
 
 #![tactic(auto)]
 
-ghost use Rattle.std.specs.Prelude.{◌≡◌, List, ℕ, ◌+◌, ◌*◌, ◌^◌, length, None};
+ghost use Rattle.std.specs.Prelude.{◌≡◌, List, ℕ, ◌+◌, ◌*◌, ◌%◌, ◌^◌, ◌≤◌, length, None};
 ghost use Rattle.std.specs.Result.{result_err};
 ghost use Rattle.device.specs.Limits.{record_size};
 ghost use Rattle.device.specs.Numbers as numbers;
@@ -16,32 +16,13 @@ use packed::{Packed, record, setup};
 
 // ---- what is asked
 
-// What is asked of the chip: an attention, a frame with the line side's verdict, or turns with a line report. `counted`: the answer says how many
-// were taken.
+// What is asked of the chip. Its frame and its numbers stand beside it: `call` takes each of them by itself, whatever is asked, and lent as one value
+// they took more instructions (docs/bench.md).
 #[derive(Clone, Copy)]
-pub enum Asked<'a> {
+pub enum Asked {
     Attention,
-    Arrival {
-        frame: &'a [u8],
-        verdict: u32,
-    },
-    Turns {
-        report: u16,
-        budget: u16,
-        counted: bool,
-    },
-}
-
-impl Asked<'_> {
-    // How long the frame is that arrives: 0 where none does.
-    fn frame_length(&self) -> usize
-        ensures { result ≡ length (inner.frame_of self.now) }
-    {
-        match *self {
-            Asked::Arrival { frame, .. } => frame.len(),
-            Asked::Attention | Asked::Turns { .. } => 0,
-        }
-    }
+    Arrival,
+    Turns,
 }
 
 // ---- the answer as one number
@@ -60,14 +41,15 @@ fn reason_or_0(reason: Option<Reason>) -> u8
     reason.map_or(0, |r| u8::from(r))
 }
 
-// What the length, the edge, the reason and the turns of a run count in an answer: bits 16, 32, 40 and 48.
+// What the length, the edge and the reason count in an answer: bits 16, 32 and 40.
 const LENGTH: u64 = 1 << 16;
 
 const EDGE: u64 = 1 << 32;
 
 const REASON: u64 = 1 << 40;
 
-const TURN: u64 = 1 << 48;
+// A report has 16 bits.
+const REPORTS: u32 = 1 << 16;
 
 // Number in bits 0 to 15, length in 16 to 31, edge in 32, reason in 40 to 47.
 #[tactic(auto, unfolding(calls::specs::Answer::answer_number))]
@@ -105,9 +87,9 @@ fn right_lengths(
     holding: usize,
     outgoing: usize,
     kept: usize,
-    asked: &Asked<'_>,
+    frame: usize,
 ) -> Result<(), Refusal>
-    ensures { result_err result ≡ inner.by_lengths memory holding outgoing kept (inner.frame_of asked.now) }
+    ensures { result_err result ≡ inner.by_lengths memory holding outgoing kept frame }
 {
     if !memory::size_allowed(memory) {
         return Err(Refusal::Memory);
@@ -121,7 +103,7 @@ fn right_lengths(
     if outgoing != OUTGOING {
         return Err(Refusal::Outgoing);
     }
-    if asked.frame_length() > LONGEST {
+    if frame > LONGEST {
         return Err(Refusal::Overlong);
     }
     Ok(())
@@ -179,15 +161,15 @@ fn arrival_on(
     answer_of(false, reason)
 }
 
-// The answer of turns: what the last one told, its length and the edge above it; and how many were taken, if they are counted.
-fn answer_told(told: u32, taken: u16, counted: bool) -> u64
-    ensures { result ≡ told * 2 ^ 16 + inner.turns_told counted taken * 2 ^ 48 }
+// The answer of turns: what the last one told, its length and the edge above it; and as many units as turns.
+fn answer_told(told: u32, taken: u16, unit: u64) -> u64
+    requires { unit ≤ 2 ^ 48 }
+    ensures { result ≡ told * 2 ^ 16 + taken * unit }
 {
-    let turns = if counted { taken } else { 0 };
-    told as u64 * LENGTH + turns as u64 * TURN
+    told as u64 * LENGTH + taken as u64 * unit
 }
 
-// Turns of the device of the numbers k.
+// Turns of the device of the numbers k. Each adds `unit` to the answer.
 fn turns_on(
     memory: &mut [u8],
     holding: &[u8],
@@ -196,17 +178,17 @@ fn turns_on(
     k: Packed,
     report: u16,
     budget: u16,
-    counted: bool,
+    unit: u64,
 ) -> u64
-    requires { length kept.old ≡ record_size }
-    ensures { inner.OnImage k (inner.turns report budget counted)
+    requires { (length kept.old ≡ record_size) × (unit ≤ 2 ^ 48) }
+    ensures { inner.OnImage k (inner.turns report budget unit)
         (calls.areas_of memory.old holding.now outgoing.old kept.old) result memory.new holding.now outgoing.new kept.new }
 {
     let setup = kept.last_chunk_mut::<{ setup::SIZE }>().unwrap();
     let t = code_chip::run(memory, holding, outgoing, setup, k, report, budget);
     let after = t.packed;
     image::store(kept, after);
-    answer_told(t.told, t.taken, counted)
+    answer_told(t.told, t.taken, unit)
 }
 
 // ---- the calls
@@ -222,15 +204,22 @@ pub fn reset(kept: &mut [u8]) -> u64
     refuse(Refusal::Record)
 }
 
-// Every call but reset: refusals first, then what is asked, of which each part is read where it is used.
+// Every call but reset: refusals first, then what is asked. `line` is what the line side tells, an arrival's verdict or the report of turns;
+// `frame` is an arrival's, else empty; `budget` and `unit` are those of turns.
 pub fn call(
     memory: &mut [u8],
     holding: &mut [u8],
     outgoing: &mut [u8],
     kept: &mut [u8],
-    asked: &Asked<'_>,
+    asked: Asked,
+    frame: &[u8],
+    line: u32,
+    budget: u16,
+    unit: u64,
 ) -> u64
-    ensures { calls.Calls (inner.asked_call asked.now (calls.areas_of memory.old holding.old outgoing.old kept.old))
+    requires { unit ≤ 2 ^ 48 }
+    ensures { calls.Calls (inner.asked_call asked
+        (calls.areas_of memory.old holding.old outgoing.old kept.old) frame.now line budget unit)
         result memory.new holding.new outgoing.new kept.new }
 {
     let lengths = right_lengths(
@@ -238,7 +227,7 @@ pub fn call(
         holding.len(),
         outgoing.len(),
         kept.len(),
-        asked,
+        frame.len(),
     );
     if let Err(r) = lengths {
         return refuse(r);
@@ -246,13 +235,12 @@ pub fn call(
     let Some(k) = image::decode(kept) else {
         return refuse(Refusal::Foreign);
     };
-    match *asked {
+    match asked {
         Asked::Attention => attention_on(memory, kept, k),
-        Asked::Arrival { frame, verdict } => arrival_on(memory, holding, kept, k, frame, verdict),
-        Asked::Turns {
-            report,
-            budget,
-            counted,
-        } => turns_on(memory, holding, outgoing, kept, k, report, budget, counted),
+        Asked::Arrival => arrival_on(memory, holding, kept, k, frame, line),
+        Asked::Turns => {
+            let report = (line % REPORTS) as u16;
+            turns_on(memory, holding, outgoing, kept, k, report, budget, unit)
+        }
     }
 }

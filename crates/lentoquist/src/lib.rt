@@ -7,6 +7,9 @@ ghost use Rattle.calls.specs.Calls as calls;
 
 use code_calls::Asked;
 
+// Where in an answer the turns of a run are counted.
+const TURN: u64 = 1 << 48;
+
 // Reset takes the record alone, ignores its content and writes a fresh one.
 pub fn lq_reset(kept: &mut [u8]) -> u64
     ensures { calls.Renews (calls.reset_call kept.old) result kept.new }
@@ -15,7 +18,6 @@ pub fn lq_reset(kept: &mut [u8]) -> u64
 }
 
 // A channel attention.
-#[tactic(auto, unfolding(code_calls::specs::Inner::asked_call, calls::specs::Calls::attention_call))]
 pub fn lq_attention(
     memory: &mut [u8],
     holding: &mut [u8],
@@ -26,11 +28,21 @@ pub fn lq_attention(
         (calls.areas_of memory.old holding.old outgoing.old kept.old))
         result memory.new holding.new outgoing.new kept.new }
 {
-    code_calls::call(memory, holding, outgoing, kept, &Asked::Attention)
+    let no_frame: [u8; 0] = [0; 0];
+    code_calls::call(
+        memory,
+        holding,
+        outgoing,
+        kept,
+        Asked::Attention,
+        &no_frame,
+        0,
+        0,
+        0,
+    )
 }
 
 // A frame arrives, with the line side's verdict.
-#[tactic(auto, unfolding(code_calls::specs::Inner::asked_call, calls::specs::Calls::arrival_call))]
 pub fn lq_arrival(
     memory: &mut [u8],
     holding: &mut [u8],
@@ -48,7 +60,11 @@ pub fn lq_arrival(
         holding,
         outgoing,
         kept,
-        &Asked::Arrival { frame, verdict },
+        Asked::Arrival,
+        frame,
+        verdict,
+        0,
+        0,
     )
 }
 
@@ -64,22 +80,22 @@ pub fn lq_turn(
         (calls.areas_of memory.old holding.old outgoing.old kept.old) report)
         result memory.new holding.new outgoing.new kept.new }
 {
+    let no_frame: [u8; 0] = [0; 0];
     code_calls::call(
         memory,
         holding,
         outgoing,
         kept,
-        &Asked::Turns {
-            report,
-            budget: 1,
-            counted: false,
-        },
+        Asked::Turns,
+        &no_frame,
+        report as u32,
+        1,
+        0,
     )
 }
 
 // Turns in a row, until `budget` are taken or one has sent a frame of at least one byte, reported an edge or found no work. The record is read and
 // written once.
-#[tactic(auto, unfolding(code_calls::specs::Inner::asked_call, calls::specs::Calls::run_call))]
 pub fn lq_run(
     memory: &mut [u8],
     holding: &mut [u8],
@@ -92,15 +108,16 @@ pub fn lq_run(
         (calls.areas_of memory.old holding.old outgoing.old kept.old) report budget)
         result memory.new holding.new outgoing.new kept.new }
 {
+    let no_frame: [u8; 0] = [0; 0];
     code_calls::call(
         memory,
         holding,
         outgoing,
         kept,
-        &Asked::Turns {
-            report,
-            budget,
-            counted: true,
-        },
+        Asked::Turns,
+        &no_frame,
+        report as u32,
+        budget,
+        TURN,
     )
 }

@@ -13,12 +13,12 @@ returns c u f =
     let fits : (i : ℕ) → Fits w8 (get_or r i 0) = search rules in
     let b : Bytes r = record { each = λ i. omega (arith, fits i) } in
     let lent = rw c.unwrap-setup.ensures at c.last_chunk_mut.ensures.cases in
-    let e = lent_device r c.args.k u c.requires b f _ lent.1.same in
+    let e = lent_device r c.args.k u c.requires.0 b f _ lent.1.same in
     let t = c.run-t.ensures (device_at r u) e in
     record {
-      answer = c.answer_told.ensures ∙ run_answer c.args.budget w c.args.report c.args.counted _ _ t.told t.taken;
+      answer = c.answer_told.ensures ∙ run_answer c.args.budget w c.args.report c.args.unit _ _ t.told t.taken;
       memory = t.memory;
       holding = run_holding c.args.budget w c.args.report;
       outgoing = t.outgoing;
-      kept = c.store.ensures ∙ put_back r c.args.k u c.requires b f _ _ _ t.device;
+      kept = c.store.ensures ∙ put_back r c.args.k u c.requires.0 b f _ _ _ t.device;
     }

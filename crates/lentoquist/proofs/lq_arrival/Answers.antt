@@ -1,0 +1,11 @@
+-- `lentoquist::lq_arrival` meets its promise. Assumes nothing.
+use Rattle.std.proofs.Common.{sym}
+use Rattle.calls.specs.Calls.{areas_of}
+use Rattle.code_calls.proofs.Asks.{asks_arrival, as_said}
+use Rattle.lentoquist.proofs.lq_arrival.Goals as goal
+
+pub returns : goal.returns
+returns c =
+    let s = c.args in
+    let a = areas_of s.memory.now s.holding.now s.outgoing.now s.kept.now in
+    as_said (sym (asks_arrival a s.frame.now s.verdict)) c.call.ensures
