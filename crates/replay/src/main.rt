@@ -8,21 +8,17 @@ ghost use Rattle.std.specs.Prelude.{◌≡◌, length};
 ghost use Rattle.printing.specs.Line.{program_room};
 
 use board::Areas;
-use session::Session;
+use session::Held;
 use std::env::{Env, FillError};
 use std::io::{Read, Write};
 use std::{fs, io};
 use stretches::{Streams, Stretches};
 
 // A piece of input, line by line.
-fn run_lines<O: Write, E: Write>(
-    streams: &mut Streams<O, E>,
-    session: &mut Session<'_>,
-    piece: &[u8],
-) {
+fn run_lines<O: Write, E: Write>(streams: &mut Streams<O, E>, held: &mut Held<'_>, piece: &[u8]) {
     for stretch in Stretches(piece) {
-        running::run_stretch(session, stretch);
-        streams.write_out(session);
+        running::run_stretch(held, stretch);
+        streams.write_out(held);
     }
 }
 
@@ -34,13 +30,13 @@ const PIECE: usize = 4096;
 fn run_pieces<R: Read, O: Write, E: Write>(
     streams: &mut Streams<O, E>,
     list: &mut R,
-    session: &mut Session<'_>,
+    held: &mut Held<'_>,
 ) -> io::Result<()> {
     let mut input = [0; PIECE];
     for _ in 0..u64::MAX {
         let piece = stretches::read_piece(list, &mut input)?;
-        run_lines(streams, session, piece.unwrap_or(b"\n"));
-        if piece.is_none() || session.stopped {
+        run_lines(streams, held, piece.unwrap_or(b"\n"));
+        if piece.is_none() || held.session.stopped {
             break;
         }
     }
@@ -76,8 +72,8 @@ fn run_list<R: Read, O: Write, E: Write>(streams: &mut Streams<O, E>, list: &mut
         holding: &mut holding,
         outgoing: &mut outgoing,
     };
-    let mut session = session::start(areas, &mut bytes, &mut out);
-    if let Err(error) = run_pieces(streams, list, &mut session) {
+    let mut held = session::start(areas, &mut bytes, &mut out);
+    if let Err(error) = run_pieces(streams, list, &mut held) {
         streams.fail("the list", error);
     }
 }

@@ -11,7 +11,7 @@ ghost use Rattle.session.specs.Run as run;
 ghost use Rattle.printing.specs.Run.{newlines, emptied_in};
 
 use scene::Scene;
-use session::Session;
+use session::Held;
 use wording::Line;
 
 // A line is obeyed, with as many bytes as it has brought of those that are there.
@@ -23,50 +23,50 @@ fn obey(scene: &mut Scene<'_>, line: Line, bytes: &[u8])
 }
 
 // A line that has been read to its end: it is obeyed, or its fault is printed.
-fn judge(session: &mut Session<'_>)
-    ensures { Runs run.judged_in session.old session.new }
+fn judge(held: &mut Held<'_>)
+    ensures { Runs run.judged_in held.old held.new }
 {
-    if let Some(fault) = session.reader.fault {
-        session.stop(fault);
+    if let Some(fault) = held.session.reader.fault {
+        held.stop(fault);
         return;
     }
     // The bytes are lent by themselves: what is taken of them where the scene is lent too has no rule in the proof.
-    let bytes = &mut *session.bytes;
-    obey(&mut session.scene, session.reader.line, bytes);
-    session.line = session.line.wrapping_add(1);
-    session.reader = lines::start();
+    let bytes = &mut *held.bytes;
+    obey(&mut held.scene, held.session.reader.line, bytes);
+    held.session.line = held.session.line.wrapping_add(1);
+    held.session.reader = lines::start();
 }
 
 // A character: after bad input nothing more is read or done.
-fn feed(session: &mut Session<'_>, c: u8)
-    ensures { Runs (λ st. run.fed st c) session.old session.new }
+fn feed(held: &mut Held<'_>, c: u8)
+    ensures { Runs (λ st. run.fed st c) held.old held.new }
 {
-    if session.stopped {
+    if held.session.stopped {
         return;
     }
     if c == b'\n' {
-        session.reader = lines::end(session.bytes, session.reader);
-        judge(session);
+        held.session.reader = lines::end(held.bytes, held.session.reader);
+        judge(held);
         return;
     }
-    session.reader = lines::read(session.bytes, session.reader, c);
+    held.session.reader = lines::read(held.bytes, held.session.reader, c);
 }
 
 // A stretch of input.
-fn run(session: &mut Session<'_>, input: &[u8])
-    ensures { Runs (λ st. run.ran st input.now) session.old session.new }
+fn run(held: &mut Held<'_>, input: &[u8])
+    ensures { Runs (λ st. run.ran st input.now) held.old held.new }
 {
     for c in input {
-        feed(session, *c);
+        feed(held, *c);
     }
 }
 
 // A stretch of input is run, and what it prints stands in the slice for texts, from its beginning on. There is room for what any one line
 // prints: `one_line_fits` in the room `printing`, where this is a step of `in_stretches`.
-pub fn run_stretch(session: &mut Session<'_>, input: &[u8])
+pub fn run_stretch(held: &mut Held<'_>, input: &[u8])
     requires { newlines input.now ≤ 1 }
-    ensures { Runs (λ st. run.ran (emptied_in st) input.now) session.old session.new }
+    ensures { Runs (λ st. run.ran (emptied_in st) input.now) held.old held.new }
 {
-    session.scene.page.at = 0;
-    run(session, input);
+    held.scene.page.at = 0;
+    run(held, input);
 }

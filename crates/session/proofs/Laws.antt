@@ -11,7 +11,7 @@ use Rattle.texts.specs.Page.{Prints}
 use Rattle.faults.specs.Faults.{fault_text}
 use Rattle.scene.specs.declared.Scene.{Scene as Staged}
 use Rattle.scene.specs.Scene.{Plays, obeyed}
-use Rattle.session.specs.declared.Session.{Session as Held}
+use Rattle.session.specs.declared.Held.{Held}
 use Rattle.session.specs.Run.{State, state_of, halted_in, stopped_at, stopped_in, stopped_by, behind_line, line_obeyed, judged, judged_in, ended_by, line_ended, read_by, fed, ran}
 use Rattle.session.specs.Held.{session_in, state_in, Runs}
 
@@ -32,13 +32,11 @@ with_page h g =
     record {
       scene = record { board = h.scene.board; areas = h.scene.areas; page = g };
       bytes = h.bytes;
-      line = h.line;
-      reader = h.reader;
-      stopped = h.stopped;
+      session = h.session;
     }
 
 -- it was printed, and the session has stopped
-pub fault_told : (f : Fault) (h : Held) (g : Page) (k : Held) → Prints (fault_text h.line f) h.scene.page g
+pub fault_told : (f : Fault) (h : Held) (g : Page) (k : Held) → Prints (fault_text h.session.line f) h.scene.page g
     → Runs halted_in (with_page h g) k
     → Runs (stopped_in f) h k
 unfolding stopped_by
@@ -55,15 +53,16 @@ obeyed_in t = line_obeyed t.session t.session.reader.line t.memory t.holding t.o
 
 -- the session behind a line, whose scene is c
 abbrev pub behind : Held → Staged → Reader → Held
-behind h c r = record { scene = c; bytes = h.bytes; line = (h.line + 1) % 2 ^ 64; reader = r; stopped = h.stopped }
+behind h c r =
+    record { scene = c; bytes = h.bytes; session = record { line = (h.session.line + 1) % 2 ^ 64; reader = r; stopped = h.session.stopped } }
 
-line_done : (h : Held) (c : Staged) → Plays (obeyed h.reader.line.verb h.reader.line (take h.reader.line.filled h.bytes.now)) h.scene c
+line_done : (h : Held) (c : Staged) → Plays (obeyed h.session.reader.line.verb h.session.reader.line (take h.session.reader.line.filled h.bytes.now)) h.scene c
     → Runs obeyed_in h (behind h c lines.start)
 unfolding line_obeyed
 line_done h c p = ((p.0, refl), ap (behind_line (session_in h) h.bytes.now) p.1)
 
-pub judged_right : (h : Held) (c : Staged) (r : Reader) → h.reader.fault ≡ None → r ≡ lines.start
-    → Plays (obeyed h.reader.line.verb h.reader.line (take h.reader.line.filled h.bytes.now)) h.scene c
+pub judged_right : (h : Held) (c : Staged) (r : Reader) → h.session.reader.fault ≡ None → r ≡ lines.start
+    → Plays (obeyed h.session.reader.line.verb h.session.reader.line (take h.session.reader.line.filled h.bytes.now)) h.scene c
     → Runs judged_in h (behind h c r)
 unfolding judged
 judged_right h c r w e p =
@@ -75,7 +74,7 @@ judged_right h c r w e p =
           ∙ ap (λ (o : Option Fault). option_map_or (λ f. stopped_in f t) o (obeyed_in t)) (sym w),
     )
 
-pub judged_wrong : (h k : Held) (f : Fault) → h.reader.fault ≡ Some f → Runs (stopped_in f) h k → Runs judged_in h k
+pub judged_wrong : (h k : Held) (f : Fault) → h.session.reader.fault ≡ Some f → Runs (stopped_in f) h k → Runs judged_in h k
 unfolding judged
 judged_wrong h k f w p =
     let t = state_in h in
@@ -85,14 +84,19 @@ judged_wrong h k f w p =
 
 -- what was read of a line: r is the reader, ys are the bytes
 abbrev pub with_read : Held → Reader → List ℕ → Held
-with_read h r ys = record { scene = h.scene; bytes = record h.bytes { now = ys }; line = h.line; reader = r; stopped = h.stopped }
+with_read h r ys =
+    record {
+      scene = h.scene;
+      bytes = record h.bytes { now = ys };
+      session = record { line = h.session.line; reader = r; stopped = h.session.stopped };
+    }
 
 fed_when : (t : State) (c : ℕ) (a b : Bool) → t.session.stopped ≡ a → eqb c 10 ≡ b
     → fed t c ≡ cond a t (cond b (line_ended t) (read_by t (lines.read t.session.reader c t.bytes)))
 unfolding fed
 fed_when t c a b p q = λ i. cond (p i) t (cond (q i) (line_ended t) (read_by t (lines.read t.session.reader c t.bytes)))
 
-pub fed_stopped : (h : Held) (c : ℕ) → h.stopped ≡ true → Runs (λ t. fed t c) h h
+pub fed_stopped : (h : Held) (c : ℕ) → h.session.stopped ≡ true → Runs (λ t. fed t c) h h
 fed_stopped h c w = ((((refl, refl, refl), refl), refl), sym (fed_when (state_in h) c true (eqb c 10) w refl))
 
 -- a line is judged by its reader, whatever the session had
@@ -103,22 +107,22 @@ judged_as t e = refl
 read_as : (h : Held) (r : Reader) (ys : List ℕ) (e : lines.Read) → lines.Reads e r ys → state_in (with_read h r ys) ≡ read_by (state_in h) e
 read_as h r ys e x = λ i. read_by (state_in h) (record { reader = x.reader i; bytes = x.bytes i })
 
-pub fed_end : (h : Held) (c : ℕ) (r : Reader) (ys : List ℕ) (k : Held) → h.stopped ≡ false → c ≡ 10
-    → lines.Reads (lines.end h.reader h.bytes.now) r ys
+pub fed_end : (h : Held) (c : ℕ) (r : Reader) (ys : List ℕ) (k : Held) → h.session.stopped ≡ false → c ≡ 10
+    → lines.Reads (lines.end h.session.reader h.bytes.now) r ys
     → Runs judged_in (with_read h r ys) k
     → Runs (λ t. fed t c) h k
 unfolding line_ended
 fed_end h c r ys k w e x p =
     let t = state_in h in
-    let end = lines.end h.reader h.bytes.now in
+    let end = lines.end h.session.reader h.bytes.now in
     (p.0, p.1 ∙ ap judged_in (read_as h r ys end x) ∙ judged_as t end ∙ sym (fed_when t c false true w (eq-eqb c 10 e)))
 
-pub fed_on : (h : Held) (c : ℕ) (r : Reader) (ys : List ℕ) → h.stopped ≡ false → (c ≡ 10 → ⊥)
-    → lines.Reads (lines.read h.reader c h.bytes.now) r ys
+pub fed_on : (h : Held) (c : ℕ) (r : Reader) (ys : List ℕ) → h.session.stopped ≡ false → (c ≡ 10 → ⊥)
+    → lines.Reads (lines.read h.session.reader c h.bytes.now) r ys
     → Runs (λ t. fed t c) h (with_read h r ys)
 fed_on h c r ys w e x =
     let t = state_in h in
-    ((((refl, refl, refl), refl), refl), read_as h r ys (lines.read h.reader c h.bytes.now) x ∙ sym (fed_when t c false false w (ne_eqb c 10 e)))
+    ((((refl, refl, refl), refl), refl), read_as h r ys (lines.read h.session.reader c h.bytes.now) x ∙ sym (fed_when t c false false w (ne_eqb c 10 e)))
 
 -- ---- a stretch
 

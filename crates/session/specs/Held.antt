@@ -3,11 +3,18 @@ use Rattle.std.specs.Prelude.{◌≡◌, ℕ, List}
 use Rattle.std.specs.Borrow.{MutBor}
 use Rattle.board.specs.declared.Areas.{Areas}
 use Rattle.scene.specs.Scene as scene
-use Rattle.session.specs.declared.Session.{Session as Held}
+use Rattle.session.specs.declared.Held.{Held}
 use Rattle.session.specs.Run.{Session, State, state_of, start}
 
 abbrev pub session_in : Held → Session
-session_in h = record { board = h.scene.board; at = h.scene.page.at; line = h.line; reader = h.reader; stopped = h.stopped }
+session_in h =
+    record {
+      board = h.scene.board;
+      at = h.scene.page.at;
+      line = h.session.line;
+      reader = h.session.reader;
+      stopped = h.session.stopped;
+    }
 
 abbrev pub state_in : Held → State
 state_in h =

@@ -12,47 +12,55 @@ use scene::Scene;
 use texts::Page;
 use wording::Fault;
 
-// The scene; the bytes that the line brings; the number of the line that is being read; its reader; whether it has stopped, as it does at a line
-// that is wrong. The bytes are lent whole, beside their count in the reader's line: a part of them could not grow as the line brings more.
-#[derive(Drop)]
-pub struct Session<'a> {
-    pub scene: Scene<'a>,
-    pub bytes: &'a mut [u8],
+// The number of the line that is being read; its reader; whether the session has stopped, as it does at a line that is wrong.
+#[derive(Clone, Copy)]
+pub struct Session {
     pub line: u64,
     pub reader: Reader,
     pub stopped: bool,
 }
 
+// A session with what it is lent: the scene, and the bytes that the line brings. The bytes are lent whole, beside their count in the reader's line: a
+// part of them could not grow as the line brings more.
+#[derive(Drop)]
+pub struct Held<'a> {
+    pub scene: Scene<'a>,
+    pub bytes: &'a mut [u8],
+    pub session: Session,
+}
+
 // Line 1 of a run, before its first character.
-pub fn start<'a>(areas: Areas<'a>, bytes: &'a mut [u8], out: &'a mut [u8]) -> Session<'a>
+pub fn start<'a>(areas: Areas<'a>, bytes: &'a mut [u8], out: &'a mut [u8]) -> Held<'a>
     ensures { Begins areas.entry bytes.entry out.entry result }
 {
-    Session {
+    Held {
         scene: Scene {
             board: board::start(),
             areas,
             page: Page { out, at: 0 },
         },
         bytes,
-        line: 1,
-        reader: lines::start(),
-        stopped: false,
+        session: Session {
+            line: 1,
+            reader: lines::start(),
+            stopped: false,
+        },
     }
 }
 
-impl Session<'_> {
+impl Held<'_> {
     // The session stops, and is else as it was: nothing more is read or done.
     pub fn halt(&mut self)
         ensures { Runs run.halted_in self.old self.new }
     {
-        self.stopped = true;
+        self.session.stopped = true;
     }
 
     // A wrong line: its fault is printed, and the session stops.
     pub fn stop(&mut self, fault: Fault)
         ensures { Runs (run.stopped_in fault) self.old self.new }
     {
-        faults::put_fault(&mut self.scene.page, self.line, fault);
+        faults::put_fault(&mut self.scene.page, self.session.line, fault);
         self.halt();
     }
 }

@@ -14,7 +14,7 @@ ghost use Rattle.printing.specs.Streams.{stream_of};
 ghost use Rattle.stretches.specs.Streams.{stream_said};
 ghost use Rattle.stretches.specs.Stretches.{CutsStretch, piece_bytes};
 
-use session::Session;
+use session::Held;
 use std::alloc::Global;
 use std::io;
 use std::io::{Read, Write};
@@ -60,21 +60,21 @@ enum Stream {
 
 // The stream that has what a session has put. At most one line ends in a stretch, so where the session has stopped that is the fault alone:
 // `the_streams_have` in the room `printing`.
-fn stream_for(session: &Session<'_>) -> Stream
-    ensures { stream_said result ≡ stream_of (session_in session.now) }
+fn stream_for(held: &Held<'_>) -> Stream
+    ensures { stream_said result ≡ stream_of (session_in held.now) }
 {
-    if session.stopped {
+    if held.session.stopped {
         return Stream::Errors;
     }
     Stream::Output
 }
 
 // What a session has put.
-fn text_of<'a>(session: &'a Session<'_>) -> &'a [u8]
-    ensures { result.now ≡ written (state_in session.now) }
+fn text_of<'a>(held: &'a Held<'_>) -> &'a [u8]
+    ensures { result.now ≡ written (state_in held.now) }
 {
-    let out = &*session.scene.page.out;
-    let n = session.scene.page.at.min(out.len());
+    let out = &*held.scene.page.out;
+    let n = held.scene.page.at.min(out.len());
     &out[..n]
 }
 
@@ -116,16 +116,16 @@ impl<O: Write, E: Write> Streams<O, E> {
 
     // What a session has put is written out: while it goes on, to standard output alone; where it has stopped, nothing goes there. Where writing
     // fails the session stops, and is else as it was.
-    pub fn write_out(&mut self, session: &mut Session<'_>)
-        ensures session { Runs (λ st. st) session.old session.new ⊎ Runs halted_in session.old session.new }
-        ensures answers { session.new.stopped ≡ false → (self.new.errors ≡ self.old.errors)
-            × Appends (O.contents self.old.output) (O.contents self.new.output) (written (state_in session.old)) }
-        ensures fault { session.old.stopped ≡ true → self.new.output ≡ self.old.output }
+    pub fn write_out(&mut self, held: &mut Held<'_>)
+        ensures session { Runs (λ st. st) held.old held.new ⊎ Runs halted_in held.old held.new }
+        ensures answers { held.new.session.stopped ≡ false → (self.new.errors ≡ self.old.errors)
+            × Appends (O.contents self.old.output) (O.contents self.new.output) (written (state_in held.old)) }
+        ensures fault { held.old.session.stopped ≡ true → self.new.output ≡ self.old.output }
     {
-        let stream = stream_for(session);
-        if let Err(error) = self.write_to(stream, text_of(session)) {
+        let stream = stream_for(held);
+        if let Err(error) = self.write_to(stream, text_of(held)) {
             self.fail("standard output", error);
-            session.halt();
+            held.halt();
         }
     }
 }

@@ -5,4 +5,4 @@ use Rattle.session.specs.Held.{Runs}
 use Rattle.running.proofs.run.Given as goal
 
 abbrev pub invariant-loop-c : goal.invariant-loop-c
-invariant-loop-c l = Runs (λ t. ran t (take l.c-index l.input)) l.initial.session l.session
+invariant-loop-c l = Runs (λ t. ran t (take l.c-index l.input)) l.initial.held l.held
