@@ -111,17 +111,21 @@ impl Page<'_> {
         self.at += memory::room(self.out.len(), self.at, text.len());
     }
 
-    // A byte.
+    // A byte. Not as a text of one byte: that goes through a loop.
     pub fn put_byte(&mut self, b: u8)
         ensures { Prints (b ∷ []) self.old self.new }
     {
-        self.put_text(&[b]);
+        if self.at < self.out.len() {
+            self.out[self.at] = b;
+            self.at += 1;
+        }
     }
 
     // ---- numbers
 
-    // Two hex digits.
-    fn put_hex2(&mut self, b: u8)
+    // Two hex digits. Written in place, as all that a line is made of is: `put_stretch` says why.
+    #[inline(always)]
+    pub fn put_hex2(&mut self, b: u8)
         ensures { Prints (texts.hex 2 b) self.old self.new }
     {
         self.put_byte(hex_digit(b / 16));
@@ -129,7 +133,8 @@ impl Page<'_> {
     }
 
     // Four hex digits.
-    fn put_hex4(&mut self, w: u16)
+    #[inline(always)]
+    pub fn put_hex4(&mut self, w: u16)
         ensures { Prints (texts.hex 4 w) self.old self.new }
     {
         let [high, low] = w.to_be_bytes();
@@ -188,6 +193,7 @@ impl Page<'_> {
     // ---- stretches
 
     // The item i of those from a place on, a blank before it.
+    #[inline(always)]
     fn put_item(&mut self, item: Item, area: &[u8], place: usize, i: u8)
         ensures { Prints (items.item_text item area.now place i) self.old self.new }
     {
@@ -203,6 +209,7 @@ impl Page<'_> {
     }
 
     // The place of a line, as four hex digits, and a colon.
+    #[inline(always)]
     fn put_place(&mut self, place: usize)
         ensures { Prints (texts.hex 4 place ++ codes ":") self.old self.new }
     {
@@ -211,7 +218,8 @@ impl Page<'_> {
     }
 
     // A line of n items, from a place on.
-    fn put_line(&mut self, item: Item, area: &[u8], place: usize, n: u8)
+    #[inline(always)]
+    pub fn put_line(&mut self, item: Item, area: &[u8], place: usize, n: u8)
         ensures { Prints (items.line item area.now place n) self.old self.new }
     {
         self.put_place(place);
@@ -221,15 +229,21 @@ impl Page<'_> {
         self.put_byte(b'\n');
     }
 
-    // The lines of a stretch of items.
+    // The lines of a stretch of items. On a page of its own over the same slice, whose place the compiler keeps in a register, since all that a line
+    // is made of is written in place: that of a page behind a reference it reads from memory, and writes there, at each character.
     pub fn put_stretch(&mut self, item: Item, area: &[u8], place: u32, count: u32)
         ensures { Prints (items.stretch item area.now place count) self.old self.new }
     {
+        let mut page = Page {
+            out: &mut *self.out,
+            at: self.at,
+        };
         let n = count as usize;
         let most = item.per_line();
         for k in 0..n.div_ceil(most) {
             let here = most.min(n - most * k);
-            self.put_line(item, area, place as usize + LINE * k, here as u8);
+            page.put_line(item, area, place as usize + LINE * k, here as u8);
         }
+        self.at = page.at;
     }
 }
