@@ -310,12 +310,13 @@ fn words_are(front: u64, f: u64, k: Packed) -> bool
     false
 }
 
-// Whether the spare bytes are zero. Of the three in the gap the last goes by itself: as one number the three take three instructions more at every call.
+// Whether the spare bytes are zero. Of the three in the gap the last goes by itself: as one number the three take two or three instructions more
+// at a call.
 fn spare_zero(r: &[u8; record::SIZE]) -> bool
     ensures { result ≡ image.spare_zero r.now }
 {
     (numerals::read::<2>(r, record::GAP) == 0)
-        & (r[record::GAP + 2] == 0)
+        & (numerals::read::<1>(r, record::GAP + 2) == 0)
         & numerals::is_zero(r, record::SPARE, record::SPARE_WORDS)
 }
 

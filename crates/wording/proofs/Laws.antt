@@ -1,11 +1,14 @@
--- Runs of one byte in a list of bytes. Assumes nothing.
+-- Runs of one byte in a list of bytes, and room below an end. Assumes nothing.
 use mathlib.Core.Path.{◌≡◌, refl, sym, ◌∙◌}
+use mathlib.Core.Bool.{Bool, true, false}
 use mathlib.Core.Logic.{◌⊎◌, inl, inr, ⊎_elim}
 use mathlib.Core.List.{List, [], ◌∷◌, append_assoc}
 use Prim.Native.Nat.{ℕ, zero, suc, ◌+◌, ◌-◌, ◌≤◌, ◌<◌, min}
 use native.Mathlib.Decide.{dec_lt}
 use native.Mathlib.Omega.{arith}
+use borrow.Author.Tests.{le-leb, lt-leb, leb-true, leb-false}
 use borrow.Rule.Slice.PartMut.{put_mid}
+use lib.Dec.{leb}
 use lib.ListN.{length, set, replicate, length-set, length-replicate}
 use lib.Seq.{sets, set_out, sets-eq, drop-drop}
 
@@ -45,3 +48,15 @@ pub none_filled : (d : List ℕ) (at n e b : ℕ) → e ≡ min (at + n) (length
 none_filled d at n e b m l =
     let k : min n (length d - at) ≡ 0 = omega arith in
     rw k at (fill_all d at n b)
+
+-- ---- room below an end
+
+by_test : (e p n : ℕ) → p ≤ e → (t : Bool) → leb n (e - p) ≡ t → t ≡ leb (p + n) e
+by_test e p n h true t = sym (le-leb (p + n) e (omega (arith, h, leb-true n (e - p) t)))
+by_test e p n h false t = sym (lt-leb (p + n) e (omega (arith, h, leb-false n (e - p) t)))
+
+pub room_left : (e p n : ℕ) → p ≤ e → leb n (e - p) ≡ leb (p + n) e
+room_left e p n h = by_test e p n h (leb n (e - p)) refl
+
+pub no_room : (e p n : ℕ) → e < p → false ≡ leb (p + n) e
+no_room e p n h = sym (lt-leb (p + n) e (omega arith))
